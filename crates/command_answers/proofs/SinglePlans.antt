@@ -6,9 +6,10 @@ use Rattle.session_run.specs.Transcripts.{IsTranscript}
 use Rattle.lone_plan.specs.LonePlans.{IsSeparationOf, plan_commands, whole_report}
 use Rattle.lone_plan.specs.declared.planned.PlannedReport.{PlannedReport}
 use Rattle.lone_plan.proofs.Accepted.{lone_plans_are_accepted}
-use Rattle.command_answers.specs.Answers.{EndsPlan, IsPlanReport, IsSummary, NamesFirstSeparation, summary}
-use Rattle.command_answers.specs.declared.status.Status.{Status}
-use Rattle.command_answers.specs.declared.status.Status.TheVariants.{Done, NotSurvivable}
+use Rattle.check_answers.specs.Separations.{NamesFirstSeparation}
+use Rattle.command_answers.specs.Answers.{EndsPlan, IsPlanReport, IsSummary, summary}
+use Rattle.check_answers.specs.declared.status.Status.{Status}
+use Rattle.check_answers.specs.declared.status.Status.TheVariants.{Done, NotSurvivable}
 
 module _ (p : Case) (notes : Notes) (r : PlannedReport) (t : IsTranscript p notes plan_commands (whole_report r)) where
   -- its text is the report of a plan

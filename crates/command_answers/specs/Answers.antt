@@ -1,15 +1,14 @@
 -- what each command comes to once its files are read: a status, and a text
 use Rattle.std.specs.Prelude.{◌≡◌, ℕ, ◌+◌, ◌⊎◌, List, [], ◌∷◌, ◌++◌, All, codes, decimal, length}
-use Rattle.plan_terms.specs.Terms.{Notes, Three, Case, IsFirstSeparation}
+use Rattle.plan_terms.specs.Terms.{Notes, Three, Case}
 use Rattle.plan_types.specs.declared.plan.Plan.{Plan}
 use Rattle.plan_types.specs.declared.quality.Quality.{Quality}
 use Rattle.plan_types.specs.declared.quality.Quality.TheVariants.{Tight, Loose}
 use Rattle.plan_types.specs.declared.report.Outcome.TheVariants.{Planned}
 use Rattle.plan_types.specs.declared.report.Report.{Report}
-use Rattle.plan_report.specs.Terms.{state_name, known_to, SpellsReport, report_text}
-use Rattle.plan_checker.specs.declared.finding.Finding.{Finding}
-use Rattle.report_checker.specs.Outcomes.{IsAcceptedOutcome, IsBelowAllAble}
-use Rattle.report_checker.specs.ReportFindings.{HasNoFinding, IsFirstOfReport}
+use Rattle.plan_report.specs.Terms.{known_to, SpellsReport, report_text}
+use Rattle.report_checker.specs.Outcomes.{IsBelowAllAble}
+use Rattle.report_checker.specs.ReportFindings.{HasNoFinding}
 use Rattle.session_script.specs.declared.script.Command.{Command}
 use Rattle.session_run.specs.Transcripts.{IsTranscript}
 use Rattle.sample_net.specs.Samples.{sample_demands, sample_links, sample_nodes, with_single_failures}
@@ -25,28 +24,10 @@ use Rattle.branch_tree.specs.FewSplits.{AreCharged}
 use Rattle.proof_report.specs.ProvedReports.{IsProvedReport, proved_report, proof_text}
 use Rattle.proof_report.specs.declared.ending.ProvedReport.{ProvedReport}
 use Rattle.text_kit.specs.Terms.{money_word}
-use Rattle.command_answers.specs.Findings.{accepted_line, import_fault_line, rejected_line}
-use Rattle.command_answers.specs.declared.status.Status.{Status}
-use Rattle.command_answers.specs.declared.status.Status.TheVariants.{Done, BadWords, NoFile, ReadFault, WriteFault, BadNetwork, BadModel, BadFailures, BadScript, NotSurvivable, Rejected, TooLong, BadReport, NoMemory, BadFlows, BadImport}
-
--- the number of each status, with which the program ends
-abbrev pub status_number : Status → ℕ
-status_number Done = 0
-status_number BadWords = 2
-status_number NoFile = 3
-status_number ReadFault = 4
-status_number WriteFault = 5
-status_number BadNetwork = 6
-status_number BadModel = 7
-status_number BadFailures = 8
-status_number BadScript = 9
-status_number NotSurvivable = 10
-status_number Rejected = 11
-status_number TooLong = 12
-status_number BadReport = 13
-status_number NoMemory = 14
-status_number BadFlows = 15
-status_number BadImport = 16
+use Rattle.command_answers.specs.ImportFaults.{import_fault_line}
+use Rattle.check_answers.specs.Separations.{NamesFirstSeparation}
+use Rattle.check_answers.specs.declared.status.Status.{Status}
+use Rattle.check_answers.specs.declared.status.Status.TheVariants.{Done, BadNetwork, NotSurvivable, BadImport}
 
 -- ---- reports
 
@@ -67,30 +48,11 @@ pub record IsPlanReport (p : Case) (notes : Notes) (text : List ℕ) : Type 0 wh
   pub alone : report.outcomes ≡ Planned 1 1 plan ∷ []
   pub printed : IsPrintedReport p notes plan_commands report text
 
--- the text names the first state that separates a demand which has a need, and the first such demand
-pub record NamesFirstSeparation (p : Case) (text : List ℕ) : Type 0 where
-  pub state : ℕ
-  pub place : ℕ
-  pub first : IsFirstSeparation p state place
-  pub printed : text ≡ codes "not survivable: state " ++ decimal state ++ 32 ∷ state_name p.listed state ++ codes " demand " ++ first.separates.demand.name ++ 10 ∷ []
-
 -- what planning comes to, unless memory runs out: a text that spells the report of a plan, or the first separation
 abbrev pub EndsPlan : Case → Notes → Status → List ℕ → Type 0
 EndsPlan p notes status text =
     ((status ≡ Done) × ((planned : IsPlanReport p notes text) × SpellsReport (known_to p) text planned.report))
     ⊎ ((status ≡ NotSurvivable) × NamesFirstSeparation p text)
-
--- ---- a check
-
--- What a check says of a report: that no finding holds, and then each outcome is what an accepted one is known to be and each plan's
--- bound holds for all able counts; or the first finding.
-abbrev pub IsJudged : Case → Notes → Report → Status → List ℕ → Type 0
-IsJudged p notes r status text =
-    ((status ≡ Done) × HasNoFinding notes p r × All (IsAcceptedOutcome p r) r.outcomes × All (IsBelowAllAble p r) r.outcomes
-    × (text ≡ accepted_line (length r.outcomes)))
-    ⊎ ((status ≡ Rejected) × ((outcome : ℕ) × (finding : Finding)
-    × IsFirstOfReport notes p r outcome finding
-    × (text ≡ rejected_line p.places p.links r.outcomes outcome finding)))
 
 -- ---- a trimmed plan
 

@@ -1,2 +1,2 @@
 pub mod Answers
-pub mod Findings
+pub mod ImportFaults

@@ -5,13 +5,12 @@ ghost use Rattle.flow_file.specs.FlowFiles.{IsFlowFile};
 ghost use Rattle.flow_file.specs.declared.flow.FlowFile.{FlowFile as File};
 ghost use Rattle.lone_plan.specs.LonePlans.{IsSeparationOf, whole_report};
 ghost use Rattle.plan_import.specs.ImportedPlans.{HasImportFault, IsImportEnding, IsImportedReport};
-ghost use Rattle.command_answers.specs.Findings.{import_fault_line, import_fault_words, spaced};
+ghost use Rattle.check_answers.specs.Findings.{spaced};
+ghost use Rattle.command_answers.specs.ImportFaults.{import_fault_line, import_fault_words};
 ghost use Rattle.command_answers.specs.Answers.{EndsImported};
 
-use crate::answer::Answer;
-use crate::finding::{demand_name, link_name, put_word};
 use crate::plan::{planned, separated, state_name};
-use crate::status::Status;
+use check_answers::{Answer, Status, demand_name, link_name, put_word};
 use flow_file::FlowFile;
 use flow_import::ImportFault;
 use lone_plan::PlannedReport;

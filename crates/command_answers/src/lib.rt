@@ -6,23 +6,16 @@
 //! ```
 #![tactic(auto)]
 
-mod answer;
-mod check;
-mod finding;
 mod import;
 mod plan;
 mod prove;
 mod sample;
 mod session;
-mod status;
 mod trim;
 
-pub use answer::Answer;
-pub use check::answer_check;
 pub use import::answer_import;
 pub use plan::answer_plan;
 pub use prove::answer_prove;
 pub use sample::answer_sample;
 pub use session::answer_session;
-pub use status::Status;
 pub use trim::answer_trim;

@@ -5,8 +5,7 @@ ghost use Rattle.session_run.specs.Transcripts.{IsTranscript};
 ghost use Rattle.lone_plan.specs.LonePlans.{IsLoneAnswer, IsSeparationOf, plan_commands, whole_report};
 ghost use Rattle.command_answers.specs.Answers.{EndsPlan};
 
-use crate::answer::Answer;
-use crate::status::Status;
+use check_answers::{Answer, Status};
 use lone_plan::{LonePlan, PlannedReport, plan_once};
 use net_core::{Bytes, Instance, List as Items, Name, Network, NoMemory, Problem, StateId, States};
 use outside_io::Gate;

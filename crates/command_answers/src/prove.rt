@@ -4,11 +4,10 @@ ghost use Rattle.lone_plan.specs.LonePlans.{IsSeparationOf};
 ghost use Rattle.proof_report.specs.ProvedReports.{IsProofEnding, IsProvedReport};
 ghost use Rattle.branch_tree.specs.FewSplits.{AreCharged};
 ghost use Rattle.command_answers.specs.Answers.{EndsProve, EndsCharged, free_module_line};
-ghost use Rattle.command_answers.specs.declared.status.Status.{Status};
+ghost use Rattle.check_answers.specs.declared.status.Status.{Status};
 
-use crate::answer::Answer;
 use crate::plan::separated;
-use crate::status::Status;
+use check_answers::{Answer, Status};
 use net_core::{Instance, Link, List, Module, Name, NoMemory, Problem, StateId};
 use outside_io::Gate;
 use proof_report::{ProofEnding, ProvedReport, prove_once, write_proved};

@@ -5,10 +5,9 @@ ghost use Rattle.session_run.specs.Transcripts.{IsTranscript};
 ghost use Rattle.lone_plan.specs.LonePlans.{plan_commands, whole_report};
 ghost use Rattle.text_kit.specs.Terms.{money_word};
 ghost use Rattle.command_answers.specs.Answers.{IsSummary, quality_word, raw_lines, sample_case, size_line, summary};
-ghost use Rattle.command_answers.specs.declared.status.Status.{Status};
+ghost use Rattle.check_answers.specs.declared.status.Status.{Status};
 
-use crate::answer::Answer;
-use crate::status::Status;
+use check_answers::{Answer, Status};
 use lone_plan::{LonePlan, PlannedReport, plan_once};
 use model_reader::single_links;
 use net_core::{Bytes, Demands, Instance, List, Network, NoMemory, Places};

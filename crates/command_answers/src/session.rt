@@ -5,9 +5,8 @@ ghost use Rattle.session_script.specs.Terms.{IsScript};
 ghost use Rattle.plan_types.specs.declared.report.Report.{Report as Rep};
 ghost use Rattle.command_answers.specs.Answers.{IsPrintedReport};
 
-use crate::answer::Answer;
 use crate::plan::reported;
-use crate::status::Status;
+use check_answers::{Answer, Status};
 use net_core::{NoMemory, Problem};
 use outside_io::Gate;
 use session_run::run_session;

@@ -4,9 +4,8 @@ ghost use Rattle.lone_plan.specs.LonePlans.{IsSeparationOf};
 ghost use Rattle.trimmed_report.specs.TrimmedReports.{IsTrimEnding, IsTrimmedReport};
 ghost use Rattle.command_answers.specs.Answers.{EndsTrim};
 
-use crate::answer::Answer;
 use crate::plan::separated;
-use crate::status::Status;
+use check_answers::{Answer, Status};
 use lone_plan::PlannedReport;
 use net_core::{Instance, List, Name, NoMemory, Problem, StateId};
 use outside_io::Gate;

@@ -3,8 +3,8 @@ use Rattle.std.proofs.Common.{◌≡◌, ℕ, List, [], Option, Result, Ok, Err,
 use Rattle.std.specs.Prelude.{IfOk, MatchResult}
 use Rattle.std.specs.Global.{Global}
 use Rattle.outside_io.specs.Outside.{Files}
-use Rattle.command_answers.specs.declared.status.Status.{Status}
-use Rattle.command_answers.specs.declared.status.Status.TheVariants.{Done, ReadFault}
+use Rattle.check_answers.specs.declared.status.Status.{Status}
+use Rattle.check_answers.specs.declared.status.Status.TheVariants.{Done, ReadFault}
 use Rattle.front_commands.specs.Endings.{EndsFront, EndsFrontCommand}
 use Rattle.front_commands.specs.Fronts.{FrontCommand, IsFrontCommand}
 use Rattle.front_commands.specs.declared.stop.Halt.{Halt}

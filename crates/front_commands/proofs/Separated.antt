@@ -2,7 +2,7 @@
 use Rattle.std.proofs.Common.{◌≡◌, ℕ, List, [], ◌++◌, refl, subst}
 use Rattle.std.specs.Option.{option_map_or}
 use Rattle.plan_terms.specs.Terms.{Demand, IsFirstSeparation, Network}
-use Rattle.command_answers.specs.declared.status.Status.TheVariants.{NotSurvivable}
+use Rattle.check_answers.specs.declared.status.Status.TheVariants.{NotSurvivable}
 use Rattle.failure_texts.specs.FailureTexts.{separated_name}
 use Rattle.failure_texts.specs.Fates.{with_states}
 use Rattle.front_commands.specs.Endings.{SaysApart}

@@ -5,10 +5,10 @@ use Rattle.sndlib_reader.specs.Kinds.{kind_word}
 use Rattle.sndlib_reader.specs.NetworkFiles as networks
 use Rattle.sndlib_reader.specs.NetworkFiles.{IsFirstFault}
 use Rattle.sndlib_reader.specs.declared.fault.ReadKind.{ReadKind}
-use Rattle.planner_commands.specs.Inputs.{SpellsNetwork}
-use Rattle.planner_commands.specs.Refusals.{Refuses, refusal_line}
-use Rattle.command_answers.specs.declared.status.Status.{Status}
-use Rattle.command_answers.specs.declared.status.Status.TheVariants.{BadNetwork}
+use Rattle.input_files.specs.Inputs.{SpellsNetwork}
+use Rattle.input_files.specs.Refusals.{Refuses, refusal_line}
+use Rattle.check_answers.specs.declared.status.Status.{Status}
+use Rattle.check_answers.specs.declared.status.Status.TheVariants.{BadNetwork}
 use Rattle.fault_messages.specs.NetworkMessages.{network_message}
 use Rattle.front_commands.specs.Messages.{ShowsFault, ShowsNetworkFault, ShowsPlace}
 use Rattle.front_commands.specs.declared.stop.Halt.{Halt}

@@ -3,12 +3,12 @@ use Rattle.std.specs.Prelude.{◌≡◌, ℕ, ◌⊎◌, List, [], ◌++◌, Opt
 use Rattle.std.specs.Global.{Global}
 use Rattle.plan_terms.specs.Terms.{Demand, Network}
 use Rattle.outside_io.specs.Outside.{Files, Rose, Takes, TakesPrefix}
-use Rattle.command_answers.specs.declared.status.Status.{Status}
-use Rattle.command_answers.specs.declared.status.Status.TheVariants.{BadNetwork, BadWords, Done, NoMemory, NotSurvivable, WriteFault}
-use Rattle.command_answers.specs.Answers.{NamesFirstSeparation}
+use Rattle.check_answers.specs.declared.status.Status.{Status}
+use Rattle.check_answers.specs.declared.status.Status.TheVariants.{BadNetwork, BadWords, Done, NoMemory, NotSurvivable, WriteFault}
+use Rattle.check_answers.specs.Separations.{NamesFirstSeparation}
 use Rattle.failure_texts.specs.FailureTexts.{IsFailureList}
 use Rattle.failure_texts.specs.Fates.{with_states}
-use Rattle.planner_commands.specs.Inputs.{Fetched, SpellsNetwork, input_limit}
+use Rattle.input_files.specs.Inputs.{Fetched, SpellsNetwork, input_limit}
 use Rattle.front_commands.specs.Fronts.{FrontCommand, Help, Version, Failures, IsFrontCommand}
 use Rattle.front_commands.specs.Messages.{EndsInLine, FailsAtFile, ShowsNetworkFault}
 

@@ -3,11 +3,11 @@ use Rattle.std.specs.Prelude.{◌≡◌, ℕ, ◌⊎◌, min, List, ◌++◌, Op
 use Rattle.outside_io.specs.Outside.{Files}
 use Rattle.sndlib_reader.specs.Kinds.{kind_word}
 use Rattle.sndlib_reader.specs.NetworkFiles.{IsFirstFault}
-use Rattle.command_answers.specs.declared.status.Status.{Status}
+use Rattle.check_answers.specs.declared.status.Status.{Status}
 use Rattle.fault_messages.specs.NetworkMessages.{network_message}
 use Rattle.fault_texts.specs.FaultTexts.{IsFaultText}
-use Rattle.planner_commands.specs.Inputs.{Fetched, SpellsNetwork, StopsAtFetch}
-use Rattle.planner_commands.specs.Refusals.{Refuses}
+use Rattle.input_files.specs.Inputs.{Fetched, SpellsNetwork, StopsAtFetch}
+use Rattle.input_files.specs.Refusals.{Refuses}
 
 -- the message ends in the planner's own line of what ends the run
 abbrev pub EndsInLine : (Status → List ℕ → Type 0) → Status → List ℕ → Type 0

@@ -2,14 +2,14 @@ ghost use Rattle.std.specs.Prelude.{◌≡◌, ◌++◌, ◌∷◌, [], IfOk, Is
 ghost use Rattle.plan_terms.specs.Terms.{AreDemands, IsFirstSeparation};
 ghost use Rattle.failure_texts.specs.FailureTexts.{separated_name};
 ghost use Rattle.failure_texts.specs.Fates.{with_states};
-ghost use Rattle.planner_commands.specs.Run.{KeepsShelf};
+ghost use Rattle.input_files.specs.Shelves.{KeepsShelf};
 ghost use Rattle.front_commands.specs.Endings.{EndsFailures, ListsFailures, SaysApart};
 ghost use Rattle.front_commands.specs.inner.Causes.{Halts, HasFrontCause, apart_line, apart_words};
 
 use crate::fetching::load_network;
 use crate::refusal::told;
 use crate::stop::Halt;
-use command_answers::Status;
+use check_answers::Status;
 use failure_texts::{FailureAnswer, failure_list};
 use net_core::{Bytes, Demand, Demands, List, Network, NoMemory};
 use outside_io::Shelf;

@@ -1,14 +1,14 @@
 ghost use Rattle.std.specs.Prelude.{◌≡◌, ℕ, List, [], IfErr, IfOk, IsErrOf, length};
 ghost use Rattle.plan_terms.specs.Terms.{AreDemands};
 ghost use Rattle.outside_io.specs.Outside.{Fetches};
-ghost use Rattle.planner_commands.specs.Inputs.{Fetched, SpellsNetwork, StopsAtFetch, input_limit};
-ghost use Rattle.planner_commands.specs.Run.{KeepsShelf};
+ghost use Rattle.input_files.specs.Inputs.{Fetched, SpellsNetwork, StopsAtFetch, input_limit};
+ghost use Rattle.input_files.specs.Shelves.{KeepsShelf};
 ghost use Rattle.front_commands.specs.Messages.{EndsInLine, FailsAtFile, ShowsNetworkFault};
 ghost use Rattle.front_commands.specs.inner.Causes.{Halts};
 
 use crate::refusal::{FaultyFile, not_fetched, refused};
 use crate::stop::Halt;
-use command_answers::Status;
+use check_answers::Status;
 use fault_messages::network_sentence;
 use net_core::{Bytes, Demands, List as Items, Network};
 use outside_io::{Fetch, Shelf};

@@ -11,4 +11,4 @@ mod stop;
 mod usage;
 mod words;
 
-pub use command_answers::Status;
+pub use check_answers::Status;

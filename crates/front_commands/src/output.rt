@@ -1,9 +1,9 @@
 ghost use Rattle.std.specs.Prelude.{◌≡◌, ◌≤◌, []};
 ghost use Rattle.front_commands.specs.Endings.{PutsBoth, TellsBeside};
-ghost use Rattle.command_answers.specs.declared.status.Status.{Status};
+ghost use Rattle.check_answers.specs.declared.status.Status.{Status};
 
 use crate::usage::WRITE_MESSAGE;
-use command_answers::Status;
+use check_answers::Status;
 use outside_io::Sink;
 
 /// Puts a message beside the text. Where that fails, nowhere is left to say so.

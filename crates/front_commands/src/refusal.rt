@@ -1,11 +1,11 @@
 ghost use Rattle.std.specs.Prelude.{◌≡◌, ◌≢◌, ◌++◌, ◌∷◌, [], ℕ, List, IfOk, MatchResult, OnOk, codes, decimal, length, min};
 ghost use Rattle.fault_texts.specs.FaultTexts.{IsFaultText};
-ghost use Rattle.planner_commands.specs.Refusals.{refusal_line};
+ghost use Rattle.input_files.specs.Refusals.{refusal_line};
 ghost use Rattle.front_commands.specs.Messages.{ShowsPlace};
 ghost use Rattle.front_commands.specs.inner.Causes.{Halts};
 
 use crate::stop::{Halt, Told};
-use command_answers::Status;
+use check_answers::Status;
 use fault_texts::{Sentence, put_fault};
 use net_core::{Bytes, List, NoMemory};
 use std::alloc::Global;

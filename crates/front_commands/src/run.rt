@@ -1,8 +1,8 @@
 ghost use Rattle.std.specs.Prelude.{◌≡◌, ◌≤◌, ℕ, List, [], IfOk, IsErrOf};
-ghost use Rattle.planner_commands.specs.Run.{KeepsShelf};
+ghost use Rattle.input_files.specs.Shelves.{KeepsShelf};
 ghost use Rattle.front_commands.specs.Endings.{EndsFront, EndsFrontCommand, PutsBoth, usage_message};
 ghost use Rattle.front_commands.specs.inner.Causes.{Halts, HasFrontCause, asked_front};
-ghost use Rattle.command_answers.specs.declared.status.Status.{Status};
+ghost use Rattle.check_answers.specs.declared.status.Status.{Status};
 
 use crate::command::command_of;
 use crate::failures::failures_file;
@@ -11,7 +11,7 @@ use crate::refusal::told;
 use crate::stop::Halt;
 use crate::usage::{HELP, MEMORY_MESSAGE, READ_MESSAGE, USAGE, VERSION};
 use crate::words::FrontWords;
-use command_answers::Status;
+use check_answers::Status;
 use net_core::{Bytes, List as Items, NoMemory};
 use outside_io::{Shelf, Sink};
 use std::alloc::Global;

@@ -1,7 +1,7 @@
 ghost use Rattle.std.specs.Prelude.{◌≢◌};
-ghost use Rattle.command_answers.specs.declared.status.Status.{Status};
+ghost use Rattle.check_answers.specs.declared.status.Status.{Status};
 
-use command_answers::Status;
+use check_answers::Status;
 use net_core::{Bytes, NoMemory};
 
 /// A status, and the message of a run that ends with it and prints nothing.

@@ -1,38 +1,18 @@
 -- how what one step comes to is what the run comes to
-use Rattle.std.proofs.Common.{◌≢◌, ℕ, List, [], Option, Result, Ok, Err, inl, inr, String}
+use Rattle.std.proofs.Common.{ℕ, List, Option, Result, Ok, Err, inl, inr, String}
 use Rattle.std.specs.Global.{Global}
-use Rattle.plan_terms.specs.Terms.{Demand, Problem, Network, Notes, Case, case}
-use Rattle.model_reader.specs.declared.model.Model.{Model}
+use Rattle.plan_terms.specs.Terms.{Problem, Notes, Case, case}
 use Rattle.outside_io.specs.Outside.{Files}
-use Rattle.planner_commands.specs.Commands.{Command, IsCommand, PlanWords, default}
-use Rattle.planner_commands.specs.Inputs.{Fetched, HasInputs, HasModel, RefusesModelFile, SpellsNetwork, StopsAtFailures, StopsAtFile, StopsAtInputs, input_limit}
-use Rattle.planner_commands.specs.Run.{Ends, EndsAfterInputs, EndsCommand}
-use Rattle.planner_commands.specs.inner.Steps.{HasCause, Stops}
-use Rattle.command_answers.specs.declared.answer.Answer.{Answer}
-use Rattle.planner_commands.specs.declared.stop.Stop.{Stop}
-use Rattle.planner_commands.specs.declared.stop.Stop.TheVariants as stop
-use Rattle.command_answers.specs.declared.status.Status.{Status}
-use Rattle.command_answers.specs.declared.status.Status.TheVariants.{BadModel, ReadFault}
-
--- a further cause
-pub stop_map : (P Q : Status → List ℕ → Type 0) (s : Stop) → ((status : Status) (text : List ℕ) → P status text → Q status text) → Stops P s → Stops Q s
-stop_map P Q stop.NoMemory f h = tt
-stop_map P Q stop.ReadFault f h = f ReadFault [] h
-stop_map P Q (stop.Told a) f h = f a.status a.text h
-
--- a model that ends the run
-pub model_ends : (files : Option Files) (w : PlanWords) (net : Network) (demands : List Demand) (s : Stop) → Fetched files input_limit w.network SpellsNetwork (net, demands)
-    → Stops (λ status text. (w.model ≢ default) × StopsAtFile files input_limit w.model BadModel RefusesModelFile status text) s → Stops (StopsAtInputs files w) s
-model_ends files w net demands s has =
-    stop_map (λ status text. (w.model ≢ default) × StopsAtFile files input_limit w.model BadModel RefusesModelFile status text) (StopsAtInputs files w) s
-    (λ status text e. inr (net, demands, has, inl e))
-
--- a failure list that ends the run
-pub failures_end : (files : Option Files) (w : PlanWords) (net : Network) (demands : List Demand) (model : Model) (s : Stop) → Fetched files input_limit w.network SpellsNetwork (net, demands) → HasModel files w model
-    → Stops (StopsAtFailures files w net.links model.reconfigure) s → Stops (StopsAtInputs files w) s
-failures_end files w net demands model s has is =
-    stop_map (StopsAtFailures files w net.links model.reconfigure) (StopsAtInputs files w) s
-    (λ status text e. inr (net, demands, has, inr (model, is, e)))
+use Rattle.planner_commands.specs.Commands.{Command, IsCommand}
+use Rattle.planner_commands.specs.Run.{Ends, EndsCommand}
+use Rattle.planner_commands.specs.inner.Steps.{HasCause}
+use Rattle.input_files.specs.InputWords.{PlanWords}
+use Rattle.input_files.specs.Inputs.{EndsAfterInputs, HasInputs, StopsAtInputs}
+use Rattle.input_files.specs.Stops.{Stops}
+use Rattle.input_files.specs.declared.stop.Stop.{Stop}
+use Rattle.input_files.proofs.Stopping.{stop_map}
+use Rattle.check_answers.specs.declared.answer.Answer.{Answer}
+use Rattle.check_answers.specs.declared.status.Status.{Status}
 
 -- one of the files that every command has ends the run
 pub inputs_end : (files : Option Files) (w : PlanWords) (EndsWith : Case → Notes → Status → List ℕ → Type 0) (s : Stop) → Stops (StopsAtInputs files w) s → Stops (EndsAfterInputs files w EndsWith) s

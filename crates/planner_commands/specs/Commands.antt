@@ -2,12 +2,7 @@
 use Rattle.std.specs.Prelude.{◌≡◌, ℕ, ◌==◌, ◌≤◌, ◌<◌, ◌^◌, Bool, true, false, not, List, [], ◌∷◌, String, string_bytes, codes, All, length, map}
 use Rattle.std.specs.Global.{Global}
 use Rattle.std.specs.Str.Parse.{IsNumeral, digits_value}
-
--- the files of a planning: the network's, the model's and the failure list's, in the order in which they are read
-pub record PlanWords : Type 0 where
-  pub network : List ℕ
-  pub model : List ℕ
-  pub failures : List ℕ
+use Rattle.input_files.specs.InputWords.{PlanWords, default}
 
 -- a command: a plan for files, a session of a script, the check of a report, a trimmed plan for files, a plan for files with its branch tree
 -- of so many splits at most, the import of a file of flows, or a sample of a seed with so many nodes
@@ -19,10 +14,6 @@ pub data Command : Type 0 where
   Prove : ℕ → PlanWords → Command
   Import : PlanWords → List ℕ → Command
   Sample : ℕ → ℕ → Command
-
--- the word for a model or a failure list that is in no file
-abbrev pub default : List ℕ
-default = codes "default"
 
 -- a word that may stand for a file: it isn't empty and doesn't begin with `-`
 abbrev pub may_be_file : List ℕ → Bool

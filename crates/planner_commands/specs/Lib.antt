@@ -1,5 +1,3 @@
 pub mod Commands
-pub mod Inputs
-pub mod Refusals
 pub mod Run
 pub mod inner

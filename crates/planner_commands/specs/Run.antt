@@ -1,7 +1,7 @@
 -- what a run comes to: its status, and the text that it writes
-use Rattle.std.specs.Prelude.{◌≡◌, ◌≢◌, ℕ, ◌≤◌, ◌⊎◌, List, [], Option, String}
+use Rattle.std.specs.Prelude.{◌≡◌, ◌≢◌, ℕ, ◌⊎◌, List, [], Option, String}
 use Rattle.std.specs.Global.{Global}
-use Rattle.plan_terms.specs.Terms.{Demand, Network, Notes, Listed, Case}
+use Rattle.plan_terms.specs.Terms.{Notes, Case}
 use Rattle.outside_io.specs.Outside.{Files, Rose, Takes, TakesPrefix}
 use Rattle.plan_types.specs.declared.report.Report.{Report}
 use Rattle.plan_report.specs.Terms.{known_to, SpellsReport}
@@ -12,11 +12,12 @@ use Rattle.sample_net.specs.Samples.{no_notes}
 use Rattle.flow_file.specs.FlowFiles.{SpellsFlows}
 use Rattle.flow_file.specs.declared.flow.FlowFile.{FlowFile}
 use Rattle.planner_commands.specs.Commands as commands
-use Rattle.planner_commands.specs.Commands.{IsCommand, PlanWords, usage}
-use Rattle.planner_commands.specs.Inputs.{Fetched, HasInputs, RefusesFlowFile, RefusesReportFile, RefusesScriptFile, StopsAtFile, StopsAtInputs, input_limit, report_limit}
-use Rattle.command_answers.specs.declared.status.Status.{Status}
-use Rattle.command_answers.specs.declared.status.Status.TheVariants.{Done, BadWords, WriteFault, BadScript, BadReport, NoMemory, BadFlows}
-use Rattle.command_answers.specs.Answers.{IsPrintedReport, EndsPlan, IsJudged, EndsTrim, EndsProve, EndsImported, sample_case, IsSummary}
+use Rattle.planner_commands.specs.Commands.{IsCommand, usage}
+use Rattle.input_files.specs.Inputs.{EndsAfterInputs, Fetched, RefusesFlowFile, RefusesReportFile, RefusesScriptFile, StopsAtFile, input_limit, report_limit}
+use Rattle.check_answers.specs.Checks.{IsJudged}
+use Rattle.check_answers.specs.declared.status.Status.{Status}
+use Rattle.check_answers.specs.declared.status.Status.TheVariants.{Done, BadWords, WriteFault, BadScript, BadReport, NoMemory, BadFlows}
+use Rattle.command_answers.specs.Answers.{IsPrintedReport, EndsPlan, EndsTrim, EndsProve, EndsImported, sample_case, IsSummary}
 
 -- ---- a session
 
@@ -46,15 +47,6 @@ EndsImport files name p notes status text =
 
 -- ---- commands
 
--- One of the files that every command has ends the run, or they are all read, and it comes to this, of the case that they spell and
--- the notes of its settled network.
-abbrev pub EndsAfterInputs : Option Files → PlanWords → (Case → Notes → Status → List ℕ → Type 0) → Status → List ℕ → Type 0
-EndsAfterInputs files w EndsWith status text =
-    StopsAtInputs files w status text
-    ⊎ ((net : Network) × (demands : List Demand) × (listed : List Listed)
-    × HasInputs files w net demands listed
-    × EndsWith (record { nodes = net.nodes; links = net.links; listed = listed; demands = demands; places = net.places }) net.notes status text)
-
 -- what a command comes to
 abbrev pub EndsCommand : Option Files → commands.Command → Status → List ℕ → Type 0
 EndsCommand files (commands.Plan w) = EndsAfterInputs files w EndsPlan
@@ -73,12 +65,6 @@ Ends words files status text =
     ((status ≡ NoMemory) × (text ≡ []))
     ⊎ ((status ≡ BadWords) × ((c : commands.Command) → IsCommand words c → ⊥) × (text ≡ usage))
     ⊎ ((c : commands.Command) × IsCommand words c × EndsCommand files c status text)
-
--- what reading leaves of a shelf: its files as they were, and a count of faults that hasn't fallen, and that has risen where reading failed
-pub record KeepsShelf {S : Type 0} (files : S → Option Files) (faults : S → ℕ) (failed : Type 0) (old new : S) : Type 0 where
-  pub same : files new ≡ files old
-  pub later : faults old ≤ faults new
-  pub counted : failed → Rose (faults old) (faults new)
 
 -- The sink took the whole text and the status stays; or there was something to write, writing failed, the sink has counted it, and a prefix was taken.
 abbrev pub PutsText : {K : Type 0} → (K → Option (List ℕ)) → (K → ℕ) → Status → List ℕ → Status → K → K → Type 0

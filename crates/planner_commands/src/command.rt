@@ -1,12 +1,12 @@
 ghost use Rattle.std.specs.Prelude.{◌≡◌, ◌≤◌, ◌<◌, ◌^◌, ◌==◌, ◌∷◌, [], ℕ, List, IsTrue, ◌↔◌, MatchOption, map, slice_index, string_bytes};
 ghost use Rattle.planner_commands.specs.Commands as commands;
-ghost use Rattle.planner_commands.specs.Commands.{AreFiles, AreFourFiles, AreProof, AreSample, IsCommand, IsNamed, IsNumberWord, MayBeFiles, PlanWords, may_be_file};
-ghost use Rattle.planner_commands.specs.inner.Steps.{asked_command, named};
+ghost use Rattle.planner_commands.specs.Commands.{AreFiles, AreFourFiles, AreProof, AreSample, IsCommand, IsNamed, IsNumberWord, MayBeFiles, may_be_file};
+ghost use Rattle.planner_commands.specs.inner.Steps.{asked_command};
+ghost use Rattle.input_files.specs.InputWords.{PlanWords};
+ghost use Rattle.input_files.specs.Stops.{named};
 
-use crate::words::{Command, FourFiles, PlanFiles, ProofWords, SampleWords};
-
-/// The word for a model or a failure list that is in no file.
-pub const DEFAULT: &str = "default";
+use crate::words::{Command, FourFiles, ProofWords, SampleWords};
+use input_files::{DEFAULT, PlanFiles};
 
 /// Whether a word may stand for a file.
 fn may_be_file(word: &str) -> bool

@@ -4,20 +4,20 @@ ghost use Rattle.sample_net.specs.Samples.{no_notes};
 ghost use Rattle.planner_commands.specs.Commands as commands;
 ghost use Rattle.planner_commands.specs.Commands.{usage};
 ghost use Rattle.command_answers.specs.Answers.{IsSummary, sample_case};
-ghost use Rattle.planner_commands.specs.Run.{Ends, EndsCheck, EndsCommand, KeepsShelf, PutsText};
-ghost use Rattle.planner_commands.specs.inner.Steps.{HasCause, named};
-ghost use Rattle.command_answers.specs.declared.status.Status.{Status};
+ghost use Rattle.planner_commands.specs.Run.{Ends, EndsCheck, EndsCommand, PutsText};
+ghost use Rattle.input_files.specs.Shelves.{KeepsShelf};
+ghost use Rattle.planner_commands.specs.inner.Steps.{HasCause};
+ghost use Rattle.input_files.specs.Stops.{named};
+ghost use Rattle.check_answers.specs.declared.status.Status.{Status};
 
 use crate::command::command_of;
-use crate::inputs::load_problem;
-use crate::last_file::{load_flows, load_report, load_script};
 use crate::output::say;
-use crate::stop::Stop;
-use crate::words::{Command, FourFiles, PlanFiles, ProofWords, SampleWords};
+use crate::words::{Command, FourFiles, ProofWords, SampleWords};
+use check_answers::{Answer, Status, answer_check};
 use command_answers::{
-    Answer, Status, answer_check, answer_import, answer_plan, answer_prove, answer_sample,
-    answer_session, answer_trim,
+    answer_import, answer_plan, answer_prove, answer_sample, answer_session, answer_trim,
 };
+use input_files::{PlanFiles, Stop, load_flows, load_problem, load_report, load_script};
 use net_core::{List, NoMemory, Problem};
 use outside_io::{Gate, Shelf, Sink};
 use std::alloc::Global;

@@ -1,12 +1,6 @@
 ghost use Rattle.std.specs.Prelude.{◌≤◌};
 
-/// The files of a planning, by their names. A model or a failure list that is in no file is `default`.
-#[derive(Clone, Copy)]
-pub struct PlanFiles<'w> {
-    pub network: &'w str,
-    pub model: &'w str,
-    pub failures: &'w str,
-}
+use input_files::PlanFiles;
 
 /// The files of a planning, and one file more.
 #[derive(Clone, Copy)]

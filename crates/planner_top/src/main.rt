@@ -3,7 +3,7 @@
 
 mod run;
 
-use command_answers::Status;
+use check_answers::Status;
 use net_core::NoMemory;
 use outside_io::{FileShelf, OpenGate, StreamSink};
 use run::run;

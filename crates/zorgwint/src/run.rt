@@ -1,9 +1,9 @@
 ghost use Rattle.std.specs.Prelude.{◌≡◌, ℕ, List, ◌≤◌};
-ghost use Rattle.planner_commands.specs.Run.{KeepsShelf};
+ghost use Rattle.input_files.specs.Shelves.{KeepsShelf};
 ghost use Rattle.front_commands.specs.Endings.{EndsFront, PutsBoth};
-ghost use Rattle.command_answers.specs.declared.status.Status.{Status};
+ghost use Rattle.check_answers.specs.declared.status.Status.{Status};
 
-use command_answers::Status;
+use check_answers::Status;
 use front_commands::run as commands;
 use outside_io::{Shelf, Sink};
 use std::alloc::Global;

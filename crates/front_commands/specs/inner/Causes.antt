@@ -1,7 +1,7 @@
 -- what the functions of a run answer to each other
 use Rattle.std.specs.Prelude.{◌≡◌, ℕ, List, [], ◌∷◌, ◌++◌, Result, Ok, Err, codes, decimal}
-use Rattle.command_answers.specs.declared.status.Status.{Status}
-use Rattle.command_answers.specs.declared.status.Status.TheVariants.{Done, ReadFault}
+use Rattle.check_answers.specs.declared.status.Status.{Status}
+use Rattle.check_answers.specs.declared.status.Status.TheVariants.{Done, ReadFault}
 use Rattle.front_commands.specs.Fronts as fronts
 use Rattle.front_commands.specs.declared.stop.Halt.{Halt}
 use Rattle.front_commands.specs.declared.stop.Halt.TheVariants as halt

@@ -5,8 +5,8 @@ use Rattle.flow_file.specs.declared.flow.FlowFile.{FlowFile}
 use Rattle.lone_plan.specs.LonePlans.{whole_report}
 use Rattle.plan_import.specs.ImportedPlans.{IsImportedReport}
 use Rattle.command_answers.specs.Answers.{EndsImported}
-use Rattle.command_answers.specs.declared.answer.Answer.{Answer}
-use Rattle.command_answers.specs.declared.status.Status.TheVariants.{Done}
+use Rattle.check_answers.specs.declared.answer.Answer.{Answer}
+use Rattle.check_answers.specs.declared.status.Status.TheVariants.{Done}
 use Rattle.command_answers.proofs.Clauses.{three_ok}
 use Rattle.command_answers.proofs.import.answer_imported.Goals as goal
 

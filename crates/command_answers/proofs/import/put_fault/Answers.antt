@@ -2,7 +2,8 @@ use Rattle.std.proofs.Common.{◌≡◌, ◌++◌, [], ◌∷◌, List, ℕ, OnO
 use Rattle.plan_terms.specs.Terms.{case_of}
 use Rattle.plan_report.specs.Terms.{demand_name, node_name, state_name}
 use Rattle.flow_import.specs.declared.fault.ImportFault.{ImportFault}
-use Rattle.command_answers.specs.Findings.{import_fault_words, spaced}
+use Rattle.check_answers.specs.Findings.{spaced}
+use Rattle.command_answers.specs.ImportFaults.{import_fault_words}
 use Rattle.command_answers.proofs.import.put_fault.Goals as goal
 
 pub returns-in-Unbalanced : goal.returns-in-Unbalanced

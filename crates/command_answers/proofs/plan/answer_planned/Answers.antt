@@ -3,8 +3,8 @@ use Rattle.plan_terms.specs.Terms.{case_of}
 use Rattle.plan_report.specs.Terms.{known_to, SpellsReport, report_text}
 use Rattle.lone_plan.specs.LonePlans.{whole_report}
 use Rattle.command_answers.specs.Answers.{EndsPlan}
-use Rattle.command_answers.specs.declared.answer.Answer.{Answer}
-use Rattle.command_answers.specs.declared.status.Status.TheVariants.{Done}
+use Rattle.check_answers.specs.declared.answer.Answer.{Answer}
+use Rattle.check_answers.specs.declared.status.Status.TheVariants.{Done}
 use Rattle.command_answers.proofs.Clauses.{three_ok}
 use Rattle.command_answers.proofs.SinglePlans.{plan_ends}
 use Rattle.command_answers.proofs.plan.answer_planned.Goals as goal

@@ -2,8 +2,8 @@ use Rattle.std.proofs.Common.{◌≡◌, ◌++◌, [], ◌∷◌, codes, decimal
 use Rattle.plan_terms.specs.Terms.{case_of}
 use Rattle.plan_report.specs.Terms.{state_name}
 use Rattle.command_answers.specs.Answers.{EndsCharged}
-use Rattle.command_answers.specs.declared.answer.Answer.{Answer}
-use Rattle.command_answers.specs.declared.status.Status.TheVariants.{NotSurvivable}
+use Rattle.check_answers.specs.declared.answer.Answer.{Answer}
+use Rattle.check_answers.specs.declared.status.Status.TheVariants.{NotSurvivable}
 use Rattle.command_answers.proofs.Clauses.{both_ok}
 use Rattle.command_answers.proofs.SinglePlans.{separation_named}
 use Rattle.command_answers.proofs.prove.answer_separated.Goals as goal

@@ -4,7 +4,7 @@ use Rattle.plan_report.specs.Terms.{known_to, SpellsReport, report_text}
 use Rattle.plan_types.specs.declared.report.Report.{Report}
 use Rattle.acceptance.proofs.Transcripts.{transcript_accepted}
 use Rattle.command_answers.specs.Answers.{IsPrintedReport}
-use Rattle.command_answers.specs.declared.answer.Answer.{Answer}
+use Rattle.check_answers.specs.declared.answer.Answer.{Answer}
 use Rattle.command_answers.proofs.Clauses.{both_ok}
 use Rattle.command_answers.proofs.session.answer_session.Goals as goal
 

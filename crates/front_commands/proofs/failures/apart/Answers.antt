@@ -1,5 +1,5 @@
 use Rattle.std.proofs.Common.{◌≡◌, ◌++◌}
-use Rattle.command_answers.specs.declared.status.Status.TheVariants.{NotSurvivable}
+use Rattle.check_answers.specs.declared.status.Status.TheVariants.{NotSurvivable}
 use Rattle.front_commands.specs.Endings.{SaysApart}
 use Rattle.front_commands.specs.inner.Causes.{apart_line, apart_words}
 use Rattle.front_commands.proofs.Causing.{told_so}

@@ -1,7 +1,7 @@
 use Rattle.std.proofs.Common.{◌≡◌, ◌++◌, ◌∷◌, [], codes, inl, inr, refl, sym}
 use Rattle.std.proofs.lemmas.List.{append-nil}
-use Rattle.command_answers.specs.declared.status.Status.TheVariants.{NoFile, TooLong}
-use Rattle.planner_commands.specs.Inputs.{StopsAtFetch}
+use Rattle.check_answers.specs.declared.status.Status.TheVariants.{NoFile, TooLong}
+use Rattle.input_files.specs.Inputs.{StopsAtFetch}
 use Rattle.front_commands.specs.Messages.{EndsInLine}
 use Rattle.front_commands.specs.inner.Causes.{read_message}
 use Rattle.front_commands.proofs.Causing.{halt_map}

@@ -1,5 +1,5 @@
 use Rattle.std.proofs.Common.{◌≡◌, ℕ, List, refl}
-use Rattle.planner_commands.specs.Refusals.{refusal_line}
+use Rattle.input_files.specs.Refusals.{refusal_line}
 use Rattle.front_commands.specs.Messages.{ShowsPlace}
 use Rattle.front_commands.proofs.Causing.{told_so}
 use Rattle.front_commands.proofs.refusal.refused.Goals as goal

@@ -1,5 +1,5 @@
 use Rattle.std.proofs.Common.{[], inl, refl}
-use Rattle.command_answers.specs.declared.status.Status.TheVariants.{NoMemory}
+use Rattle.check_answers.specs.declared.status.Status.TheVariants.{NoMemory}
 use Rattle.front_commands.specs.Endings.{memory_message}
 use Rattle.front_commands.proofs.Nothing.{takes_nothing}
 use Rattle.front_commands.proofs.run.run.Goals as goal

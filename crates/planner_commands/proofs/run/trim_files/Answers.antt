@@ -1,5 +1,5 @@
 use Rattle.command_answers.specs.Answers.{EndsTrim}
-use Rattle.planner_commands.specs.inner.Steps.{named}
+use Rattle.input_files.specs.Stops.{named}
 use Rattle.planner_commands.proofs.Answering.{after_inputs}
 use Rattle.planner_commands.proofs.run.trim_files.Goals as goal
 

@@ -1,0 +1,20 @@
+-- what a check of a report comes to: a status, and a text
+use Rattle.std.specs.Prelude.{◌≡◌, ℕ, ◌⊎◌, List, All, length}
+use Rattle.plan_terms.specs.Terms.{Notes, Case}
+use Rattle.plan_types.specs.declared.report.Report.{Report}
+use Rattle.plan_checker.specs.declared.finding.Finding.{Finding}
+use Rattle.report_checker.specs.Outcomes.{IsAcceptedOutcome, IsBelowAllAble}
+use Rattle.report_checker.specs.ReportFindings.{HasNoFinding, IsFirstOfReport}
+use Rattle.check_answers.specs.Findings.{accepted_line, rejected_line}
+use Rattle.check_answers.specs.declared.status.Status.{Status}
+use Rattle.check_answers.specs.declared.status.Status.TheVariants.{Done, Rejected}
+
+-- What a check says of a report: that no finding holds, and then each outcome is what an accepted one is known to be and each plan's
+-- bound holds for all able counts; or the first finding.
+abbrev pub IsJudged : Case → Notes → Report → Status → List ℕ → Type 0
+IsJudged p notes r status text =
+    ((status ≡ Done) × HasNoFinding notes p r × All (IsAcceptedOutcome p r) r.outcomes × All (IsBelowAllAble p r) r.outcomes
+    × (text ≡ accepted_line (length r.outcomes)))
+    ⊎ ((status ≡ Rejected) × ((outcome : ℕ) × (finding : Finding)
+    × IsFirstOfReport notes p r outcome finding
+    × (text ≡ rejected_line p.places p.links r.outcomes outcome finding)))

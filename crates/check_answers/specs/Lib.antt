@@ -1,0 +1,4 @@
+pub mod Statuses
+pub mod Findings
+pub mod Checks
+pub mod Separations

@@ -1,0 +1,17 @@
+//! What a check of a report answers, as a line with the status of the program: accepted, or the first finding in words.
+//!
+//! ```text
+//! let answer = answer_check(alloc, &problem, &report)?;   // of a report that was read for the problem
+//! // Done with `accepted 1`, or Rejected with a line such as `rejected outcome 1 not-carried 2 D`
+//! ```
+#![tactic(auto)]
+
+mod answer;
+mod check;
+mod finding;
+mod status;
+
+pub use answer::Answer;
+pub use check::answer_check;
+pub use finding::{demand_name, link_name, put_word};
+pub use status::Status;

@@ -1,0 +1,13 @@
+use Rattle.std.proofs.Common.{codes}
+use Rattle.model_reader.specs.FaultWords.{model_word}
+use Rattle.model_reader.specs.ModelReading.{model_of}
+use Rattle.model_reader.specs.Models.{SpellsModel}
+use Rattle.model_reader.specs.declared.model.Model.{Model}
+use Rattle.check_answers.specs.declared.status.Status.TheVariants.{BadModel}
+use Rattle.input_files.proofs.Refusing.{reading_refused}
+use Rattle.input_files.proofs.inputs.model_of.Goals as goal
+
+pub returns-in-Err-Bad-clause-refused : goal.returns-in-Err-Bad-clause-refused
+returns-in-Err-Bad-clause-refused c =
+    reading_refused (λ (m : Model). m) SpellsModel model_of (codes "model") model_word BadModel c.args.bytes.now c.in-Err-Bad.field-0 c.in-Err-Bad.at c.in-Err-Bad.kind c.refused.result
+    c.in-Err-Bad.field-0-is c.in-Err-Bad.ensures.only c.in-Err-Bad.ensures.exact c.refused.ensures

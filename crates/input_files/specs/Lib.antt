@@ -1,0 +1,6 @@
+pub mod InputWords
+pub mod Inputs
+pub mod Refusals
+pub mod Shelves
+pub mod Stops
+pub mod inner
