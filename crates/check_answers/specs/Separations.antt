@@ -1,5 +1,5 @@
 -- the line of a demand that a state separates
-use Rattle.std.specs.Prelude.{◌≡◌, ℕ, List, ◌∷◌, ◌++◌, codes, decimal}
+use Rattle.std.specs.Prelude.{◌≡◌, ℕ, List, [], ◌∷◌, ◌++◌, codes, decimal}
 use Rattle.plan_terms.specs.Terms.{Case, IsFirstSeparation}
 use Rattle.plan_report.specs.Terms.{state_name}
 
