@@ -1,4 +1,3 @@
 pub mod Causing
 pub mod Nothing
-pub mod Showing
 pub mod Separated

@@ -10,7 +10,7 @@ use Rattle.failure_texts.specs.FailureTexts.{IsFailureList}
 use Rattle.failure_texts.specs.Fates.{with_states}
 use Rattle.input_files.specs.Inputs.{Fetched, SpellsNetwork, input_limit}
 use Rattle.front_commands.specs.Fronts.{FrontCommand, Help, Version, Failures, IsFrontCommand}
-use Rattle.front_commands.specs.Messages.{EndsInLine, FailsAtFile, ShowsNetworkFault}
+use Rattle.front_files.specs.Messages.{FailsAtFile, ShowsNetworkFault}
 
 -- ---- texts of their own
 
@@ -46,9 +46,16 @@ write_message = codes "writing failed: is the disk full?\n"
 
 -- ---- commands
 
--- a demand is separated where nothing fails, and the message ends in the planner's line of the first one that has a need
+-- what is said of a demand of this name that is separated where nothing fails, before the planner's line of it
+abbrev pub apart_words : List ℕ → List ℕ
+apart_words name = codes "no path joins the ends of demand " ++ name ++ codes ", even where nothing fails\n"
+
+-- A demand is separated where nothing fails, and the message names the first one that has a need, and ends in the planner's line of it.
 abbrev pub SaysApart : Network → List Demand → Status → List ℕ → Type 0
-SaysApart net demands = EndsInLine (λ status line. (status ≡ NotSurvivable) × NamesFirstSeparation (with_states net demands []) line)
+SaysApart net demands status message =
+    (status ≡ NotSurvivable)
+    × ((line : List ℕ) × (names : NamesFirstSeparation (with_states net demands []) line)
+    × (message ≡ apart_words names.first.separates.demand.name ++ line))
 
 -- What a failure list of a network comes to: a demand is separated where nothing fails, or the text has the failure of each link that alone
 -- separates none, and no other, so that the network survives them all.

@@ -1,4 +1,3 @@
 pub mod Fronts
-pub mod Messages
 pub mod Endings
 pub mod inner

@@ -1,30 +1,18 @@
-ghost use Rattle.std.specs.Prelude.{◌≡◌, ◌++◌, ◌∷◌, [], IfOk, IsErrOf, OnOk, decimal, length};
+ghost use Rattle.std.specs.Prelude.{◌≡◌, ◌++◌, ◌∷◌, [], IfOk, OnOk, decimal, length};
 ghost use Rattle.plan_terms.specs.Terms.{AreDemands, IsFirstSeparation};
-ghost use Rattle.failure_texts.specs.FailureTexts.{separated_name};
 ghost use Rattle.failure_texts.specs.Fates.{with_states};
 ghost use Rattle.input_files.specs.Shelves.{KeepsShelf};
-ghost use Rattle.front_commands.specs.Endings.{EndsFailures, ListsFailures, SaysApart};
-ghost use Rattle.front_commands.specs.inner.Causes.{Halts, HasFrontCause, apart_line, apart_words};
+ghost use Rattle.front_commands.specs.Endings.{EndsFailures, ListsFailures, SaysApart, apart_words};
+ghost use Rattle.front_files.specs.Endings.{Halts, HasFrontCause};
+ghost use Rattle.front_commands.specs.inner.Causes.{apart_line};
 
-use crate::fetching::load_network;
-use crate::refusal::told;
-use crate::stop::Halt;
-use check_answers::Status;
+use check_answers::{Status, demand_name};
 use failure_texts::{FailureAnswer, failure_list};
-use net_core::{Bytes, Demand, Demands, List, Network, NoMemory};
+use front_files::{Halt, load_network, told};
+use net_core::{Bytes, Demands, List, Network, NoMemory};
 use outside_io::Shelf;
 use std::alloc::Global;
 use text_kit::write::put_decimal;
-
-/// The name of the demand at a place; nothing where there is no such demand.
-fn demand_name(demands: &[Demand], k: u32) -> &[u8]
-    ensures { result.now ≡ separated_name demands.now k }
-{
-    match demands.get(k as usize) {
-        Some(demand) => demand.name.bytes(),
-        None => b"",
-    }
-}
 
 /// Puts a name between other words.
 fn put_between(text: &mut Bytes, front: &[u8], name: &[u8], end: &[u8]) -> Result<(), NoMemory>
@@ -119,7 +107,7 @@ pub(crate) fn failures_file<S: Shelf>(
     shelf: &mut S,
 ) -> Result<Bytes, Halt>
     ensures ends { HasFrontCause (EndsFailures (S.files shelf.old) name.now) result }
-    ensures shelf { KeepsShelf S.files S.faults (IsErrOf result Halt.ReadFault) shelf.old shelf.new }
+    ensures shelf { KeepsShelf S.files S.faults (FailsReading result) shelf.old shelf.new }
 {
     let (net, demands) = load_network(alloc, name, shelf)?;
     failures_of(alloc, &net, &demands)

@@ -3,11 +3,8 @@
 
 mod command;
 mod failures;
-mod fetching;
 mod output;
-mod refusal;
 pub mod run;
-mod stop;
 mod usage;
 mod words;
 

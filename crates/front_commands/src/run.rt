@@ -1,17 +1,17 @@
-ghost use Rattle.std.specs.Prelude.{◌≡◌, ◌≤◌, ℕ, List, [], IfOk, IsErrOf};
+ghost use Rattle.std.specs.Prelude.{◌≡◌, ◌≤◌, ℕ, List, IfOk};
 ghost use Rattle.input_files.specs.Shelves.{KeepsShelf};
 ghost use Rattle.front_commands.specs.Endings.{EndsFront, EndsFrontCommand, PutsBoth, usage_message};
-ghost use Rattle.front_commands.specs.inner.Causes.{Halts, HasFrontCause, asked_front};
+ghost use Rattle.front_files.specs.Endings.{FailsReading, Halts, HasFrontCause};
+ghost use Rattle.front_commands.specs.inner.Causes.{asked_front};
 ghost use Rattle.check_answers.specs.declared.status.Status.{Status};
 
 use crate::command::command_of;
 use crate::failures::failures_file;
 use crate::output::{say, tell};
-use crate::refusal::told;
-use crate::stop::Halt;
-use crate::usage::{HELP, MEMORY_MESSAGE, READ_MESSAGE, USAGE, VERSION};
+use crate::usage::{HELP, MEMORY_MESSAGE, USAGE, VERSION};
 use crate::words::FrontWords;
 use check_answers::Status;
+use front_files::{Halt, told};
 use net_core::{Bytes, List as Items, NoMemory};
 use outside_io::{Shelf, Sink};
 use std::alloc::Global;
@@ -33,7 +33,7 @@ fn bad_words(alloc: Global) -> Halt
 /// The answer to a command.
 fn answer_command<S: Shelf>(alloc: Global, words: &FrontWords, shelf: &mut S) -> Result<Bytes, Halt>
     ensures ends { HasFrontCause (EndsFrontCommand (S.files shelf.old) (asked_front words.now)) result }
-    ensures shelf { KeepsShelf S.files S.faults (IsErrOf result Halt.ReadFault) shelf.old shelf.new }
+    ensures shelf { KeepsShelf S.files S.faults (FailsReading result) shelf.old shelf.new }
 {
     match *words {
         FrontWords::Help => Ok(text_of(alloc, HELP)?),
@@ -45,7 +45,7 @@ fn answer_command<S: Shelf>(alloc: Global, words: &FrontWords, shelf: &mut S) ->
 /// The answer to words.
 fn answer_words<S: Shelf>(alloc: Global, words: &[String], shelf: &mut S) -> Result<Bytes, Halt>
     ensures ends { HasFrontCause (EndsFront words.now (S.files shelf.old)) result }
-    ensures shelf { KeepsShelf S.files S.faults (IsErrOf result Halt.ReadFault) shelf.old shelf.new }
+    ensures shelf { KeepsShelf S.files S.faults (FailsReading result) shelf.old shelf.new }
 {
     match command_of(words) {
         Some(command) => answer_command(alloc, &command, shelf),
@@ -81,10 +81,6 @@ pub fn run<S: Shelf, K: Sink, E: Sink>(
         Err(Halt::Told(told)) => {
             tell(beside, told.message.items());
             told.status
-        }
-        Err(Halt::ReadFault) => {
-            tell(beside, READ_MESSAGE);
-            Status::ReadFault
         }
         Err(Halt::NoMemory) => {
             tell(beside, MEMORY_MESSAGE);

@@ -23,7 +23,3 @@ pub(crate) const MEMORY_MESSAGE: &[u8] = b"there is no memory left\n";
 
 /// What is said where writing the text failed.
 pub(crate) const WRITE_MESSAGE: &[u8] = b"writing failed: is the disk full?\n";
-
-/// What is said where reading a file failed.
-pub(crate) const READ_MESSAGE: &[u8] =
-    b"reading failed: it is a folder, or there is no right to read it, or the disk is damaged\n";

@@ -1,8 +1,8 @@
 use Rattle.std.proofs.Common.{◌≡◌, ◌++◌}
 use Rattle.check_answers.specs.declared.status.Status.TheVariants.{NotSurvivable}
-use Rattle.front_commands.specs.Endings.{SaysApart}
-use Rattle.front_commands.specs.inner.Causes.{apart_line, apart_words}
-use Rattle.front_commands.proofs.Causing.{told_so}
+use Rattle.front_commands.specs.Endings.{SaysApart, apart_words}
+use Rattle.front_commands.specs.inner.Causes.{apart_line}
+use Rattle.front_files.proofs.Causing.{told_so}
 use Rattle.front_commands.proofs.Separated.{says_apart}
 use Rattle.front_commands.proofs.failures.apart.Goals as goal
 

@@ -1,6 +1,6 @@
 use Rattle.std.proofs.Common.{inr}
 use Rattle.front_commands.specs.Endings.{EndsFailures, ListsFailures}
-use Rattle.front_commands.proofs.Causing.{front_map}
+use Rattle.front_files.proofs.Causing.{front_map}
 use Rattle.front_commands.proofs.failures.failures_file.Goals as goal
 
 pub returns-clause-ends : goal.returns-clause-ends

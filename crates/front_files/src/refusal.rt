@@ -1,12 +1,13 @@
-ghost use Rattle.std.specs.Prelude.{◌≡◌, ◌≢◌, ◌++◌, ◌∷◌, [], ℕ, List, IfOk, MatchResult, OnOk, codes, decimal, length, min};
+ghost use Rattle.std.specs.Prelude.{◌≡◌, ◌++◌, ◌∷◌, [], IfOk, MatchResult, OnOk, length, min};
 ghost use Rattle.fault_texts.specs.FaultTexts.{IsFaultText};
-ghost use Rattle.input_files.specs.Refusals.{refusal_line};
-ghost use Rattle.front_commands.specs.Messages.{ShowsPlace};
-ghost use Rattle.front_commands.specs.inner.Causes.{Halts};
+ghost use Rattle.input_files.specs.Refusals.{refusal_line, unused_line};
+ghost use Rattle.front_files.specs.Endings.{Halts};
+ghost use Rattle.front_files.specs.Messages.{ShowsPlace, unused_words};
 
 use crate::stop::{Halt, Told};
 use check_answers::Status;
 use fault_texts::{Sentence, put_fault};
+use input_files::UnusedFailures;
 use net_core::{Bytes, List, NoMemory};
 use std::alloc::Global;
 use text_kit::FaultWord;
@@ -14,18 +15,17 @@ use text_kit::write::put_decimal;
 
 /// A file whose bytes are refused, and the place of their first fault.
 #[derive(Clone, Copy)]
-pub(crate) struct FaultyFile<'a> {
-    pub(crate) status: Status,
+pub struct FaultyFile<'a> {
+    pub status: Status,
     /// Which file it is, in a word.
-    pub(crate) file: &'static [u8],
-    pub(crate) name: &'a str,
-    pub(crate) bytes: &'a [u8],
-    pub(crate) at: u64,
+    pub file: &'static [u8],
+    pub name: &'a str,
+    pub bytes: &'a [u8],
+    pub at: u64,
 }
 
 /// The end of a run with this message, if there was memory for it.
-pub(crate) fn told(status: Status, message: Result<Bytes, NoMemory>) -> Halt
-    requires { status ≢ Status.ReadFault }
+pub fn told(status: Status, message: Result<Bytes, NoMemory>) -> Halt
     ensures { MatchResult message (λ m. Halts (λ s t. (s ≡ status) × (t ≡ m)) result) (λ _. result ≡ Halt.NoMemory) }
 {
     match message {
@@ -85,13 +85,7 @@ fn refused_text<W: FaultWord>(
 }
 
 /// The end of a run at a refused file.
-pub(crate) fn refused<W: FaultWord>(
-    alloc: Global,
-    file: &FaultyFile,
-    kind: &W,
-    sentence: Sentence,
-) -> Halt
-    requires { file.now.status ≢ Status.ReadFault }
+pub fn refused<W: FaultWord>(alloc: Global, file: &FaultyFile, kind: &W, sentence: Sentence) -> Halt
     ensures { Halts (λ s message. (s ≡ file.now.status) × ShowsPlace file.now.name.now file.now.bytes.now file.now.at
         (sentence.wrong.now, sentence.help.now) (refusal_line file.now.file.now (W.word kind.now) file.now.at) message) result }
 {
@@ -119,8 +113,46 @@ pub(crate) fn not_fetched(
     why: &[u8],
     front: &[u8],
 ) -> Halt
-    requires { status ≢ Status.ReadFault }
     ensures { Halts (λ s message. (s ≡ status) × (message ≡ (name.now ++ why.now) ++ (front.now ++ name.now ++ 10 ∷ []))) result }
 {
     told(status, unfetched_text(alloc, name, why, front))
+}
+
+/// What is said of a file of which reading failed.
+fn unread_text(alloc: Global, name: &str, why: &[u8]) -> Result<Bytes, NoMemory>
+    ensures { IfOk result (λ text. text ≡ name.now ++ why.now) }
+{
+    let mut text = List::new(alloc);
+    text.append(name.as_bytes())?;
+    text.append(why)?;
+    Ok(text)
+}
+
+/// The end of a run at a file of which reading failed.
+pub(crate) fn unread(alloc: Global, name: &str, why: &[u8]) -> Halt
+    ensures { Halts (λ s message. (s ≡ Status.ReadFault) × (message ≡ name.now ++ why.now)) result }
+{
+    told(Status::ReadFault, unread_text(alloc, name, why))
+}
+
+const UNUSED: &[u8] = b": the model asks for no survivability, so this list isn't used
+  leave it out, or give the model SURVIVABILITY_MODEL = UNRESTRICTED_FLOW_RECONFIGURATION
+";
+
+/// What is said of a failure list beside a model without survivability, and last the planner's own line of it.
+fn unused_text(alloc: Global, name: &str) -> Result<Bytes, NoMemory>
+    ensures { IfOk result (λ text. text ≡ unused_words name.now ++ unused_line) }
+{
+    let mut text = List::new(alloc);
+    text.append(name.as_bytes())?;
+    text.append(UNUSED)?;
+    put_refusal(&mut text, b"failures", &UnusedFailures, 0)?;
+    Ok(text)
+}
+
+/// The end of a run at a failure list beside a model without survivability.
+pub(crate) fn unused(alloc: Global, name: &str) -> Halt
+    ensures { Halts (λ s message. (s ≡ Status.BadFailures) × (message ≡ unused_words name.now ++ unused_line)) result }
+{
+    told(Status::BadFailures, unused_text(alloc, name))
 }

@@ -1,8 +1,8 @@
 use Rattle.std.proofs.Common.{◌≡◌, ℕ, List, refl}
 use Rattle.input_files.specs.Refusals.{refusal_line}
-use Rattle.front_commands.specs.Messages.{ShowsPlace}
-use Rattle.front_commands.proofs.Causing.{told_so}
-use Rattle.front_commands.proofs.refusal.refused.Goals as goal
+use Rattle.front_files.specs.Messages.{ShowsPlace}
+use Rattle.front_files.proofs.Causing.{told_so}
+use Rattle.front_files.proofs.refusal.refused.Goals as goal
 
 pub returns : goal.returns
 returns g c =

@@ -1,6 +1,6 @@
 use Rattle.std.proofs.Common.{◌≡◌, ◌++◌, ◌∷◌, [], refl}
-use Rattle.front_commands.proofs.Causing.{told_so}
-use Rattle.front_commands.proofs.refusal.not_fetched.Goals as goal
+use Rattle.front_files.proofs.Causing.{told_so}
+use Rattle.front_files.proofs.refusal.not_fetched.Goals as goal
 
 pub returns : goal.returns
 returns c =

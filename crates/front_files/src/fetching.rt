@@ -1,49 +1,57 @@
-ghost use Rattle.std.specs.Prelude.{◌≡◌, ℕ, List, [], IfErr, IfOk, IsErrOf, length};
+ghost use Rattle.std.specs.Prelude.{◌≡◌, ◌≢◌, IfErr, IfOk, length};
 ghost use Rattle.plan_terms.specs.Terms.{AreDemands};
 ghost use Rattle.outside_io.specs.Outside.{Fetches};
-ghost use Rattle.input_files.specs.Inputs.{Fetched, SpellsNetwork, StopsAtFetch, input_limit};
+ghost use Rattle.input_files.specs.Inputs.{Fetched, SpellsNetwork, input_limit, report_limit};
 ghost use Rattle.input_files.specs.Shelves.{KeepsShelf};
-ghost use Rattle.front_commands.specs.Messages.{EndsInLine, FailsAtFile, ShowsNetworkFault};
-ghost use Rattle.front_commands.specs.inner.Causes.{Halts};
+ghost use Rattle.front_files.specs.Endings.{FailsReading, Halts, halt_status};
+ghost use Rattle.front_files.specs.Messages.{FailsAtFetch, FailsAtFile, ShowsNetworkFault};
 
-use crate::refusal::{FaultyFile, not_fetched, refused};
+use crate::refusal::{FaultyFile, not_fetched, refused, unread};
 use crate::stop::Halt;
 use check_answers::Status;
 use fault_messages::network_sentence;
+use input_files::{INPUT_LIMIT, REPORT_LIMIT};
 use net_core::{Bytes, Demands, List as Items, Network};
 use outside_io::{Fetch, Shelf};
 use sndlib_reader::{ReadRefusal, read_network};
 use std::alloc::Global;
 
-/// How many bytes an input file may have.
-const INPUT_LIMIT: u64 = 1 << 24;
+const MISSING: &[u8] = b": there is no such file\n";
+
+const TOO_LONG: &[u8] =
+    b": the file is too long; a report has at most 256 MiB, and any other file 16 MiB\n";
+
+const FAILED: &[u8] =
+    b": reading failed: it is a folder, or there is no right to read it, or the disk is damaged\n";
 
 /// The content of a file of at most so many bytes.
-fn fetch_file<S: Shelf>(alloc: Global, limit: u64, name: &str, shelf: &mut S) -> Result<Bytes, Halt>
+pub(crate) fn fetch_file<S: Shelf>(
+    alloc: Global,
+    limit: u64,
+    name: &str,
+    shelf: &mut S,
+) -> Result<Bytes, Halt>
     ensures found { IfOk result (λ bytes. Fetches (S.files shelf.old) name.now limit Fetch.Found bytes) }
-    ensures ends { IfErr result (Halts (EndsInLine (StopsAtFetch (S.files shelf.old) limit name.now))) }
-    ensures shelf { KeepsShelf S.files S.faults (IsErrOf result Halt.ReadFault) shelf.old shelf.new }
+    ensures ends { IfErr result (Halts (FailsAtFetch (S.files shelf.old) limit name.now)) }
+    ensures shelf { KeepsShelf S.files S.faults (FailsReading result) shelf.old shelf.new }
 {
     let mut bytes = Items::new(alloc);
     match shelf.fetch(name, limit, &mut bytes) {
         Fetch::Found => Ok(bytes),
-        Fetch::Missing => Err(not_fetched(
-            alloc,
-            Status::NoFile,
-            name,
-            b": there is no such file\n",
-            b"no file ",
-        )),
-        Fetch::TooLong => Err(not_fetched(
-            alloc,
-            Status::TooLong,
-            name,
-            b": the file is too long; a network has at most 16 MiB\n",
-            b"too long ",
-        )),
-        Fetch::Failed => Err(Halt::ReadFault),
+        Fetch::Missing => Err(not_fetched(alloc, Status::NoFile, name, MISSING, b"no file ")),
+        Fetch::TooLong => Err(not_fetched(alloc, Status::TooLong, name, TOO_LONG, b"too long ")),
+        Fetch::Failed => Err(unread(alloc, name, FAILED)),
         Fetch::NoMemory => Err(Halt::NoMemory),
     }
+}
+
+/// The content of a report's file, of at most 256 MiB.
+pub fn fetch_report<S: Shelf>(alloc: Global, name: &str, shelf: &mut S) -> Result<Bytes, Halt>
+    ensures found { IfOk result (λ bytes. Fetches (S.files shelf.old) name.now report_limit Fetch.Found bytes) }
+    ensures ends { IfErr result (Halts (FailsAtFetch (S.files shelf.old) report_limit name.now)) }
+    ensures shelf { KeepsShelf S.files S.faults (FailsReading result) shelf.old shelf.new }
+{
+    fetch_file(alloc, REPORT_LIMIT, name, shelf)
 }
 
 /// The network and the demands that bytes spell.
@@ -51,6 +59,7 @@ fn network_of(alloc: Global, name: &str, bytes: &[u8]) -> Result<(Network, Deman
     ensures spelled { IfOk result (SpellsNetwork bytes.now) }
     ensures belong { IfOk result (λ r. AreDemands (length r.0.nodes) r.1) }
     ensures refused { IfErr result (Halts (λ s message. (s ≡ Status.BadNetwork) × ShowsNetworkFault name.now bytes.now message)) }
+    ensures was_read { IfErr result (λ h. halt_status h ≢ Status.ReadFault) }
 {
     match read_network(alloc, bytes) {
         Ok(read) => Ok(read),
@@ -69,7 +78,7 @@ fn network_of(alloc: Global, name: &str, bytes: &[u8]) -> Result<(Network, Deman
 }
 
 /// The network and the demands of a file.
-pub(crate) fn load_network<S: Shelf>(
+pub fn load_network<S: Shelf>(
     alloc: Global,
     name: &str,
     shelf: &mut S,
@@ -77,7 +86,7 @@ pub(crate) fn load_network<S: Shelf>(
     ensures has { IfOk result (Fetched (S.files shelf.old) input_limit name.now SpellsNetwork) }
     ensures belong { IfOk result (λ r. AreDemands (length r.0.nodes) r.1) }
     ensures ends { IfErr result (Halts (FailsAtFile (S.files shelf.old) input_limit name.now Status.BadNetwork (ShowsNetworkFault name.now))) }
-    ensures shelf { KeepsShelf S.files S.faults (IsErrOf result Halt.ReadFault) shelf.old shelf.new }
+    ensures shelf { KeepsShelf S.files S.faults (FailsReading result) shelf.old shelf.new }
 {
     let bytes = fetch_file(alloc, INPUT_LIMIT, name, shelf)?;
     network_of(alloc, name, bytes.items())

@@ -1,22 +1,16 @@
-ghost use Rattle.std.specs.Prelude.{◌≢◌};
-ghost use Rattle.check_answers.specs.declared.status.Status.{Status};
-
 use check_answers::Status;
 use net_core::{Bytes, NoMemory};
 
 /// A status, and the message of a run that ends with it and prints nothing.
 #[derive(Drop)]
-pub(crate) struct Told {
-    pub(crate) status: Status,
-    pub(crate) message: Bytes,
-    pub(crate) ghost was_read: { status ≢ Status.ReadFault },
+pub struct Told {
+    pub status: Status,
+    pub message: Bytes,
 }
 
 /// Why a run prints nothing.
 #[derive(Drop)]
-pub(crate) enum Halt {
-    /// Reading a file failed.
-    ReadFault,
+pub enum Halt {
     /// Memory ran out.
     NoMemory,
     /// It ends with a message.
@@ -25,7 +19,7 @@ pub(crate) enum Halt {
 
 impl From<NoMemory> for Halt {
     ghost use Rattle.std.specs.Prelude.{◌≡◌};
-    ghost use Rattle.front_commands.specs.declared.stop.Halt.{Halt};
+    ghost use Rattle.front_files.specs.declared.stop.Halt.{Halt};
 
     ghost from_gives = { λ _ halt. halt ≡ Halt.NoMemory };
 

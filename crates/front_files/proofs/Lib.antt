@@ -1,0 +1,3 @@
+pub mod Causing
+pub mod Showing
+pub mod Loading

@@ -1,0 +1,68 @@
+-- what is said of a file that ends a run
+use Rattle.std.specs.Prelude.{◌≡◌, ℕ, ◌⊎◌, min, List, ◌++◌, Option, Err, codes, length}
+use Rattle.plan_terms.specs.Terms.{Link}
+use Rattle.outside_io.specs.Outside.{Files}
+use Rattle.sndlib_reader.specs.Kinds.{kind_word}
+use Rattle.sndlib_reader.specs.NetworkFiles.{IsFirstFault}
+use Rattle.model_reader.specs.Failures.{SpellsFailures}
+use Rattle.model_reader.specs.FailuresReading.{failures_of}
+use Rattle.model_reader.specs.FaultWords.{failures_word, model_word}
+use Rattle.model_reader.specs.Models.{SpellsModel}
+use Rattle.model_reader.specs.ModelReading.{model_of}
+use Rattle.check_answers.specs.declared.status.Status.{Status}
+use Rattle.check_answers.specs.declared.status.Status.TheVariants.{NoFile, TooLong}
+use Rattle.fault_messages.specs.FailuresMessages.{failures_message}
+use Rattle.fault_messages.specs.ModelMessages.{model_message}
+use Rattle.fault_messages.specs.NetworkMessages.{network_message}
+use Rattle.fault_texts.specs.FaultTexts.{IsFaultText}
+use Rattle.input_files.specs.Inputs.{Fetched, SpellsNetwork, StopsAtFetch}
+use Rattle.input_files.specs.Refusals.{Refuses}
+
+-- what is said of a file that can't be fetched, before the planner's line of it
+abbrev pub unfetched_words : List ℕ → Status → List ℕ
+unfetched_words name NoFile = name ++ codes ": there is no such file\n"
+unfetched_words name TooLong = name ++ codes ": the file is too long; a report has at most 256 MiB, and any other file 16 MiB\n"
+unfetched_words name _ = name ++ codes ": reading failed: it is a folder, or there is no right to read it, or the disk is damaged\n"
+
+-- the file can't be fetched, and the message says so and ends in the planner's line of it
+abbrev pub FailsAtFetch : Option Files → ℕ → List ℕ → Status → List ℕ → Type 0
+FailsAtFetch files limit name status message =
+    (line : List ℕ) × StopsAtFetch files limit name status line × (message ≡ unfetched_words name status ++ line)
+
+-- The message shows a byte of a file with its line, by these words what is wrong there and what helps, and ends in this line. Where the place
+-- is beyond the bytes, it shows their end.
+pub record ShowsPlace (name bytes : List ℕ) (at : ℕ) (words : List ℕ × List ℕ) (line message : List ℕ) : Type 0 where
+  pub fault : List ℕ
+  pub shown : IsFaultText name bytes (min at (length bytes)) words.0 words.1 fault
+  pub printed : message ≡ fault ++ line
+
+-- The bytes spell nothing in their format, and the message shows the place of their first fault, with the words of its kind, and ends in the
+-- planner's line of it.
+abbrev pub ShowsFault : {X K : Type 0} → (List ℕ → X → Type 0) → (List ℕ → ℕ → K → Type 0)
+    → List ℕ → (K → List ℕ) → (K → List ℕ × List ℕ) → List ℕ → List ℕ → List ℕ → Type 0
+ShowsFault Spells IsFirst file word words name bytes message =
+    (line : List ℕ) × (refused : Refuses Spells IsFirst file word bytes line) × ShowsPlace name bytes refused.at (words refused.kind) line message
+
+-- A file ends the run with a message: it can't be fetched, or its bytes are refused.
+abbrev pub FailsAtFile : Option Files → ℕ → List ℕ → Status → (List ℕ → List ℕ → Type 0) → Status → List ℕ → Type 0
+FailsAtFile files limit name bad Shown status message =
+    FailsAtFetch files limit name status message ⊎ ((status ≡ bad) × Fetched files limit name Shown message)
+
+-- the bytes of a network's file are refused
+abbrev pub ShowsNetworkFault : List ℕ → List ℕ → List ℕ → Type 0
+ShowsNetworkFault = ShowsFault SpellsNetwork IsFirstFault (codes "network") kind_word network_message
+
+-- the bytes of a model's file are refused
+abbrev pub ShowsModelFault : List ℕ → List ℕ → List ℕ → Type 0
+ShowsModelFault = ShowsFault SpellsModel (λ bytes at kind. model_of bytes ≡ Err (at, kind)) (codes "model") model_word model_message
+
+-- the bytes of a failure list of these links are refused
+abbrev pub ShowsFailuresFault : List Link → List ℕ → List ℕ → List ℕ → Type 0
+ShowsFailuresFault links =
+    ShowsFault (SpellsFailures links) (λ bytes at kind. failures_of links bytes ≡ Err (at, kind)) (codes "failures") failures_word failures_message
+
+-- what is said of a failure list beside a model without survivability, before the planner's line of it
+abbrev pub unused_words : List ℕ → List ℕ
+unused_words name =
+    name ++ codes ": the model asks for no survivability, so this list isn't used\n"
+    ++ codes "  leave it out, or give the model SURVIVABILITY_MODEL = UNRESTRICTED_FLOW_RECONFIGURATION\n"
