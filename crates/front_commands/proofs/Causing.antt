@@ -3,7 +3,7 @@ use Rattle.std.proofs.Common.{ℕ, List, [], Option, Result, Ok, Err, String, in
 use Rattle.std.specs.Global.{Global}
 use Rattle.outside_io.specs.Outside.{Files}
 use Rattle.front_commands.specs.Endings.{EndsFront, EndsFrontCommand}
-use Rattle.front_commands.specs.Fronts.{FrontCommand, IsFrontCommand}
+use Rattle.front_words.specs.Fronts.{FrontCommand, IsFrontCommand}
 use Rattle.front_files.specs.Endings.{HasFrontCause}
 use Rattle.front_files.specs.declared.stop.Halt.{Halt}
 use Rattle.front_files.proofs.Causing.{halt_map}

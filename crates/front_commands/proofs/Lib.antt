@@ -1,3 +1,4 @@
 pub mod Causing
 pub mod Nothing
 pub mod Separated
+pub mod Viewing

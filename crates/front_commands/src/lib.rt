@@ -1,11 +1,10 @@
-//! The commands of the program for people: which words are one, what it prints, and what it says of a fault beside it.
+//! The commands of the program for people: what each prints once its words are read, and what is said of a fault beside it.
 #![tactic(auto)]
 
-mod command;
 mod failures;
 mod output;
 pub mod run;
 mod usage;
-mod words;
+mod view;
 
 pub use check_answers::Status;

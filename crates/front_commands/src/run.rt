@@ -2,16 +2,16 @@ ghost use Rattle.std.specs.Prelude.{◌≡◌, ◌≤◌, ℕ, List, IfOk};
 ghost use Rattle.input_files.specs.Shelves.{KeepsShelf};
 ghost use Rattle.front_commands.specs.Endings.{EndsFront, EndsFrontCommand, PutsBoth, usage_message};
 ghost use Rattle.front_files.specs.Endings.{FailsReading, Halts, HasFrontCause};
-ghost use Rattle.front_commands.specs.inner.Causes.{asked_front};
+ghost use Rattle.front_words.specs.AskedFronts.{asked_front};
 ghost use Rattle.check_answers.specs.declared.status.Status.{Status};
 
-use crate::command::command_of;
 use crate::failures::failures_file;
 use crate::output::{say, tell};
 use crate::usage::{HELP, MEMORY_MESSAGE, USAGE, VERSION};
-use crate::words::FrontWords;
+use crate::view::view_files;
 use check_answers::Status;
 use front_files::{Halt, told};
+use front_words::{FrontWords, command_of};
 use net_core::{Bytes, List as Items, NoMemory};
 use outside_io::{Shelf, Sink};
 use std::alloc::Global;
@@ -39,6 +39,7 @@ fn answer_command<S: Shelf>(alloc: Global, words: &FrontWords, shelf: &mut S) ->
         FrontWords::Help => Ok(text_of(alloc, HELP)?),
         FrontWords::Version => Ok(text_of(alloc, VERSION)?),
         FrontWords::Failures(network) => failures_file(alloc, network, shelf),
+        FrontWords::View(view) => view_files(alloc, &view, shelf),
     }
 }
 

@@ -46,13 +46,32 @@ LINKS ( L ( A B ) 5 0 0 0 ( ) )
 DEMANDS ( D ( A B ) 1 1 UNLIMITED )
 ";
 
-const FILES: [File; 6] = [
+/// A model without survivability.
+const PLAIN: &[u8] = b"?SNDlib native format; type: model; version: 1.0
+DEMAND_MODEL = UNDIRECTED
+LINK_MODEL = UNDIRECTED
+LINK_CAPACITY_MODEL = MODULAR_CAPACITIES
+FIXED_CHARGE_MODEL = NO
+ROUTING_MODEL = CONTINUOUS
+ADMISSIBLE_PATH_MODEL = ALL_PATHS
+HOP_LIMIT_MODEL = NO
+SURVIVABILITY_MODEL = NO_SURVIVABILITY
+";
+
+/// The failure of one link.
+const LIST: &[u8] = b"?planner failures; version: 1
+FAILURES ( f ( AB ) )
+";
+
+const FILES: [File; 8] = [
     ("triangle", TRIANGLE),
     ("bridge", BRIDGE),
     ("apart", APART),
     ("broken", BROKEN),
     ("-x", TRIANGLE),
     ("/dev/stdin", TRIANGLE),
+    ("plain", PLAIN),
+    ("list", LIST),
 ];
 
 /// Puts a file last.

@@ -1,0 +1,12 @@
+-- the command that words ask for
+use Rattle.front_files.specs.FrontInputs.{named_case}
+use Rattle.front_words.specs.Fronts as fronts
+use Rattle.front_words.specs.declared.words.FrontWords.{FrontWords}
+use Rattle.front_words.specs.declared.words.FrontWords.TheVariants.{Help, Version, Failures, View}
+
+-- the command that is asked for
+abbrev pub asked_front : FrontWords → fronts.FrontCommand
+asked_front Help = fronts.Help
+asked_front Version = fronts.Version
+asked_front (Failures network) = fronts.Failures network.now
+asked_front (View view) = fronts.View (named_case view.case) view.report.now

@@ -1,0 +1,4 @@
+pub mod GivenWords
+pub mod Fronts
+pub mod AskedFronts
+pub mod inner
