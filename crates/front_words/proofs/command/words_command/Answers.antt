@@ -1,6 +1,6 @@
 use Rattle.std.proofs.Common.{map, string_bytes}
 use Rattle.front_words.specs.inner.Causes.{given_words}
-use Rattle.front_words.proofs.Words.{given_only}
+use Rattle.front_words.proofs.GivenCommands.{given_only}
 use Rattle.front_words.proofs.command.words_command.Goals as goal
 
 pub returns : goal.returns
