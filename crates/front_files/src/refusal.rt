@@ -135,9 +135,10 @@ pub(crate) fn unread(alloc: Global, name: &str, why: &[u8]) -> Halt
     told(Status::ReadFault, unread_text(alloc, name, why))
 }
 
-const UNUSED: &[u8] = b": the model asks for no survivability, so this list isn't used
-  leave it out, or give the model SURVIVABILITY_MODEL = UNRESTRICTED_FLOW_RECONFIGURATION
-";
+const UNUSED: &[u8] = b": the model asks for no survivability, so this list isn't used\n";
+
+const ADVICE: &[u8] =
+    b"  leave it out, or give the model SURVIVABILITY_MODEL = UNRESTRICTED_FLOW_RECONFIGURATION\n";
 
 /// What is said of a failure list beside a model without survivability, and last the planner's own line of it.
 fn unused_text(alloc: Global, name: &str) -> Result<Bytes, NoMemory>
@@ -146,6 +147,7 @@ fn unused_text(alloc: Global, name: &str) -> Result<Bytes, NoMemory>
     let mut text = List::new(alloc);
     text.append(name.as_bytes())?;
     text.append(UNUSED)?;
+    text.append(ADVICE)?;
     put_refusal(&mut text, b"failures", &UnusedFailures, 0)?;
     Ok(text)
 }

@@ -18,7 +18,7 @@ returns-in-Missing-clause-shelf g c =
     let name = c.args.name.now in
     let line = codes "no file " ++ name ++ 10 ∷ [] in
     record {
-      same = c.in-Missing.ensures.same;
+      same = c.in-Missing.ensures.files;
       later = c.in-Missing.ensures.later;
       counted = λ failed. absurd (not_reading NoFile (λ m. m ≡ unfetched_words name NoFile ++ line) c.not_fetched.result (λ is. cc is) c.not_fetched.ensures failed);
     }
@@ -35,7 +35,7 @@ returns-in-TooLong-clause-shelf g c =
     let name = c.args.name.now in
     let line = codes "too long " ++ name ++ 10 ∷ [] in
     record {
-      same = c.in-TooLong.ensures.same;
+      same = c.in-TooLong.ensures.files;
       later = c.in-TooLong.ensures.later;
       counted = λ failed. absurd (not_reading TooLong (λ m. m ≡ unfetched_words name TooLong ++ line) c.not_fetched-in-TooLong.result (λ is. cc is) c.not_fetched-in-TooLong.ensures failed);
     }

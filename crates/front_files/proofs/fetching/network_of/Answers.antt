@@ -1,7 +1,6 @@
-use Rattle.std.proofs.Common.{Err, ap}
+use Rattle.std.proofs.Common.{Err, List, ap, codes, ℕ}
 use Rattle.check_answers.specs.declared.status.Status.TheVariants.{BadNetwork}
 use Rattle.sndlib_reader.specs.Kinds.{kind_word}
-use Rattle.std.proofs.Common.{codes}
 use Rattle.input_files.specs.Refusals.{refusal_line}
 use Rattle.front_files.specs.Messages.{ShowsPlace}
 use Rattle.front_files.proofs.Causing.{not_reading}
@@ -16,5 +15,5 @@ returns-in-Err-Bad-clause-refused c =
 pub returns-in-Err-Bad-clause-was_read : goal.returns-in-Err-Bad-clause-was_read
 returns-in-Err-Bad-clause-was_read c =
     let at = c.in-Err-Bad.at in
-    let words = (c.network_sentence.result.wrong.now, c.network_sentence.result.help.now) in
+    let words : List ℕ × List ℕ = (c.network_sentence.result.wrong.now, c.network_sentence.result.help.now) in
     not_reading BadNetwork (ShowsPlace c.args.name.now c.args.bytes.now at words (refusal_line (codes "network") (kind_word c.in-Err-Bad.kind) at)) c.refused.result (λ is. cc is) c.refused.ensures

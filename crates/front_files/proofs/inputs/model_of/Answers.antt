@@ -1,4 +1,4 @@
-use Rattle.std.proofs.Common.{codes}
+use Rattle.std.proofs.Common.{List, codes, ℕ}
 use Rattle.model_reader.specs.FaultWords.{model_word}
 use Rattle.model_reader.specs.ModelReading.{model_of}
 use Rattle.model_reader.specs.Models.{SpellsModel}
@@ -20,5 +20,5 @@ returns-in-Err-Bad-clause-refused c =
 pub returns-in-Err-Bad-clause-was_read : goal.returns-in-Err-Bad-clause-was_read
 returns-in-Err-Bad-clause-was_read c =
     let at = c.in-Err-Bad.at in
-    let words = (c.model_sentence.result.wrong.now, c.model_sentence.result.help.now) in
+    let words : List ℕ × List ℕ = (c.model_sentence.result.wrong.now, c.model_sentence.result.help.now) in
     not_reading BadModel (ShowsPlace c.args.name.now c.args.bytes.now at words (refusal_line (codes "model") (model_word c.in-Err-Bad.kind) at)) c.refused.result (λ is. cc is) c.refused.ensures

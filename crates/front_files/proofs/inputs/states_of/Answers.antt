@@ -1,4 +1,4 @@
-use Rattle.std.proofs.Common.{codes}
+use Rattle.std.proofs.Common.{List, codes, ℕ}
 use Rattle.model_reader.specs.Failures.{SpellsFailures}
 use Rattle.model_reader.specs.FailuresReading.{failures_of}
 use Rattle.model_reader.specs.FaultWords.{failures_word}
@@ -21,5 +21,5 @@ returns-in-Err-Bad-clause-refused c =
 pub returns-in-Err-Bad-clause-was_read : goal.returns-in-Err-Bad-clause-was_read
 returns-in-Err-Bad-clause-was_read c =
     let at = c.in-Err-Bad.at in
-    let words = (c.failures_sentence.result.wrong.now, c.failures_sentence.result.help.now) in
+    let words : List ℕ × List ℕ = (c.failures_sentence.result.wrong.now, c.failures_sentence.result.help.now) in
     not_reading BadFailures (ShowsPlace c.args.name.now c.args.bytes.now at words (refusal_line (codes "failures") (failures_word c.in-Err-Bad.kind) at)) c.refused.result (λ is. cc is) c.refused.ensures
