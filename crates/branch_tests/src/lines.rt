@@ -1,65 +1,29 @@
-ghost use Rattle.std.specs.Prelude.{◌+◌, ◌<◌, ◌^◌, length};
-ghost use Rattle.plan_terms.specs.Terms.{case_of};
-ghost use Rattle.branch_tree.specs.FewSplits.{AreCharged};
-ghost use Rattle.proof_report.specs.ProvedReports.{IsProvedReport};
+ghost use Rattle.std.specs.Prelude.{◌≤◌};
 
-use crate::searches::{Found, LEAST, are_charged, sample_problem, split_number, triangle_problem};
-use branch_tree::prove_by_lines;
+use crate::searches::{Found, LEAST, are_charged, sample_problem, shown, triangle_problem};
 use net_core::{Instance, Module, NoMemory, Problem};
 use outside_io::OpenGate;
-use proof_report::{ProofEnding, ProvedReport, prove_once};
+use proof_report::{ProofEnding, prove_once_by_lines};
 use std::alloc::Global;
 use std::sync::Wait;
 use std::thread::Threads;
-use tree_check::{Proof, TreeAnswer, Verdict, check_tree};
+use tree_check::Verdict;
 use worked_networks::{LinkRow, network, problem};
 
-/// What a proof shows; none where its check rejects it.
-fn checked(alloc: Global, instance: &Instance, proof: &Proof) -> Option<Found>
-    requires { length proof.now.tree + 1 < 2 ^ 32 }
-{
-    match check_tree(
-        alloc,
-        instance.net,
-        instance.states,
-        instance.demands,
-        proof,
-    ) {
-        TreeAnswer::Accepted => {
-            let splits = split_number(proof.tree.items());
-            Some((proof.plan.cost, proof.verdict, splits))
-        }
-        TreeAnswer::Rejected(_) => None,
-        TreeAnswer::NoMemory => None,
-    }
-}
-
-/// What a search over further lines shows of the plan of a proof, from the cuts of that proof.
-fn shown_by_lines(alloc: Global, instance: &Instance, report: ProvedReport) -> Option<Found>
-    requires charged { AreCharged instance.now.net.now.links }
-    requires report { IsProvedReport (case_of instance.now) instance.now.net.now.notes 0 report }
-{
-    let proof = report.proof;
-    let number = proof.cuts.len();
-    if number > 8192 {
-        return None;
-    }
-    let (net, states) = (instance.net, instance.states);
-    let proof = prove_by_lines(alloc, net, states, proof.plan, proof.cuts, 9999).ok()?;
-    checked(alloc, instance, &proof)
-}
-
-/// What a search over further lines shows of an instance.
+/// What a search over further lines with at most this many splits shows of an instance.
 fn searched_by_lines<R: Threads + Wait + Sync>(
     rt: &R,
     alloc: Global,
     instance: &Instance,
-) -> Option<Found> {
+    limit: u32,
+) -> Option<Found>
+    requires { limit ≤ 9999 }
+{
     if !are_charged(instance.net.links().items()) {
         return None;
     }
-    match prove_once(rt, alloc, instance, 0, &OpenGate) {
-        Ok(ProofEnding::Proved(report)) => shown_by_lines(alloc, instance, report),
+    match prove_once_by_lines(rt, alloc, instance, limit, &OpenGate) {
+        Ok(ProofEnding::Proved(report)) => shown(alloc, instance, report, limit),
         Ok(ProofEnding::Separated { .. }) => None,
         Err(NoMemory) => None,
     }
@@ -82,7 +46,10 @@ fn shows_least<R: Threads + Wait + Sync>(
     least: u128,
 ) -> bool {
     match problem {
-        Some(problem) => is_least(searched_by_lines(rt, alloc, &problem.instance()), least),
+        Some(problem) => is_least(
+            searched_by_lines(rt, alloc, &problem.instance(), 9999),
+            least,
+        ),
         None => false,
     }
 }
@@ -99,6 +66,31 @@ fn lines_show_sample_plans_to_be_cheapest_with_few_splits(rt: HostRuntime) {
 fn lines_show_a_worked_plan_to_be_cheapest(rt: HostRuntime) {
     let problem = triangle_problem(rt.alloc());
     assert!(rt; shows_least(&rt, rt.alloc(), problem, 30000));
+}
+
+/// Whether the root alone shows that the least cost is this.
+fn root_shows_least<R: Threads + Wait + Sync>(
+    rt: &R,
+    alloc: Global,
+    problem: Option<Problem>,
+    least: u128,
+) -> bool {
+    let Some(problem) = problem else {
+        return false;
+    };
+    match searched_by_lines(rt, alloc, &problem.instance(), 0) {
+        Some((cost, verdict, splits)) => {
+            cost == least && verdict == Verdict::Cheapest && splits == 0
+        }
+        None => false,
+    }
+}
+
+/// Where AC fails, AB and BC carry 12.00 each, and where AB fails, AC does: of modules of 10.00 for 5.00 each has two.
+#[test]
+fn the_root_alone_shows_a_worked_plan_to_be_cheapest(rt: HostRuntime) {
+    let problem = triangle_problem(rt.alloc());
+    assert!(rt; root_shows_least(&rt, rt.alloc(), problem, 30000));
 }
 
 /// Modules of 10.00 for 5.00, of 25.00 for 9.00, and of 40.00 for 13.00.

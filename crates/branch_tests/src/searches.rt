@@ -1,7 +1,7 @@
 //! Branch trees of plans, against least costs that another solver found, or that were worked out by hand.
 ghost use Rattle.std.specs.Prelude.{◌≡◌, ◌+◌, ◌<◌, ◌≤◌, ◌^◌, ◌↔◌, All, IsTrue, length};
 ghost use Rattle.plan_terms.specs.Terms.{AreDemands, case_of};
-ghost use Rattle.proof_report.specs.ProvedReports.{IsProvedReport};
+ghost use Rattle.proof_report.specs.ProvedReports.{IsLinedReport};
 
 use net_core::{Demands, Instance, Link, Module, Network, NoMemory, Problem};
 use outside_io::OpenGate;
@@ -41,8 +41,13 @@ pub(crate) fn split_number(nodes: &[Node]) -> usize {
 }
 
 /// What a report's tree shows; none where its check rejects it.
-fn shown(alloc: Global, instance: &Instance, report: ProvedReport, limit: u32) -> Option<Found>
-    requires { IsProvedReport (case_of instance.now) instance.now.net.now.notes limit report }
+pub(crate) fn shown(
+    alloc: Global,
+    instance: &Instance,
+    report: ProvedReport,
+    limit: u32,
+) -> Option<Found>
+    requires { IsLinedReport (case_of instance.now) instance.now.net.now.notes limit report }
 {
     let _ = limit;
     let proof = report.proof;

@@ -1,5 +1,5 @@
 -- the report of a plan with its branch tree
-use Rattle.std.proofs.Common.{◌≡◌, ℕ, ◌≤◌, List, [], subst, sym}
+use Rattle.std.proofs.Common.{◌≡◌, ℕ, ◌≤◌, List, arith, subst, sym}
 use Rattle.plan_terms.specs.Terms.{Case, CutLine, Demand, IsAble, Notes, total_cost}
 use Rattle.plan_types.specs.declared.plan.Plan.{Plan}
 use Rattle.plan_report.specs.Terms.{AreRoutingsInForm, known_to}
@@ -13,7 +13,8 @@ use Rattle.lone_plan.proofs.PlansOf.{lone_plans_carry}
 use Rattle.tree_check.specs.declared.proof.Proof.{Proof}
 use Rattle.tree_check.specs.declared.proof.Verdict.TheVariants.{Cheapest, Above}
 use Rattle.branch_tree.specs.Proving.{IsProofOf}
-use Rattle.proof_report.specs.ProvedReports.{AreHandedIn, IsProvedReport, IsTrimmedOnce, certificate_cuts}
+use Rattle.proof_report.proofs.Roots.{root_alone}
+use Rattle.proof_report.specs.ProvedReports.{AreHandedIn, IsLinedReport, IsTrimmedOnce, certificate_cuts}
 use Rattle.proof_report.specs.declared.ending.ProvedReport.{ProvedReport}
 
 module _ (p : Case) (notes : Notes) (limit : ℕ) (r : PlannedReport) (is : IsTrimmedOnce p notes r) where
@@ -53,10 +54,10 @@ module _ (p : Case) (notes : Notes) (limit : ℕ) (r : PlannedReport) (is : IsTr
     new_transcript = subst (λ (plan : Plan). IsTranscript p notes plan_commands (whole_report (with_plan plan))) (sym proved.plan.same)
         (cheaper_redesigns_are_plans p notes r proof.plan.counts proof.plan.cost proof.plan.routings t design new_routed.lowest proved.plan.cheaper)
 
-    pub proved_report_made : proof.lines ≡ [] → (proof.verdict ≡ Cheapest → (counts : List (List ℕ)) → IsAble p counts → proof.plan.cost ≤ total_cost p.links counts)
+    pub lined_report_made : (proof.verdict ≡ Cheapest → (counts : List (List ℕ)) → IsAble p counts → proof.plan.cost ≤ total_cost p.links counts)
         → ((least : ℕ) → proof.verdict ≡ Above least → (counts : List (List ℕ)) → IsAble p counts → least ≤ total_cost p.links counts)
-        → IsProvedReport p notes limit made
-    proved_report_made plain cheapest above = record {
+        → IsLinedReport p notes limit made
+    lined_report_made cheapest above = record {
       transcript = new_transcript;
       acceptable = lone_plans_are_accepted p notes (with_plan proof.plan) new_transcript;
       given = r.plan;
@@ -64,7 +65,7 @@ module _ (p : Case) (notes : Notes) (limit : ℕ) (r : PlannedReport) (is : IsTr
       handed = cuts;
       begun = handed;
       proved = proved;
-      plain = plain;
+      rooted = λ none. root_alone p proof proved.accepted (let within = proved.within in omega (arith, within, none));
       cheapest = cheapest;
       above = above;
     }

@@ -55,9 +55,9 @@ pub record IsTrimmedOnce (p : Case) (notes : Notes) (r : PlannedReport) : Type 0
 -- ---- what it comes to
 
 -- The report is a transcript of one plan command, its one outcome is the proof's plan, and no finding holds of it. The proof is one of
--- the trimmed plan over cuts alone, by a search with this limit that begins with the cuts of the pool and of the plan's certificate. Where
--- it says that the plan is cheapest, no able counts cost less; and none cost less than the value that it tells.
-pub record IsProvedReport (p : Case) (notes : Notes) (limit : ℕ) (r : ProvedReport) : Type 0 where
+-- the trimmed plan by a search with this limit that begins with the cuts of the pool and of the plan's certificate; with a limit of 0 its
+-- tree is the root alone. Where it says that the plan is cheapest, no able counts cost less; and none cost less than the value that it tells.
+pub record IsLinedReport (p : Case) (notes : Notes) (limit : ℕ) (r : ProvedReport) : Type 0 where
   pub transcript : IsTranscript p notes plan_commands (whole_report (proved_report r))
   pub acceptable : IsAcceptable p notes (whole_report (proved_report r))
   pub given : Plan
@@ -65,11 +65,21 @@ pub record IsProvedReport (p : Case) (notes : Notes) (limit : ℕ) (r : ProvedRe
   pub handed : List CutLine
   pub begun : AreHandedIn r.pool (certificate_cuts given.certificate) handed
   pub proved : IsProofOf p given handed limit r.proof
-  pub plain : r.proof.lines ≡ []
+  pub rooted : limit ≡ 0 → length r.proof.tree ≡ 1
   pub cheapest : r.proof.verdict ≡ Cheapest → (counts : List (List ℕ)) → IsAble p counts → r.proof.plan.cost ≤ total_cost p.links counts
   pub above : (least : ℕ) → r.proof.verdict ≡ Above least → (counts : List (List ℕ)) → IsAble p counts → least ≤ total_cost p.links counts
 
--- such a report, or the first separation
+-- such a report whose proof is over cuts alone
+pub record IsProvedReport (p : Case) (notes : Notes) (limit : ℕ) (r : ProvedReport) : Type 0 where
+  pub lined : IsLinedReport p notes limit r
+  pub plain : r.proof.lines ≡ []
+
+-- the report of a proof over cuts alone, or the first separation
 abbrev pub IsProofEnding : Case → Notes → ℕ → ProofEnding → Type 0
 IsProofEnding p notes limit (ending.Proved r) = IsProvedReport p notes limit r
 IsProofEnding p notes limit (ending.Separated state demand) = IsSeparationOf p state.0 demand
+
+-- the report of a proof, or the first separation
+abbrev pub IsLinedEnding : Case → Notes → ℕ → ProofEnding → Type 0
+IsLinedEnding p notes limit (ending.Proved r) = IsLinedReport p notes limit r
+IsLinedEnding p notes limit (ending.Separated state demand) = IsSeparationOf p state.0 demand

@@ -5,5 +5,5 @@ mod ending;
 mod handed;
 mod writer;
 
-pub use ending::{ProofEnding, ProvedReport, prove_once};
-pub use writer::write_proved;
+pub use ending::{ProofEnding, ProvedReport, prove_once, prove_once_by_lines};
+pub use writer::{write_lined, write_proved};

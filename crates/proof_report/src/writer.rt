@@ -4,7 +4,7 @@ ghost use Rattle.plan_report.specs.Terms.{known_of, report_text, SpellsReport};
 ghost use Rattle.comment_lines.specs.Comments.{AddsLines};
 ghost use Rattle.lone_plan.specs.LonePlans.{whole_report};
 ghost use Rattle.tree_lines.specs.TreeLines.{IsToldProof, proof_lines};
-ghost use Rattle.proof_report.specs.ProvedReports.{IsProvedReport, proved_report, proof_text};
+ghost use Rattle.proof_report.specs.ProvedReports.{IsLinedReport, IsProvedReport, proved_report, proof_text};
 
 use crate::ending::ProvedReport;
 use lone_plan::PlannedReport;
@@ -43,10 +43,30 @@ fn put_lines(text: &mut Bytes, instance: &Instance, proof: &Proof) -> Result<(),
     )
 }
 
-/// The text of the report of a plan with its branch tree: the report, then comment lines for each of its cuts, for each
-/// node in preorder, and for what it shows, as `# cheapest`. Reading the text gives the report again.
+/// The text of the report of a plan with its branch tree: the report, then comment lines for each cut of the tree, for each line that is
+/// made of them, for each node in preorder, and for what it shows, as `# cheapest`. Reading the text gives the report again.
 ///
 /// It takes time and memory in the number of the text's bytes, and memory for a copy of the plan.
+pub fn write_lined(
+    alloc: Global,
+    instance: &Instance,
+    report: ProvedReport,
+    limit: u32,
+) -> Result<Bytes, NoMemory>
+    requires { IsLinedReport (case_of instance.now) instance.now.net.now.notes limit report }
+    ensures text { IfOk result (λ text. text
+        ≡ report_text (known_of instance.now.net.now instance.now.states.now) (whole_report (proved_report report))
+        ++ proof_text (case_of instance.now) report.proof) }
+    ensures spelled { IfOk result (λ text. SpellsReport (known_of instance.now.net.now instance.now.states.now) text (whole_report (proved_report report))) }
+{
+    let (planned, proof) = parted(report)?;
+    let whole = planned.into_report(alloc)?;
+    let mut text = write_report(alloc, instance.net, instance.states, &whole)?;
+    put_lines(&mut text, instance, &proof)?;
+    Ok(text)
+}
+
+/// As `write_lined`, of a report whose tree is over cuts alone.
 pub fn write_proved(
     alloc: Global,
     instance: &Instance,
@@ -59,9 +79,5 @@ pub fn write_proved(
         ++ proof_text (case_of instance.now) report.proof) }
     ensures spelled { IfOk result (λ text. SpellsReport (known_of instance.now.net.now instance.now.states.now) text (whole_report (proved_report report))) }
 {
-    let (planned, proof) = parted(report)?;
-    let whole = planned.into_report(alloc)?;
-    let mut text = write_report(alloc, instance.net, instance.states, &whole)?;
-    put_lines(&mut text, instance, &proof)?;
-    Ok(text)
+    write_lined(alloc, instance, report, limit)
 }

@@ -10,7 +10,7 @@ use Rattle.branch_tree.specs.Proving.{AreHandedCuts, IsProofOf}
 use Rattle.proof_report.proofs.Certain.{certified_certain}
 use Rattle.proof_report.proofs.Handing.{handed_long}
 use Rattle.proof_report.proofs.Known.{certificate_few, certified_told, handed_told, lines_shown, own_stand, pool_few}
-use Rattle.proof_report.proofs.Proved.{proved_report_made, routed_plan}
+use Rattle.proof_report.proofs.Proved.{lined_report_made, routed_plan}
 use Rattle.proof_report.specs.ProvedReports.{certificate_cuts}
 use Rattle.proof_report.proofs.ending.prove_planned.Goals as goal
 
@@ -29,26 +29,26 @@ work_out-requires c =
     subst (λ (cuts : List CutLine). All (λ cut. ∥ IsCut (case_of i) cut ∥₁) cuts) (sym c.items.ensures)
     (handed_told (case_of i) i.net.now.notes c.args.planned c.requires.trimmed.trimmed.transcript c.in_ok-cuts.cuts c.in_ok-cuts.ensures)
 
-pub prove-requires-clause-belong : goal.prove-requires-clause-belong
-prove-requires-clause-belong c =
+pub searched-requires-clause-belong : goal.searched-requires-clause-belong
+searched-requires-clause-belong c =
     let i = c.args.instance.now in
     subst (AreDemands (length i.net.now.nodes)) (sym ((lone_plans_carry (case_of i) i.net.now.notes c.args.planned c.requires.trimmed.trimmed.transcript).0.demands)) i.belong
 
-pub prove-requires-clause-survivable : goal.prove-requires-clause-survivable
-prove-requires-clause-survivable c =
+pub searched-requires-clause-survivable : goal.searched-requires-clause-survivable
+searched-requires-clause-survivable c =
     let i = c.args.instance.now in
     let known = lone_plans_carry (case_of i) i.net.now.notes c.args.planned c.requires.trimmed.trimmed.transcript in
     subst (λ (ds : List Demand). IsSurvivable (case i.net.now i.states.now ds)) (sym known.0.demands) known.1
 
-pub prove-requires-clause-routed : goal.prove-requires-clause-routed
-prove-requires-clause-routed c =
+pub searched-requires-clause-routed : goal.searched-requires-clause-routed
+searched-requires-clause-routed c =
     let i = c.args.instance.now in
     let known = lone_plans_carry (case_of i) i.net.now.notes c.args.planned c.requires.trimmed.trimmed.transcript in
     subst (λ (ds : List Demand). IsRoutedPlan (case i.net.now i.states.now ds) c.args.planned.plan) (sym known.0.demands)
     (routed_plan (case_of i) i.net.now.notes c.args.limit c.args.planned c.requires.trimmed)
 
-pub prove-requires-clause-certified : goal.prove-requires-clause-certified
-prove-requires-clause-certified c =
+pub searched-requires-clause-certified : goal.searched-requires-clause-certified
+searched-requires-clause-certified c =
     let i = c.args.instance.now in
     let p = case_of i in
     let known = lone_plans_carry p i.net.now.notes c.args.planned c.requires.trimmed.trimmed.transcript in
@@ -58,8 +58,8 @@ prove-requires-clause-certified c =
     (certified_certain p c.args.planned.plan (certified_told p i.net.now.notes c.args.planned c.requires.trimmed.trimmed.transcript)
     (lines_shown p cuts c.args.planned.plan.certificate.lines sound c.in_ok-cuts.ensures.all))
 
-pub prove-requires-clause-cuts : goal.prove-requires-clause-cuts
-prove-requires-clause-cuts c =
+pub searched-requires-clause-cuts : goal.searched-requires-clause-cuts
+searched-requires-clause-cuts c =
     let i = c.args.instance.now in
     let p = case_of i in
     let known = lone_plans_carry p i.net.now.notes c.args.planned c.requires.trimmed.trimmed.transcript in
@@ -75,16 +75,18 @@ prove-requires-clause-cuts c =
       own = own_stand cuts c.args.planned.plan.certificate.lines c.in_ok-cuts.ensures.all;
     })
 
-pub returns : goal.returns
-returns c =
+pub returns-clause-lined : goal.returns-clause-lined
+returns-clause-lined c =
     let i = c.args.instance.now in
     let p = case_of i in
     let known = lone_plans_carry p i.net.now.notes c.args.planned c.requires.trimmed.trimmed.transcript in
     let proof = c.in_ok-proof.proof in
     let at = λ (ds : List Demand). case i.net.now i.states.now ds in
-    proved_report_made p i.net.now.notes c.args.limit c.args.planned c.requires.trimmed c.in_ok-cuts.cuts c.in_ok-cuts.ensures proof
+    lined_report_made p i.net.now.notes c.args.limit c.args.planned c.requires.trimmed c.in_ok-cuts.cuts c.in_ok-cuts.ensures proof
     (subst (λ (ds : List Demand). IsProofOf (at ds) c.args.planned.plan c.in_ok-cuts.cuts c.args.limit proof) known.0.demands c.in_ok-proof.ensures.proof)
-    c.in_ok-proof.ensures.lines
     (subst (λ (ds : List Demand). proof.verdict ≡ Cheapest → (counts : List (List ℕ)) → IsAble (at ds) counts → proof.plan.cost ≤ total_cost p.links counts) known.0.demands c.in_ok-proof.ensures.cheapest)
     (subst (λ (ds : List Demand). (least : ℕ) → proof.verdict ≡ Above least → (counts : List (List ℕ)) → IsAble (at ds) counts → least ≤ total_cost p.links counts) known.0.demands
     c.in_ok-proof.ensures.above)
+
+pub returns-clause-plain : goal.returns-clause-plain
+returns-clause-plain c = λ none. c.in_ok-proof.ensures.lines none
