@@ -1,0 +1,2 @@
+pub mod AllSeparations
+pub mod inner

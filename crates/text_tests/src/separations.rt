@@ -1,0 +1,70 @@
+use crate::failures::LOLLIPOP;
+use net_core::{Bytes, List};
+use separation_texts::{put_separations, separations};
+use std::alloc::Global;
+use worked_networks::{DemandRow, LinkRow, TEN, network, problem};
+
+/// How many nodes there are, the links, each of which may fail, the demands, and the lines of all separations.
+type SeparationRow = (
+    usize,
+    &'static [LinkRow],
+    &'static [DemandRow],
+    &'static [u8],
+);
+
+/// Two demands over a bridge and two beside it, of which one has no need; a demand over a link, and one of a node without links; and a triangle.
+const SEPARATIONS: [SeparationRow; 3] = [
+    (
+        4,
+        &LOLLIPOP,
+        &[(0, 3, 12000), (0, 1, 5000), (3, 1, 2000), (3, 2, 0)],
+        b"  where d fails, no path joins the ends of demand A\n  where d fails, no path joins the ends of demand C\n",
+    ),
+    (
+        3,
+        &[(0, 1, 0, &TEN)],
+        &[(0, 1, 3000), (1, 2, 3000)],
+        b"  without any failure no path joins the ends of demand B\n  where a fails, no path joins the ends of demand A\n  where a fails, no path joins the ends of demand B\n",
+    ),
+    (
+        3,
+        &[(0, 1, 0, &TEN), (1, 2, 0, &TEN), (0, 2, 0, &TEN)],
+        &[(0, 2, 12000)],
+        b"",
+    ),
+];
+
+/// The lines of all separations of a row.
+fn lines(alloc: Global, row: &SeparationRow) -> Option<Bytes> {
+    let net = network(alloc, row.0, row.1).ok()?;
+    let problem = problem(alloc, net, row.2).ok()?;
+    let instance = problem.instance();
+    let found = separations(alloc, &instance).ok()?;
+    let mut text: Bytes = List::new(alloc);
+    put_separations(&mut text, &instance, found.items()).ok()?;
+    Some(text)
+}
+
+/// Whether the lines of a row are as wanted.
+fn are_right(alloc: Global, row: &SeparationRow) -> bool {
+    match lines(alloc, row) {
+        Some(text) => text.items() == row.3,
+        None => false,
+    }
+}
+
+/// The first row whose lines are others.
+fn first_wrong(alloc: Global) -> Option<usize> {
+    for i in 0..SEPARATIONS.len() {
+        if !are_right(alloc, &SEPARATIONS[i]) {
+            return Some(i);
+        }
+    }
+    None
+}
+
+#[test]
+fn all_separations_are_told(rt: HostRuntime) {
+    let wrong = first_wrong(rt.alloc());
+    assert!(rt; wrong.is_none(), "row {}", wrong.unwrap_or(0));
+}
