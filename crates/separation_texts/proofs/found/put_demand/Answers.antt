@@ -24,4 +24,4 @@ returns-else-is_separated c =
     let d = c.index-items-k.result in
     let here = c.index-items-k.is ∙ ap (λ (xs : List Demand). get_or xs c.args.k d) c.items.ensures in
     passed_before p c.args.state.0 c.args.k c.args.found.now c.requires.found
-    (λ sep. both_ways false refl (c.is_separated.ensures.1 (separates_far p c.args.state.0 c.args.k c.args.table.now c.requires.table i.belong d c.requires.inside here sep)))
+    (λ sep. both_ways false refl (c.if-is_separated.ensures.1 (separates_far p c.args.state.0 c.args.k c.args.table.now c.requires.table i.belong d c.requires.inside here sep)))
