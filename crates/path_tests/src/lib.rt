@@ -2,6 +2,8 @@
 #![tactic(auto)]
 
 #[cfg(test)]
+mod all_separations;
+#[cfg(test)]
 mod cuts;
 #[cfg(test)]
 mod fixtures;

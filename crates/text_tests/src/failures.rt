@@ -5,7 +5,7 @@ use std::alloc::Global;
 use worked_networks::{DemandRow, LinkRow, TEN, demands, network};
 
 /// A triangle of a, b and c, to which link d leads from a fourth node.
-pub(crate) const LOLLIPOP: [LinkRow; 4] = [
+const LOLLIPOP: [LinkRow; 4] = [
     (0, 1, 0, &TEN),
     (1, 2, 0, &TEN),
     (0, 2, 0, &TEN),

@@ -1,4 +1,4 @@
-//! Tests of lines and columns, of tables, of messages with a caret, of failure lists as text, and of the lines of separations.
+//! Tests of lines and columns, of tables, of messages with a caret, and of failure lists as text.
 #![tactic(auto)]
 
 #[cfg(test)]
@@ -9,8 +9,6 @@ mod faults;
 mod headers;
 #[cfg(test)]
 mod places;
-#[cfg(test)]
-mod separations;
 #[cfg(test)]
 mod tables;
 #[cfg(test)]

@@ -1,8 +1,15 @@
-use crate::failures::LOLLIPOP;
 use net_core::{Bytes, List};
 use separation_texts::{put_separations, separations};
 use std::alloc::Global;
 use worked_networks::{DemandRow, LinkRow, TEN, network, problem};
+
+/// A triangle of a, b and c, to which link d leads from a fourth node.
+const LOLLIPOP: [LinkRow; 4] = [
+    (0, 1, 0, &TEN),
+    (1, 2, 0, &TEN),
+    (0, 2, 0, &TEN),
+    (2, 3, 0, &TEN),
+];
 
 /// How many nodes there are, the links, each of which may fail, the demands, and the lines of all separations.
 type SeparationRow = (
