@@ -1,6 +1,6 @@
 ghost use Rattle.std.specs.Prelude.{◌≤◌};
 
-use crate::searches::{Found, LEAST, are_charged, sample_problem, shown, triangle_problem};
+use crate::searches::{Found, LEAST, are_charged, sample_problem, shown_by_tree, triangle_problem};
 use net_core::{Instance, Module, NoMemory, Problem};
 use outside_io::OpenGate;
 use proof_report::{ProofEnding, prove_once_by_lines};
@@ -23,7 +23,7 @@ fn searched_by_lines<R: Threads + Wait + Sync>(
         return None;
     }
     match prove_once_by_lines(rt, alloc, instance, limit, &OpenGate) {
-        Ok(ProofEnding::Proved(report)) => shown(alloc, instance, report, limit),
+        Ok(ProofEnding::Proved(report)) => shown_by_tree(alloc, instance, report, limit),
         Ok(ProofEnding::Separated { .. }) => None,
         Err(NoMemory) => None,
     }

@@ -1,7 +1,7 @@
 //! Branch trees of plans, against least costs that another solver found, or that were worked out by hand.
 ghost use Rattle.std.specs.Prelude.{◌≡◌, ◌+◌, ◌<◌, ◌≤◌, ◌^◌, ◌↔◌, All, IsTrue, length};
 ghost use Rattle.plan_terms.specs.Terms.{AreDemands, case_of};
-ghost use Rattle.proof_report.specs.ProvedReports.{IsLinedReport};
+ghost use Rattle.proof_report.specs.ProvedReports.{IsLinedReport, IsProvedReport};
 
 use net_core::{Demands, Instance, Link, Module, Network, NoMemory, Problem};
 use outside_io::OpenGate;
@@ -41,7 +41,7 @@ pub(crate) fn split_number(nodes: &[Node]) -> usize {
 }
 
 /// What a report's tree shows; none where its check rejects it.
-pub(crate) fn shown(
+pub(crate) fn shown_by_tree(
     alloc: Global,
     instance: &Instance,
     report: ProvedReport,
@@ -65,6 +65,13 @@ pub(crate) fn shown(
         TreeAnswer::Rejected(_) => None,
         TreeAnswer::NoMemory => None,
     }
+}
+
+/// What the tree of a report over cuts alone shows.
+fn shown(alloc: Global, instance: &Instance, report: ProvedReport, limit: u32) -> Option<Found>
+    requires { IsProvedReport (case_of instance.now) instance.now.net.now.notes limit report }
+{
+    shown_by_tree(alloc, instance, report, limit)
 }
 
 /// What a search of an instance with at most this many splits shows.

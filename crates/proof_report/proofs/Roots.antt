@@ -11,10 +11,13 @@ use Rattle.tree_check.specs.declared.proof.Proof.{Proof}
 use Rattle.box_search.specs.Finds.{is_split}
 use Rattle.branch_tree.specs.FewSplits.{split_number}
 
+splits_more : (node : Node) (nodes : List Node) → split_number (node ∷ nodes) ≡ cond (is_split node) 1 0 + split_number nodes
+splits_more node nodes = sum_by-cons (λ (n : Node). cond (is_split n) 1 0) node nodes
+
 -- the first node has no sides
 first_leaf : (node : Node) (nodes : List Node) (box : TreeBox) → split_number (node ∷ nodes) ≤ 0 → sides_of box node ≡ []
 first_leaf (Split link at_module number) nodes box none =
-    absurd (omega (arith, none, sum_by-cons (λ (n : Node). cond (is_split n) 1 0) (Split link at_module number) nodes))
+    absurd (omega (arith, none, splits_more (Split link at_module number) nodes))
 first_leaf (Closed cert) nodes box none = refl
 first_leaf (Empty cut) nodes box none = refl
 first_leaf (Spent cert) nodes box none = refl
