@@ -1,0 +1,6 @@
+pub mod Appended
+pub mod Apart
+pub mod Few
+pub mod ModuleWords
+pub mod Plans
+pub mod Views

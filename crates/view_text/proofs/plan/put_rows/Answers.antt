@@ -1,0 +1,25 @@
+use Rattle.std.proofs.Common.{List, [], ◌∷◌, ◌++◌, ap, map, subst, ◌∙◌}
+use Rattle.text_kit.proofs.Lemmas.{on_ok}
+use Rattle.plan_report.specs.Terms.{known_of}
+use Rattle.plan_view.specs.declared.rows.LinkRow.{LinkRow}
+use Rattle.plan_view.specs.declared.rows.StateRow.{StateRow}
+use Rattle.view_text.specs.CostCells.{cost_rows}
+use Rattle.view_text.specs.LinkCells.{cells_of_link, link_heads, total_cells}
+use Rattle.view_text.specs.PlanViews.{accepted_text}
+use Rattle.view_text.specs.StateCells.{state_cells, state_heads}
+use Rattle.view_text.specs.Tables.{HasRows, HasRowsAbove}
+use Rattle.view_text.proofs.Plans.{rows_shown}
+use Rattle.view_text.proofs.plan.put_rows.Goals as goal
+
+pub returns : goal.returns
+returns c = on_ok c.put_accepted.result (λ q.
+    rows_shown (known_of c.args.instance.now.net.now c.args.instance.now.states.now) c.args.quality.now c.args.proof c.args.numbers.now.links c.args.numbers.now.states
+    c.args.numbers.now.whole c.args.text.now c.in_ok-costs.costs c.in_ok-links.links c.in_ok-below.below c.put_part.new.text c.put_part-2.new.text c.put_part-3.new.text
+    c.put_accepted.new.text
+    (subst (λ places. HasRows (cost_rows places c.args.numbers.now.whole c.args.quality.now c.args.proof) c.in_ok-costs.costs) c.places.ensures c.in_ok-costs.ensures)
+    (subst (λ (rows : List LinkRow). HasRowsAbove (link_heads ∷ map (cells_of_link (known_of c.args.instance.now.net.now c.args.instance.now.states.now)) rows)
+    (total_cells c.args.instance.now.net.now.places c.args.numbers.now.whole ∷ []) c.in_ok-links.links) c.items.ensures c.in_ok-links.ensures)
+    (subst (λ (rows : List StateRow). HasRowsAbove (state_heads ∷ []) (map (state_cells (known_of c.args.instance.now.net.now c.args.instance.now.states.now)) rows)
+    c.in_ok-below.below) c.items-2.ensures c.in_ok-below.ensures)
+    c.in_ok-put_part.ensures c.in_ok-put_part-2.ensures c.in_ok-put_part-3.ensures
+    (q ∙ ap (λ places. c.put_part-3.new.text ++ accepted_text places c.args.numbers.now.whole c.args.proof) c.places-2.ensures)) c.put_accepted.ensures

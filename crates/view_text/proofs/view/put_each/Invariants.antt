@@ -1,0 +1,8 @@
+use Rattle.std.proofs.Common.{take}
+use Rattle.view_text.specs.Reports.{AreOutcomeViews, problem_case}
+use Rattle.view_text.specs.Tables.{AddsText}
+use Rattle.view_text.proofs.view.put_each.Given as goal
+
+-- the views so far
+abbrev pub invariant-loop-outcome : goal.invariant-loop-outcome
+invariant-loop-outcome l = AddsText (AreOutcomeViews (problem_case l.problem) (take l.outcome-index l.outcomes)) l.fn.text l.text

@@ -1,0 +1,12 @@
+pub mod Cells
+pub mod CostCells
+pub mod CostProofs
+pub mod Headings
+pub mod LinkCells
+pub mod OutcomeCells
+pub mod PlanViews
+pub mod Reports
+pub mod StateCells
+pub mod Tables
+pub mod Terms
+pub mod inner

@@ -1,0 +1,28 @@
+-- texts that have the rows of a table
+use Rattle.std.specs.Prelude.{◌≡◌, ℕ, ◌≤◌, List, ◌++◌, All, length}
+use Rattle.std.specs.List.{AllByRecursion}
+use Rattle.text_table.specs.Cells.{table_text}
+use Rattle.text_table.specs.declared.column.Column.{Column}
+
+-- a cell of the column stands two spaces apart from what is before it
+abbrev pub IsApart : Column → Type 0
+IsApart c = 2 ≤ c.gap
+
+-- The text has these rows, a line each, with all their cells, which stand apart. How wide the columns are is free.
+pub record HasRows (rows : List (List (List ℕ))) (text : List ℕ) : Type 0 where
+  pub columns : List Column
+  pub apart : AllByRecursion IsApart columns
+  pub enough : All (λ row. length row ≤ length columns) rows
+  pub printed : text ≡ table_text columns rows
+
+-- rows above others, which have columns of their own
+pub record HasRowsAbove (above below : List (List (List ℕ))) (text : List ℕ) : Type 0 where
+  pub upper : List ℕ
+  pub lower : List ℕ
+  pub has_upper : HasRows above upper
+  pub has_lower : HasRows below lower
+  pub printed : text ≡ upper ++ lower
+
+-- a text of this kind was put after what stood there
+abbrev pub AddsText : (List ℕ → Type 0) → List ℕ → List ℕ → Type 0
+AddsText IsText old new = (text : List ℕ) × IsText text × (new ≡ old ++ text)

@@ -1,0 +1,63 @@
+ghost use Rattle.std.specs.Prelude.{◌≡◌, ◌≤◌, ◌++◌, All, IfOk, length};
+ghost use Rattle.std.specs.List.{AllByRecursion};
+ghost use Rattle.view_text.specs.Tables.{HasRows, IsApart};
+
+use net_core::{Bytes, List, NoMemory};
+use std::alloc::Global;
+use text_table::{Column, Row, put_rows, widened};
+
+/// A column whose cells begin at its left side.
+pub(crate) const fn left(gap: usize, width: usize) -> Column
+    ensures gap { result.gap ≡ gap }
+{
+    Column {
+        gap,
+        width,
+        right: false,
+    }
+}
+
+/// A column whose cells end at its right side.
+pub(crate) const fn right(gap: usize, width: usize) -> Column
+    ensures gap { result.gap ≡ gap }
+{
+    Column {
+        gap,
+        width,
+        right: true,
+    }
+}
+
+/// The text of rows in these columns.
+pub(crate) fn table(alloc: Global, columns: &[Column], rows: &[Row]) -> Result<Bytes, NoMemory>
+    requires apart { AllByRecursion IsApart columns.now }
+    requires enough { All (λ row. length row ≤ length columns.now) rows.now }
+    ensures { IfOk result (HasRows rows.now) }
+{
+    let mut text = List::new(alloc);
+    put_rows(&mut text, columns, rows)?;
+    Ok(text)
+}
+
+/// These columns, as wide as the cells of the rows need them.
+#[tactic(auto, using(crate::proofs::Apart::still_apart))]
+pub(crate) fn fitting(
+    alloc: Global,
+    columns: &[Column],
+    rows: &[Row],
+) -> Result<List<Column>, NoMemory>
+    requires { AllByRecursion IsApart columns.now }
+    ensures long { IfOk result (λ wide. length wide ≡ length columns.now) }
+    ensures apart { IfOk result (AllByRecursion IsApart) }
+{
+    widened(alloc, columns, rows)
+}
+
+/// A text above another.
+pub(crate) fn above(upper: Bytes, lower: &[u8]) -> Result<Bytes, NoMemory>
+    ensures { IfOk result (λ text. text ≡ upper ++ lower.now) }
+{
+    let mut text = upper;
+    text.append(lower)?;
+    Ok(text)
+}
