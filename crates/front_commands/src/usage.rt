@@ -20,8 +20,7 @@ Exit statuses: 0 done, 2 these words are no command, 3 a file isn't there, 4 rea
 pub(crate) const VERSION: &[u8] = b"zorgwint 1\n";
 
 /// What is said of words that are no command.
-pub(crate) const USAGE: &[u8] =
-    b"these words are no command; zorgwint --help tells which are
+pub(crate) const USAGE: &[u8] = b"these words are no command; zorgwint --help tells which are
 usage: zorgwint view NET REPORT [--model F] [--failures F] [--survive links] | failures NET | help | --help | --version
 ";
 

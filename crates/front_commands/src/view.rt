@@ -36,5 +36,11 @@ pub(crate) fn view_files<S: Shelf>(
     ensures shelf { KeepsShelf S.files S.faults (FailsReading result) shelf.old shelf.new }
 {
     let problem = load_case(alloc, &words.case, shelf)?;
-    view_file(alloc, words.case.files.network, words.report, &problem, shelf)
+    view_file(
+        alloc,
+        words.case.files.network,
+        words.report,
+        &problem,
+        shelf,
+    )
 }

@@ -37,10 +37,7 @@ fn file_of_option(option: Option<&str>) -> &str
 }
 
 /// Whether each single link's failure is to be survived, and the file of the failure list; none where both are asked for.
-fn survival_of<'w>(
-    survive: Option<&'w str>,
-    failures: Option<&'w str>,
-) -> Option<(bool, &'w str)>
+fn survival_of<'w>(survive: Option<&'w str>, failures: Option<&'w str>) -> Option<(bool, &'w str)>
     ensures { MatchOption result
         ((survived : Bool) (file : List ℕ) → NamesSurvival (option_map (λ w. w.now) survive.entry) (option_map (λ w. w.now) failures.entry) survived file → ⊥)
         (λ r. NamesSurvival (option_map (λ w. w.now) survive.entry) (option_map (λ w. w.now) failures.entry) r.0 r.1.now) }
@@ -79,11 +76,7 @@ fn has_no_option(given: &Given) -> bool
 }
 
 /// The command that a name and a network are.
-fn network_command<'w>(
-    name: &str,
-    network: &'w str,
-    given: &Given<'w>,
-) -> Option<FrontWords<'w>>
+fn network_command<'w>(name: &str, network: &'w str, given: &Given<'w>) -> Option<FrontWords<'w>>
     ensures { MatchOption result ((c : FrontCommand) → IsOfNetwork name.now network.now (given_words given.now) c → ⊥)
         (λ c. IsOfNetwork name.now network.now (given_words given.now) (asked_front c)) }
 {

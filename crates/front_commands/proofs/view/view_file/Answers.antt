@@ -35,5 +35,5 @@ returns-clause-shelf g c =
       same = shelf.same;
       later = shelf.later;
       counted = λ failed. absurd (view_read c.args.network.now c.args.name.now (problem_case problem) problem.net.notes c.in_ok-bytes.bytes c.view_report.result
-      (rw c.items.ensures at c.view_report.ensures) failed);
+          (rw c.items.ensures at c.view_report.ensures) failed);
     }
