@@ -12,6 +12,7 @@ pub still_apart : (columns : List Column) (rows : List (List (List ℕ))) (wide 
     → AllByRecursion IsApart columns → AllByRecursion IsApart wide
 still_apart columns rows wide are apart = recursion_from_All IsApart wide (All-from_get_or IsApart wide no_column (λ i lt.
     let within : i < length columns = omega (arith, lt, are.long) in
-    let is = are.each i (get_or columns i no_column) (get_or wide i no_column) (slice_get-get_or columns i no_column within) (slice_get-get_or wide i no_column lt) in
+    let is = are.each i (get_or columns i no_column) (get_or wide i no_column) (slice_get-get_or columns i no_column within)
+    (slice_get-get_or wide i no_column lt) in
     let before : 2 ≤ (get_or columns i no_column).gap = All-get_or IsApart columns i no_column within (All-from_recursion IsApart columns apart) in
     omega (arith, is.gap, before)))

@@ -25,12 +25,14 @@ more_views p (x ∷ xs) outcome views view are one =
 pub no_views : (p : Case) (text : List ℕ) → AddsText (AreOutcomeViews p []) text text
 no_views p text = ([], refl, sym (append-nil text))
 
-pub next_views : (p : Case) (outcomes : List Outcome) (i : ℕ) (outcome : Outcome) (old mid new : List ℕ) → i < length outcomes → outcome ≡ get_or outcomes i outcome
-    → AddsText (AreOutcomeViews p (take i outcomes)) old mid → AddsText (IsNumberedView p outcome) mid new → AddsText (AreOutcomeViews p (take (i + 1) outcomes)) old new
+pub next_views : (p : Case) (outcomes : List Outcome) (i : ℕ) (outcome : Outcome) (old mid new : List ℕ) → i < length outcomes
+    → outcome ≡ get_or outcomes i outcome → AddsText (AreOutcomeViews p (take i outcomes)) old mid → AddsText (IsNumberedView p outcome) mid new
+    → AddsText (AreOutcomeViews p (take (i + 1) outcomes)) old new
 next_views p outcomes i outcome old mid new lt is views view =
     let one : IsNumberedView p (get_or outcomes i outcome) view.0 = subst (λ o. IsNumberedView p o view.0) is view.1 in (
       views.0 ++ view.0,
-      subst (λ xs. AreOutcomeViews p xs (views.0 ++ view.0)) (sym (take_more outcomes i outcome lt)) (more_views p (take i outcomes) (get_or outcomes i outcome) views.0 view.0 views.1 one),
+      subst (λ xs. AreOutcomeViews p xs (views.0 ++ view.0)) (sym (take_more outcomes i outcome lt))
+          (more_views p (take i outcomes) (get_or outcomes i outcome) views.0 view.0 views.1 one),
       appended old views.0 view.0 mid new views.2 view.2,
     )
 
@@ -38,20 +40,28 @@ pub all_views : (p : Case) (outcomes : List Outcome) (i : ℕ) (old new : List �
     → AddsText (AreOutcomeViews p (take i outcomes)) old new → AddsText (AreOutcomeViews p outcomes) old new
 all_views p outcomes i old new le views = subst (λ xs. AddsText (AreOutcomeViews p xs) old new) (take_all i outcomes le) views
 
-pub session : (p : Case) (outcomes : List Outcome) (old mid new : List ℕ) → AddsText (HasOutcomes p.places outcomes) old mid → AddsText (AreOutcomeViews p outcomes) mid new
-    → AddsText (IsSessionView p outcomes) old new
+pub session : (p : Case) (outcomes : List Outcome) (old mid new : List ℕ) → AddsText (HasOutcomes p.places outcomes) old mid
+    → AddsText (AreOutcomeViews p outcomes) mid new → AddsText (IsSessionView p outcomes) old new
 session p outcomes old mid new table views = (
   table.0 ++ views.0,
   record { table = table.0; views = views.0; has_table = table.1; are_views = views.1; printed = refl },
   appended old table.0 views.0 mid new table.2 views.2,
 )
 
-pub report : (network : List ℕ) (p : Case) (outcomes : List Outcome) (proof : CostProof) (old mid new : List ℕ) → mid ≡ old ++ heading_text network p outcomes
+pub report : (network : List ℕ) (p : Case) (outcomes : List Outcome) (proof : CostProof) (old mid new : List ℕ)
+    → mid ≡ old ++ heading_text network p outcomes
     → AddsText (IsBody p proof outcomes) mid new → AddsText (IsReportView network p outcomes proof) old new
-report network p outcomes proof old mid new line body =
-    (heading_text network p outcomes ++ body.0, record { body = body.0; is_body = body.1; printed = refl }, appended old (heading_text network p outcomes) body.0 mid new line body.2)
+report network p outcomes proof old mid new line body = (
+  heading_text network p outcomes ++ body.0,
+  record { body = body.0; is_body = body.1; printed = refl },
+  appended old (heading_text network p outcomes) body.0 mid new line body.2,
+)
 
-pub first_block : (network : List ℕ) (p : Case) (outcomes : List Outcome) (proof : CostProof) (old mid new : List ℕ) → mid ≡ old ++ heading_text network p outcomes
+pub first_block : (network : List ℕ) (p : Case) (outcomes : List Outcome) (proof : CostProof) (old mid new : List ℕ)
+    → mid ≡ old ++ heading_text network p outcomes
     → AddsText (IsBrief p proof outcomes) mid new → AddsText (IsFirstBlock network p outcomes proof) old new
-first_block network p outcomes proof old mid new line brief =
-    (heading_text network p outcomes ++ brief.0, record { brief = brief.0; is_brief = brief.1; printed = refl }, appended old (heading_text network p outcomes) brief.0 mid new line brief.2)
+first_block network p outcomes proof old mid new line brief = (
+  heading_text network p outcomes ++ brief.0,
+  record { brief = brief.0; is_brief = brief.1; printed = refl },
+  appended old (heading_text network p outcomes) brief.0 mid new line brief.2,
+)

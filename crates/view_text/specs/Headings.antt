@@ -38,5 +38,6 @@ failures_text count survived =
 -- the first line: the network's file, its size, the demands, and the failures
 abbrev pub heading_text : List ℕ → Case → List Outcome → List ℕ
 heading_text network p outcomes =
-    network ++ codes "   " ++ size_text (length p.nodes) (length p.links) ++ demands_text p.places (told_demands p.demands outcomes) ++ failures_text (length p.listed) (are_all_survived outcomes)
+    network ++ codes "   " ++ size_text (length p.nodes) (length p.links) ++ demands_text p.places (told_demands p.demands outcomes)
+    ++ failures_text (length p.listed) (are_all_survived outcomes)
     ++ codes "\n\n"

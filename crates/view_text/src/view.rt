@@ -4,7 +4,8 @@ ghost use Rattle.plan_view.specs.Terms.{IsSoundPlan};
 ghost use Rattle.view_text.specs.CostProofs.{HoldsProof};
 ghost use Rattle.view_text.specs.OutcomeCells.{HasOutcomes, separation_text};
 ghost use Rattle.view_text.specs.PlanViews.{IsCostView, IsPlanView, case_of_plan};
-ghost use Rattle.view_text.specs.Reports.{AreOutcomeViews, IsBody, IsBrief, IsFirstBlock, IsNumberedView, IsOutcomeView, IsReportView, IsSessionView, IsShortView};
+ghost use Rattle.view_text.specs.Reports.{AreOutcomeViews, IsBody, IsBrief, IsFirstBlock, IsNumberedView, IsOutcomeView, IsReportView};
+ghost use Rattle.view_text.specs.Reports.{IsSessionView, IsShortView};
 ghost use Rattle.view_text.specs.Reports.{HasSoundPlan, HoldsOfOutcome, HoldsOfSingle, no_outcome_text, problem_case};
 ghost use Rattle.view_text.specs.Tables.{AddsText};
 

@@ -10,7 +10,8 @@ returns c = (
     whole = c.in_ok-whole.whole;
     is_whole = c.in_ok-whole.ensures;
     holds = c.requires.holds;
-    shown = subst (λ places. HasRows (cost_rows places c.in_ok-whole.whole c.args.plan.now.quality c.args.proof) c.in_ok-costs.costs) c.places.ensures c.in_ok-costs.ensures;
+    shown = subst (λ places. HasRows (cost_rows places c.in_ok-whole.whole c.args.plan.now.quality c.args.proof) c.in_ok-costs.costs)
+        c.places.ensures c.in_ok-costs.ensures;
   },
   c.in_ok-append.ensures.ok ∙ ap (λ b. c.args.text.now ++ b) c.items.ensures,
 )

@@ -5,6 +5,7 @@ use Rattle.view_text.proofs.plan.put_states.Goals as goal
 
 pub returns : goal.returns
 returns c = on_ok c.append-3.result (λ q.
-    appended_five c.args.text.now (codes "  accepted: the modules carry every demand in ") (decimal c.args.states) (codes " of ") (decimal c.args.states) (codes " states, and ")
+    appended_five c.args.text.now (codes "  accepted: the modules carry every demand in ") (decimal c.args.states) (codes " of ")
+    (decimal c.args.states) (codes " states, and ")
     c.append.new.self c.put_decimal.new.text c.append-2.new.self c.put_decimal-2.new.text c.append-3.new.self
     c.in_ok-append.ensures.ok c.in_ok-put_decimal.ensures c.in_ok-append-2.ensures.ok c.in_ok-put_decimal-2.ensures q) c.append-3.ensures.ok
