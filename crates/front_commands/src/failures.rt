@@ -3,7 +3,7 @@ ghost use Rattle.plan_terms.specs.Terms.{AreDemands, IsFirstSeparation};
 ghost use Rattle.failure_texts.specs.Fates.{with_states};
 ghost use Rattle.input_files.specs.Shelves.{KeepsShelf};
 ghost use Rattle.front_commands.specs.Endings.{EndsFailures, ListsFailures, SaysApart, apart_words};
-ghost use Rattle.front_files.specs.Endings.{Halts, HasFrontCause};
+ghost use Rattle.front_files.specs.Endings.{FailsReading, Halts, HasFrontCause};
 ghost use Rattle.front_commands.specs.inner.Causes.{apart_line};
 
 use check_answers::{Status, demand_name};

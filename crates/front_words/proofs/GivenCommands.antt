@@ -3,7 +3,7 @@ use Rattle.std.proofs.Common.{◌≡◌, ◌∙◌, ℕ, List, [], ◌∷◌, Op
 use Rattle.std.specs.Global.{Global}
 use Rattle.std.specs.Option.{option_map_or}
 use Rattle.front_words.specs.AskedFronts.{asked_front}
-use Rattle.front_words.specs.Fronts.{FrontCommand, IsFrontCommand, IsGiven, IsOfPlain}
+use Rattle.front_words.specs.Fronts.{FrontCommand, IsFrontCommand, IsGiven, IsLoneWord, IsOfPlain}
 use Rattle.front_words.specs.GivenWords.{GivenWords, nothing_given, with_words}
 use Rattle.front_words.specs.declared.words.FrontWords.{FrontWords}
 
@@ -16,10 +16,23 @@ given_only words g None is held = λ c given.
     held c (subst (λ x. IsOfPlain x.plain x c) same given.2)
 given_only words g (Some c) is held = (g, sym is, held)
 
--- words, of which there isn't one alone
-pub not_alone : (words : List (String Global)) (r : Option FrontWords) → (length words ≡ 1 → ⊥)
-    → MatchOption r ((c : FrontCommand) → IsGiven (map string_bytes words) c → ⊥) (λ c. IsGiven (map string_bytes words) (asked_front c))
-    → MatchOption r ((c : FrontCommand) → IsFrontCommand words c → ⊥) (λ c. IsFrontCommand words (asked_front c))
-not_alone [] r more held = held
-not_alone (word ∷ []) r more held = absurd (more refl)
-not_alone (word ∷ next ∷ words) r more held = held
+-- no word at all
+pub none_given : (words : List (String Global)) → length words ≡ 0 → (c : FrontCommand) → IsFrontCommand words c → ⊥
+none_given [] none c given =
+    let same : given.0 ≡ nothing_given = ap (λ o. option_map_or (λ x. x) o nothing_given) (sym given.1) in
+    subst (λ x. IsOfPlain x.plain x c) same given.2
+none_given (word ∷ words) none c given = absurd (cc none)
+
+module _ (first : String Global) (r : Option FrontWords) where
+  -- one word alone
+  pub one_given : (rest : List (String Global)) → length rest ≡ 0 → MatchOption r ((c : FrontCommand) → IsLoneWord (string_bytes first) c → ⊥) (λ c. IsLoneWord (string_bytes first) (asked_front c))
+      → MatchOption r ((c : FrontCommand) → IsFrontCommand (first ∷ rest) c → ⊥) (λ c. IsFrontCommand (first ∷ rest) (asked_front c))
+  one_given [] none held = held
+  one_given (next ∷ rest) none held = absurd (cc none)
+
+  -- and more of them
+  pub more_given : (rest : List (String Global)) → (length rest ≡ 0 → ⊥)
+      → MatchOption r ((c : FrontCommand) → IsGiven (map string_bytes (first ∷ rest)) c → ⊥) (λ c. IsGiven (map string_bytes (first ∷ rest)) (asked_front c))
+      → MatchOption r ((c : FrontCommand) → IsFrontCommand (first ∷ rest) c → ⊥) (λ c. IsFrontCommand (first ∷ rest) (asked_front c))
+  more_given [] some held = absurd (some refl)
+  more_given (next ∷ rest) some held = held

@@ -139,8 +139,9 @@ fn words_command(words: &[String]) -> Option<FrontWords<'_>>
 pub fn command_of(words: &[String]) -> Option<FrontWords<'_>>
     ensures { MatchOption result ((c : FrontCommand) → IsFrontCommand words.now c → ⊥) (λ c. IsFrontCommand words.now (asked_front c)) }
 {
-    match words {
-        [word] => lone_command(word.as_str()),
-        _ => words_command(words),
+    let (first, rest) = words.split_first()?;
+    if rest.is_empty() {
+        return lone_command(first.as_str());
     }
+    words_command(words)
 }
