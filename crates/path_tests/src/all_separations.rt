@@ -14,7 +14,7 @@ const LOLLIPOP: [LinkRow; 4] = [
 /// How many nodes there are, the links, each of which may fail, the demands, and the lines of all separations.
 type SeparationRow = (
     usize,
-    &'static [LinkRow],
+    &'static [LinkRow<'static>],
     &'static [DemandRow],
     &'static [u8],
 );
