@@ -17,3 +17,4 @@ pub mod Writable
 pub mod Spelling
 pub mod Answered
 pub mod Taking
+mod TreeBegun

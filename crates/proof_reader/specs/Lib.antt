@@ -1,6 +1,7 @@
 pub mod CommentTexts
 pub mod LineEnds
 pub mod Runs
+pub mod TreeWords
 pub mod Trees
 pub mod ReadingLines
 pub mod ReadingTrees

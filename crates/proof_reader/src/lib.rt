@@ -14,7 +14,9 @@ mod reader;
 mod run;
 mod sofar;
 pub mod tree;
+mod tree_words;
 
 pub use ends::report_end;
 pub use reader::read_tree;
 pub use tree::ReadTree;
+pub use tree_words::has_tree_line;

@@ -19,19 +19,19 @@ use text_kit::refusal::bad;
 use text_kit::steps::end;
 use tree_check::{BoxCert, Node, Verdict};
 
-const SPLIT: &[u8] = b"split";
+pub(crate) const SPLIT: &[u8] = b"split";
 
-const CLOSED: &[u8] = b"closed";
+pub(crate) const CLOSED: &[u8] = b"closed";
 
-const EMPTY: &[u8] = b"empty";
+pub(crate) const EMPTY: &[u8] = b"empty";
 
-const SPENT: &[u8] = b"spent";
+pub(crate) const SPENT: &[u8] = b"spent";
 
-const STUCK: &[u8] = b"stuck";
+pub(crate) const STUCK: &[u8] = b"stuck";
 
-const CHEAPEST: &[u8] = b"cheapest";
+pub(crate) const CHEAPEST: &[u8] = b"cheapest";
 
-const ABOVE: &[u8] = b"above";
+pub(crate) const ABOVE: &[u8] = b"above";
 
 const SMALL_LIMIT: u128 = 1 << 32;
 

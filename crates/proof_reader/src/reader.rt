@@ -33,11 +33,11 @@ use tree_check::Verdict;
 /// So many lines can be told apart by their indices.
 const MAX_LINES: usize = u32::MAX as usize;
 
-const BOX_CUT: &[u8] = b"box-cut";
+pub(crate) const BOX_CUT: &[u8] = b"box-cut";
 
-const LINE: &[u8] = b"line";
+pub(crate) const LINE: &[u8] = b"line";
 
-const TABLE: &[u8] = b"table";
+pub(crate) const TABLE: &[u8] = b"table";
 
 /// Takes a further line with this index, a node or a verdict, after its word at a place.
 fn further_line(

@@ -1,0 +1,7 @@
+//! Tests of what the bytes of a report come to for people: its view, or a message.
+#![tactic(auto)]
+
+#[cfg(test)]
+mod texts;
+#[cfg(test)]
+mod views;

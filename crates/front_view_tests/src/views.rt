@@ -1,0 +1,194 @@
+use crate::texts::{DEARER, EMPTY, REPORT, SHORT, TREE};
+use check_answers::Status;
+use front_files::Halt;
+use front_views::view_report;
+use net_core::{Bytes, List, NoMemory, Problem};
+use std::alloc::Global;
+use worked_networks::{problem, triangle};
+
+/// A report, the lines below it with one of them replaced by another, and what that comes to: a status, and the message, or a part of the view.
+type Row = (
+    &'static str,
+    &'static str,
+    (&'static str, &'static str),
+    Status,
+    &'static str,
+);
+
+const ROWS: [Row; 13] = [
+    (
+        REPORT,
+        "",
+        ("-", "-"),
+        Status::Done,
+        "   not shown to be cheapest\n",
+    ),
+    (
+        REPORT,
+        "# blocked AB 0 cut 1 right 1 lengths 0 0 1\n# a note\n",
+        ("-", "-"),
+        Status::Done,
+        "   not shown to be cheapest\n",
+    ),
+    (
+        REPORT,
+        TREE,
+        ("-", "-"),
+        Status::Done,
+        "   cheapest (branch tree of 7 boxes)\n",
+    ),
+    (
+        REPORT,
+        TREE,
+        ("# cheapest", "# above 30.000"),
+        Status::Done,
+        "   no plan costs less than 30.000 (branch tree of 7 boxes)\n",
+    ),
+    (
+        EMPTY,
+        TREE,
+        ("-", "-"),
+        Status::Done,
+        "  the report has no plan\n",
+    ),
+    (
+        SHORT,
+        "",
+        ("-", "-"),
+        Status::BadReport,
+        "report:2:11: another section is expected here, or its parenthesis, or the end of the report
+    NOTES ( ) POOL ( )
+              ^
+  the sections are NOTES, JOURNAL, POOL and OUTCOMES, in this order and each in parentheses
+refused report section at 38
+",
+    ),
+    (
+        DEARER,
+        TREE,
+        ("-", "-"),
+        Status::Rejected,
+        "report: the cost isn't what the modules and setups cost
+  the report isn't one that the planner prints for these files; nothing of it is shown
+rejected outcome 1 cost-differs 31.000 30.000
+",
+    ),
+    (
+        REPORT,
+        TREE,
+        ("# empty 4", "# empty 5"),
+        Status::Rejected,
+        "report: the branch tree below the report doesn't show what it says
+  line 2 of its nodes doesn't hold
+rejected tree 1
+",
+    ),
+    (
+        REPORT,
+        TREE,
+        ("# closed 2 1 7\n", ""),
+        Status::Rejected,
+        "report: the branch tree below the report doesn't show what it says
+  a node is missing after the last one
+rejected tree 6
+",
+    ),
+    (
+        REPORT,
+        TREE,
+        ("# cheapest", "# above 20.000"),
+        Status::Rejected,
+        "report: the branch tree below the report doesn't show what it says
+  its last line doesn't follow from its nodes
+rejected tree 8
+",
+    ),
+    (
+        REPORT,
+        TREE,
+        ("box-cut 0", "box-cut 1"),
+        Status::BadReport,
+        "report:16:11: this number is out of its range, or a length or a proof line is one too many or too few here
+    # box-cut 1 0 12000 1 0 1
+              ^
+  were the lines below the report changed by hand?
+refused report limit at 558
+",
+    ),
+    (
+        REPORT,
+        TREE,
+        ("# empty 7", "# a note"),
+        Status::BadReport,
+        "report:29:3: another proof line is expected here, or another word in it
+    # a note
+      ^
+  were the lines below the report changed by hand?
+refused report token at 823
+",
+    ),
+    (
+        REPORT,
+        TREE,
+        ("# cheapest\n", ""),
+        Status::BadReport,
+        "report:31:1: a proof line ends too early, or the lines end before they say what they show\n    \n    ^\n  are they cut off? the last one is cheapest or above\nrefused report ended at 846\n",
+    ),
+];
+
+/// The triangle of links AB, BC and AC with modules of 10.00 for 5.00, a demand of 12.00 from A to C, and the failure of each link alone.
+fn worked(alloc: Global) -> Option<Problem> {
+    problem(alloc, triangle(alloc, 0).ok()?, &[(0, 2, 12000)]).ok()
+}
+
+/// A report with lines below it, where a part of these is replaced once.
+fn text_of(alloc: Global, row: &Row) -> Result<Bytes, NoMemory> {
+    let mut text = List::from_slice(alloc, row.0.as_bytes())?;
+    match row.1.split_once(row.2.0) {
+        Some((front, rest)) if row.2.0 != "-" => {
+            text.append(front.as_bytes())?;
+            text.append(row.2.1.as_bytes())?;
+            text.append(rest.as_bytes())?;
+        }
+        _ => text.append(row.1.as_bytes())?,
+    }
+    Ok(text)
+}
+
+/// Whether the first text has the second as a part.
+fn has_part(text: &[u8], part: &[u8]) -> bool {
+    for at in 0..text.len() {
+        if text[at..].starts_with(part) {
+            return true;
+        }
+    }
+    false
+}
+
+/// Whether the report of a row comes to what it says; nothing where there is no memory.
+fn comes_to(alloc: Global, row: &Row) -> Option<bool> {
+    let p = worked(alloc)?;
+    let text = text_of(alloc, row).ok()?;
+    match view_report(alloc, "data/triangle.txt", "report", &p, text.items()) {
+        Ok(view) => Some(row.3 == Status::Done && has_part(view.items(), row.4.as_bytes())),
+        Err(Halt::Told(told)) => {
+            Some(told.status == row.3 && told.message.items() == row.4.as_bytes())
+        }
+        Err(Halt::NoMemory) => None,
+    }
+}
+
+/// The first row that doesn't come to what it says.
+fn first_wrong(alloc: Global) -> usize {
+    for (i, row) in ROWS.iter().enumerate() {
+        if comes_to(alloc, row) != Some(true) {
+            return i;
+        }
+    }
+    ROWS.len()
+}
+
+#[test]
+fn reports_come_to_their_rows(rt: HostRuntime) {
+    assert_eq!(rt; first_wrong(rt.alloc()), 13);
+}

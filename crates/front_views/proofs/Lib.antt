@@ -1,0 +1,7 @@
+mod SameDemands
+mod KeptDemands
+pub mod SoundOutcomes
+mod FaultsTold
+mod TreesHeld
+mod TreesRead
+mod Findings

@@ -1,0 +1,17 @@
+use Rattle.view_text.specs.Terms.{problem_case}
+use Rattle.front_views.proofs.TreesRead.{none_read, tree_fails, tree_read}
+use Rattle.front_views.proofs.plan_proof.tree_proof.Goals as goal
+
+pub returns-clause-reads : goal.returns-clause-reads
+returns-clause-reads c =
+    tree_read c.args.name.now (problem_case c.args.problem.now) c.args.plan.now c.args.bytes.now c.in_ok-tree.tree c.checked_tree.result
+    c.in_ok-tree.ensures.spelled c.checked_tree.ensures.accepted c.checked_tree.ensures.told
+
+pub returns-clause-fails : goal.returns-clause-fails
+returns-clause-fails c =
+    tree_fails c.args.name.now (problem_case c.args.problem.now) c.args.plan.now c.args.bytes.now c.in_ok-tree.tree c.checked_tree.result
+    c.in_ok-tree.ensures.spelled c.checked_tree.ensures.rejected
+
+pub returns-in_err-tree-clause-fails : goal.returns-in_err-tree-clause-fails
+returns-in_err-tree-clause-fails c =
+    none_read c.args.name.now (problem_case c.args.problem.now) c.args.plan.now c.args.bytes.now _ c.in_err-tree.ensures.refused

@@ -1,0 +1,4 @@
+pub mod AcceptedReports
+pub mod ProofLines
+pub mod ReportEnds
+pub mod Terms

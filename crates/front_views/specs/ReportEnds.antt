@@ -1,0 +1,56 @@
+-- what the bytes of a report come to: its view, or a message
+use Rattle.std.specs.Prelude.{◌≡◌, ℕ, ◌⊎◌, List, [], ◌++◌, Err, codes}
+use Rattle.plan_terms.specs.Terms.{Case, Notes}
+use Rattle.plan_report.specs.Terms.{KnownNames, SpellsReport, known_to}
+use Rattle.plan_types.specs.declared.report.Report.{Report}
+use Rattle.plan_checker.specs.declared.finding.Finding.{Finding}
+use Rattle.report_words.specs.Terms.{report_kind_word}
+use Rattle.report_reader.specs.ReadingReport.{report_of}
+use Rattle.report_checker.specs.ReportFindings.{IsFirstOfReport}
+use Rattle.check_answers.specs.Checks.{IsJudged}
+use Rattle.check_answers.specs.declared.status.Status.{Status}
+use Rattle.check_answers.specs.declared.status.Status.TheVariants.{BadReport, Done, Rejected}
+use Rattle.fault_texts.specs.FaultTexts.{note_text}
+use Rattle.fault_messages.specs.FindingMessages.{finding_message}
+use Rattle.fault_messages.specs.ReportMessages.{report_message}
+use Rattle.view_text.specs.Terms.{IsReportView}
+use Rattle.view_text.specs.declared.proof.CostProof.{CostProof}
+use Rattle.front_files.specs.Messages.{ShowsFault}
+use Rattle.front_views.specs.AcceptedReports.{IsAcceptedReport}
+use Rattle.front_views.specs.ProofLines.{FailsAtLines, ReadsProof}
+
+-- the bytes spell no report of these names, and the message shows the place of their first fault
+abbrev pub ShowsReportFault : KnownNames → List ℕ → List ℕ → List ℕ → Type 0
+ShowsReportFault names name =
+    ShowsFault (SpellsReport names) (λ bytes at kind. report_of names bytes ≡ Err (at, kind)) (codes "report") report_kind_word (report_message names.places) name
+
+-- what is said of a finding, and what that means
+abbrev pub finding_text : List ℕ → Finding → List ℕ
+finding_text name finding = name ++ codes ": " ++ (finding_message finding).0 ++ codes "\n" ++ note_text (finding_message finding).1
+
+-- the message says this of the report's file, and ends in the planner's own line
+abbrev pub SaysFinding : List ℕ → Case → Notes → Report → Finding → List ℕ → Type 0
+SaysFinding name p notes r finding message = (line : List ℕ) × IsJudged p notes r Rejected line × (message ≡ finding_text name finding ++ line)
+
+-- the message tells the first finding of the report
+abbrev pub TellsFinding : List ℕ → Case → Notes → Report → List ℕ → Type 0
+TellsFinding name p notes r message = (outcome : ℕ) × (finding : Finding) × IsFirstOfReport notes p r outcome finding × SaysFinding name p notes r finding message
+
+-- What an accepted report comes to, whose bytes these are: a message of the lines below it, or its view, with what they show.
+abbrev pub ViewsAccepted : List ℕ → List ℕ → Case → Report → List ℕ → Status → List ℕ → List ℕ → Type 0
+ViewsAccepted network name p r bytes status text message =
+    ((text ≡ []) × FailsAtLines name p r.outcomes bytes status message)
+    ⊎ ((status ≡ Done) × (message ≡ []) × ((proof : CostProof) × ReadsProof p r.outcomes bytes proof × IsReportView network p r.outcomes proof text))
+
+-- what a report comes to: a message of its first finding, or it is accepted
+abbrev pub ViewsReport : List ℕ → List ℕ → Case → Notes → Report → List ℕ → Status → List ℕ → List ℕ → Type 0
+ViewsReport network name p notes r bytes status text message =
+    ((status ≡ Rejected) × (text ≡ []) × TellsFinding name p notes r message)
+    ⊎ (IsAcceptedReport p notes r × ViewsAccepted network name p r bytes status text message)
+
+-- What the bytes of a report's file come to: a message of their first fault, or what the report that they spell comes to. The view is of the
+-- network's file of the first name, and a message of the report's file of the second.
+abbrev pub EndsReport : List ℕ → List ℕ → Case → Notes → List ℕ → Status → List ℕ → List ℕ → Type 0
+EndsReport network name p notes bytes status text message =
+    ((status ≡ BadReport) × (text ≡ []) × ShowsReportFault (known_to p) name bytes message)
+    ⊎ ((r : Report) × SpellsReport (known_to p) bytes r × ViewsReport network name p notes r bytes status text message)

@@ -1,0 +1,4 @@
+-- The words of this crate, passed on from one place to other crates. Declares nothing.
+pub use Rattle.front_views.specs.AcceptedReports.{IsAcceptedReport}
+pub use Rattle.front_views.specs.ProofLines.{HasTreeLine, ReadsProof, SpellsPlanTree, proof_by, told_by}
+pub use Rattle.front_views.specs.ReportEnds.{EndsReport, ShowsReportFault, ViewsReport}

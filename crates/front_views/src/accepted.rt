@@ -1,0 +1,61 @@
+ghost use Rattle.std.specs.Prelude.{OnOk};
+ghost use Rattle.view_text.specs.Terms.{AddsText, HoldsOfSingle, IsFirstBlock, IsReportView, problem_case};
+ghost use Rattle.front_views.specs.AcceptedReports.{IsAcceptedReport};
+
+use net_core::{Bytes, NoMemory, Problem};
+use plan_types::Report;
+use std::alloc::Global;
+use view_text::{CostProof, put_first_block, put_view};
+
+/// Puts the view of an accepted report last, of a network whose file has this name, with what is known of the cost of a single plan. Where
+/// memory runs out, the text may end in part of it. It takes the time and the memory of `put_view`.
+///
+/// ```text
+/// // of a report of the triangle's plan, which a branch tree of 1 box shows to be cheapest
+/// put_accepted(&mut text, alloc, b"data/triangle.txt", &problem, &report, CostProof::Cheapest(1))?;
+/// ```
+pub fn put_accepted(
+    text: &mut Bytes,
+    alloc: Global,
+    network: &[u8],
+    problem: &Problem,
+    report: &Report,
+    proof: CostProof,
+) -> Result<(), NoMemory>
+    requires accepted { IsAcceptedReport (problem_case problem.now) problem.now.net.notes report.now }
+    requires holds { HoldsOfSingle (problem_case problem.now) proof report.now.outcomes }
+    ensures { OnOk result (AddsText (IsReportView network.now (problem_case problem.now) report.now.outcomes proof) text.old text.new) }
+{
+    put_view(
+        text,
+        alloc,
+        network,
+        problem,
+        report.outcomes.items(),
+        proof,
+    )
+}
+
+/// Puts the first block of that view last. Where memory runs out, the text may end in part of it. It takes the time and the memory of
+/// `put_first_block`.
+pub fn put_accepted_block(
+    text: &mut Bytes,
+    alloc: Global,
+    network: &[u8],
+    problem: &Problem,
+    report: &Report,
+    proof: CostProof,
+) -> Result<(), NoMemory>
+    requires accepted { IsAcceptedReport (problem_case problem.now) problem.now.net.notes report.now }
+    requires holds { HoldsOfSingle (problem_case problem.now) proof report.now.outcomes }
+    ensures { OnOk result (AddsText (IsFirstBlock network.now (problem_case problem.now) report.now.outcomes proof) text.old text.new) }
+{
+    put_first_block(
+        text,
+        alloc,
+        network,
+        problem,
+        report.outcomes.items(),
+        proof,
+    )
+}
