@@ -1,5 +1,5 @@
 -- bytes that spell nothing, with what is said of their first fault
-use Rattle.std.proofs.Common.{◌≡◌, ℕ, List, codes, refl, subst}
+use Rattle.std.proofs.Common.{◌≡◌, ℕ, List, refl, subst}
 use Rattle.check_answers.specs.declared.status.Status.{Status}
 use Rattle.input_files.specs.Refusals.{refusal_line}
 use Rattle.front_files.specs.Messages.{ShowsFault, ShowsPlace}

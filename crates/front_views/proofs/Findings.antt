@@ -1,5 +1,5 @@
 -- a report with a first finding isn't clean, and is judged so
-use Rattle.std.proofs.Common.{◌≡◌, ℕ, zero, suc, List, [], ◌∷◌, Some, All, get_or, inl, inr, subst, sym, ⊎_elim}
+use Rattle.std.proofs.Common.{◌≡◌, ℕ, zero, suc, List, [], ◌∷◌, All, get_or, inl, inr, subst}
 use Rattle.net_core.proofs.Library.{get_or_from_slice_get, slice_get_within}
 use Rattle.plan_terms.specs.Terms.{Case, Notes}
 use Rattle.plan_types.specs.declared.report.Outcome.{Outcome}

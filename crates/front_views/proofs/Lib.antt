@@ -5,3 +5,4 @@ mod FaultsTold
 mod TreesHeld
 mod TreesRead
 mod Findings
+mod TreeWords

@@ -1,5 +1,5 @@
 -- the plans of an accepted report are sound
-use Rattle.std.proofs.Common.{◌≡◌, ◌≢◌, ℕ, List, All, get_or, length, subst, sym, take}
+use Rattle.std.proofs.Common.{◌≡◌, ℕ, List, All, get_or, length, subst, sym, take}
 use Rattle.plan_terms.specs.Terms.{AreDemands, Case, Demand, Notes}
 use Rattle.plan_types.specs.Terms.{IsCarryingPlan, IsCertifiedPlan}
 use Rattle.plan_types.specs.declared.plan.Plan.{Plan}
@@ -10,7 +10,7 @@ use Rattle.plan_report.specs.Terms.{IsOutcomeInForm, IsPlanInForm, known_to}
 use Rattle.plan_view.specs.Terms.{IsSoundPlan}
 use Rattle.plan_checker.specs.Terms.{HoldNone, IsAcceptedPlan}
 use Rattle.plan_checker.specs.declared.finding.Finding.TheVariants.{DemandsDiffer}
-use Rattle.report_checker.specs.Outcomes.{IsAcceptedOutcome, case_at, outcome_findings}
+use Rattle.report_checker.specs.Outcomes.{IsAcceptedOutcome, outcome_findings}
 use Rattle.cut_pool.specs.Histories.{demands_left}
 use Rattle.view_text.specs.Terms.{HasSoundPlan, case_of_plan}
 use Rattle.front_views.specs.AcceptedReports.{IsAcceptedReport}

@@ -3,7 +3,6 @@ use Rattle.std.proofs.Common.{◌≡◌, ◌∙◌, ℕ, Bool, true, false, List
 use Rattle.net_core.proofs.Library.{false≢true}
 use Rattle.plan_terms.specs.Terms.{Case}
 use Rattle.plan_types.specs.declared.plan.Plan.{Plan}
-use Rattle.check_answers.specs.declared.status.Status.{Status}
 use Rattle.check_answers.specs.declared.status.Status.TheVariants.{BadReport, Rejected}
 use Rattle.tree_check.specs.Proofs.{IsAcceptedProof}
 use Rattle.proof_reader.specs.CommentTexts.{comments_from}

@@ -1,5 +1,5 @@
 -- what the comment lines below a report show of its plan
-use Rattle.std.specs.Prelude.{◌≡◌, ℕ, ◌+◌, ◌⊎◌, true, false, List, [], ◌∷◌, ◌++◌, Err, codes, cond, decimal, length, nat_eq, nat_lt}
+use Rattle.std.specs.Prelude.{◌≡◌, ℕ, ◌+◌, ◌⊎◌, true, List, [], ◌∷◌, ◌++◌, Err, codes, cond, decimal, length, nat_eq, nat_lt}
 use Rattle.plan_terms.specs.Terms.{Case}
 use Rattle.plan_report.specs.Terms.{known_to}
 use Rattle.plan_types.specs.declared.plan.Plan.{Plan}
@@ -7,7 +7,6 @@ use Rattle.plan_types.specs.declared.report.Outcome.{Outcome}
 use Rattle.plan_types.specs.declared.report.Outcome.TheVariants.{Planned, Unsurvivable}
 use Rattle.snd_tokens.specs.Terms.{tokens_from}
 use Rattle.report_words.specs.Terms.{report_kind_word}
-use Rattle.report_words.specs.declared.fault.ReportKind.{ReportKind}
 use Rattle.check_answers.specs.declared.status.Status.{Status}
 use Rattle.check_answers.specs.declared.status.Status.TheVariants as ends
 use Rattle.tree_check.specs.Proofs.{AnswersProof, IsAcceptedProof}
@@ -74,11 +73,13 @@ ShowsNoTree name p plan =
     ShowsFault (SpellsPlanTree p plan) (λ bytes at kind. tree_at (known_to p) plan.demands (lines_begin bytes) bytes ≡ Err (at, kind))
     (codes "report") report_kind_word proof_message name
 
--- what is wrong with a tree of so many nodes, of which a check rejects node k: it doesn't hold, or is missing, or the last line doesn't follow
+-- what is wrong past the nodes of a tree: one is missing, or the last line doesn't follow
+abbrev pub end_wrong : ℕ → ℕ → List ℕ
+end_wrong nodes k = cond (nat_eq k nodes) (codes "a node is missing after the last one") (codes "its last line doesn't follow from its nodes")
+
+-- what is wrong with a tree of so many nodes, of which a check rejects node k
 abbrev pub tree_wrong : ℕ → ℕ → List ℕ
-tree_wrong nodes k =
-    cond (nat_lt k nodes) (codes "line " ++ decimal (k + 1) ++ codes " of its nodes doesn't hold")
-    (cond (nat_eq k nodes) (codes "a node is missing after the last one") (codes "its last line doesn't follow from its nodes"))
+tree_wrong nodes k = cond (nat_lt k nodes) (codes "line " ++ decimal (k + 1) ++ codes " of its nodes doesn't hold") (end_wrong nodes k)
 
 -- the message of such a tree
 abbrev pub tree_message : List ℕ → ℕ → ℕ → List ℕ

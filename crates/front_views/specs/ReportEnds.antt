@@ -24,13 +24,13 @@ abbrev pub ShowsReportFault : KnownNames → List ℕ → List ℕ → List ℕ 
 ShowsReportFault names name =
     ShowsFault (SpellsReport names) (λ bytes at kind. report_of names bytes ≡ Err (at, kind)) (codes "report") report_kind_word (report_message names.places) name
 
--- what is said of a finding, and what that means
-abbrev pub finding_text : List ℕ → Finding → List ℕ
-finding_text name finding = name ++ codes ": " ++ (finding_message finding).0 ++ codes "\n" ++ note_text (finding_message finding).1
+-- what is said of a file: what is wrong, and what that means
+abbrev pub said_text : List ℕ → List ℕ × List ℕ → List ℕ
+said_text name words = name ++ codes ": " ++ words.0 ++ codes "\n" ++ note_text words.1
 
--- the message says this of the report's file, and ends in the planner's own line
+-- the message says of the report's file what this finding says, and ends in the planner's own line
 abbrev pub SaysFinding : List ℕ → Case → Notes → Report → Finding → List ℕ → Type 0
-SaysFinding name p notes r finding message = (line : List ℕ) × IsJudged p notes r Rejected line × (message ≡ finding_text name finding ++ line)
+SaysFinding name p notes r finding message = (line : List ℕ) × IsJudged p notes r Rejected line × (message ≡ said_text name (finding_message finding) ++ line)
 
 -- the message tells the first finding of the report
 abbrev pub TellsFinding : List ℕ → Case → Notes → Report → List ℕ → Type 0

@@ -5,11 +5,11 @@ ghost use Rattle.check_answers.specs.Checks.{IsJudged};
 ghost use Rattle.view_text.specs.Terms.{problem_case};
 ghost use Rattle.front_files.specs.Endings.{Halts};
 ghost use Rattle.front_views.specs.AcceptedReports.{IsAcceptedReport};
-ghost use Rattle.front_views.specs.ReportEnds.{SaysFinding, TellsFinding, finding_text};
+ghost use Rattle.front_views.specs.ReportEnds.{SaysFinding, TellsFinding, said_text};
 
 use check_answers::{Status, answer_check};
 use fault_messages::finding_sentence;
-use fault_texts::put_note;
+use fault_texts::{Sentence, put_note};
 use front_files::{Halt, told};
 use net_core::{Bytes, List, NoMemory, Problem};
 use plan_checker::{CheckAnswer, Finding};
@@ -17,11 +17,10 @@ use plan_types::Report;
 use report_checker::check_report;
 use std::alloc::Global;
 
-/// Puts what a finding of a report's file says last, and what that means.
-fn put_finding(text: &mut Bytes, name: &str, finding: Finding) -> Result<(), NoMemory>
-    ensures { OnOk result (text.new ≡ text.old ++ finding_text name.now finding) }
+/// Puts a sentence on a file last.
+fn put_said(text: &mut Bytes, name: &str, sentence: Sentence) -> Result<(), NoMemory>
+    ensures { OnOk result (text.new ≡ text.old ++ said_text name.now (sentence.wrong.now, sentence.help.now)) }
 {
-    let sentence = finding_sentence(finding);
     text.append(name.as_bytes())?;
     text.append(b": ")?;
     text.append(sentence.wrong.as_bytes())?;
@@ -53,7 +52,7 @@ fn finding_message(
 {
     let line = rejected_line(alloc, problem, report)?;
     let mut text = List::new(alloc);
-    put_finding(&mut text, name, finding)?;
+    put_said(&mut text, name, finding_sentence(finding))?;
     text.append(line.items())?;
     Ok(text)
 }

@@ -1,9 +1,9 @@
-ghost use Rattle.std.specs.Prelude.{◌≡◌, ◌+◌, ◌++◌, IfErr, IfOk, OnOk, length};
+ghost use Rattle.std.specs.Prelude.{◌≡◌, ◌+◌, ◌++◌, IfErr, IfOk, OnOk, codes, decimal, length};
 ghost use Rattle.plan_terms.specs.Terms.{AreDemands};
 ghost use Rattle.tree_check.specs.Proofs.{IsAcceptedProof};
 ghost use Rattle.view_text.specs.Terms.{HoldsProof, case_of_plan, problem_case};
 ghost use Rattle.front_files.specs.Endings.{Halts};
-ghost use Rattle.front_views.specs.ProofLines.{TellsRejectedTree, proof_by, told_by, tree_message, tree_wrong};
+ghost use Rattle.front_views.specs.ProofLines.{TellsRejectedTree, end_wrong, proof_by, told_by, tree_message, tree_wrong};
 
 use check_answers::Status;
 use front_files::{Halt, told};
@@ -28,19 +28,34 @@ fn told_by(boxes: u32, verdict: Verdict) -> CostProof
     }
 }
 
+/// Puts that a node doesn't hold last.
+fn put_node(text: &mut Bytes, node: u32) -> Result<(), NoMemory>
+    ensures { OnOk result (text.new ≡ text.old ++ codes "line " ++ decimal (node + 1) ++ codes " of its nodes doesn't hold") }
+{
+    text.append(b"line ")?;
+    put_decimal(text, node as u128 + 1)?;
+    text.append(b" of its nodes doesn't hold")
+}
+
+/// What is wrong past so many nodes.
+fn end_wrong(nodes: usize, node: u32) -> &'static [u8]
+    ensures { result.now ≡ end_wrong nodes node }
+{
+    if node as usize == nodes {
+        b"a node is missing after the last one"
+    } else {
+        b"its last line doesn't follow from its nodes"
+    }
+}
+
 /// Puts what is wrong with a tree of so many nodes last, of which this one is rejected.
 fn put_wrong(text: &mut Bytes, nodes: usize, node: u32) -> Result<(), NoMemory>
     ensures { OnOk result (text.new ≡ text.old ++ tree_wrong nodes node) }
 {
     if (node as usize) < nodes {
-        text.append(b"line ")?;
-        put_decimal(text, node as u128 + 1)?;
-        return text.append(b" of its nodes doesn't hold");
+        return put_node(text, node);
     }
-    if node as usize == nodes {
-        return text.append(b"a node is missing after the last one");
-    }
-    text.append(b"its last line doesn't follow from its nodes")
+    text.append(end_wrong(nodes, node))
 }
 
 /// What is said of a tree of so many nodes, of which this one is rejected.

@@ -1,3 +1,4 @@
+use Rattle.net_core.proofs.Library.{err_from_is_err_and}
 use Rattle.view_text.specs.Terms.{problem_case}
 use Rattle.front_views.proofs.TreesRead.{none_read, tree_fails, tree_read}
 use Rattle.front_views.proofs.plan_proof.tree_proof.Goals as goal
@@ -14,4 +15,5 @@ returns-clause-fails c =
 
 pub returns-in_err-tree-clause-fails : goal.returns-in_err-tree-clause-fails
 returns-in_err-tree-clause-fails c =
-    none_read c.args.name.now (problem_case c.args.problem.now) c.args.plan.now c.args.bytes.now _ c.in_err-tree.ensures.refused
+    let e = err_from_is_err_and c.from_residual.result c.from_residual.ensures.1 in
+    rw (e.1, e.2) (none_read c.args.name.now (problem_case c.args.problem.now) c.args.plan.now c.args.bytes.now c.in_err-tree.field-0.0 c.in_err-tree.ensures.refused)

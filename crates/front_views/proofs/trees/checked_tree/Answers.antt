@@ -1,4 +1,4 @@
-use Rattle.std.proofs.Common.{◌≡◌, ◌+◌, ◌<◌, ◌^◌, ℕ, ap, arith, length, refl, subst, sym}
+use Rattle.std.proofs.Common.{◌≡◌, ℕ, ap, arith, length, refl, subst, sym}
 use Rattle.check_answers.specs.declared.status.Status.TheVariants as status
 use Rattle.tree_check.specs.Proofs.{AnswersProof, IsAcceptedProof}
 use Rattle.tree_check.specs.declared.proof.Proof.{Proof}

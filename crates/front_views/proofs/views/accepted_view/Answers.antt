@@ -1,4 +1,5 @@
 use Rattle.std.proofs.Common.{◌≡◌, [], List, ℕ, inl, inr, refl, subst, sym}
+use Rattle.net_core.proofs.Library.{err_from_is_err_and}
 use Rattle.view_text.specs.Terms.{IsReportView, problem_case}
 use Rattle.front_files.proofs.Causing.{halt_map}
 use Rattle.front_views.specs.ProofLines.{FailsAtLines}
@@ -8,20 +9,23 @@ use Rattle.front_views.proofs.views.accepted_view.Goals as goal
 
 pub returns-in_err-proof : goal.returns-in_err-proof
 returns-in_err-proof c =
+    let e = err_from_is_err_and c.from_residual.result c.from_residual.ensures.1 in
     let p = problem_case c.args.problem.now in
     let network = c.args.network.now in
     let name = c.args.name.now in
     let r = c.args.report.now in
     let bytes = c.args.bytes.now in
-    halt_map (FailsAtLines name p r.outcomes bytes) (λ s message. ViewsAccepted network name p r bytes s [] message) c.in_err-proof.field-0
-    (λ s message fails. inl (refl, fails)) (rw c.items.ensures at c.in_err-proof.ensures.fails)
+    rw (e.1, e.2) (halt_map (FailsAtLines name p r.outcomes bytes) (λ s message. ViewsAccepted network name p r bytes s [] message) c.in_err-proof.field-0.0
+    (λ s message fails. inl (refl, fails)) (rw c.items.ensures at c.in_err-proof.ensures.fails))
 
 pub returns : goal.returns
 returns c =
     let p = problem_case c.args.problem.now in
+    let proof = c.in_ok-proof.proof in
     let put = c.in_ok-put_accepted.ensures in
     let shown : c.put_accepted.new.text ≡ put.0 = rw c.new-text.ensures at put.2 in
-    inr (refl, refl, (c.in_ok-proof.proof, rw c.items.ensures at c.in_ok-proof.ensures.reads, subst (λ (x : List ℕ). IsReportView c.args.network.now p c.args.report.now.outcomes c.in_ok-proof.proof x) (sym shown) put.1))
+    let view : IsReportView c.args.network.now p c.args.report.now.outcomes proof put.0 = rw c.as_bytes.ensures.value at put.1 in
+    inr (refl, refl, (proof, rw c.items.ensures at c.in_ok-proof.ensures.reads, subst (λ (x : List ℕ). IsReportView c.args.network.now p c.args.report.now.outcomes proof x) (sym shown) view))
 
 pub read_proof-requires : goal.read_proof-requires
 read_proof-requires c =
