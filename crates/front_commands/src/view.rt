@@ -4,9 +4,9 @@ ghost use Rattle.front_files.specs.Endings.{FailsReading, HasFrontCause};
 ghost use Rattle.front_files.specs.FrontInputs.{named_case};
 ghost use Rattle.front_commands.specs.Endings.{EndsView, ViewsFile};
 
-use crate::words::ViewWords;
 use front_files::{Halt, fetch_report, load_case};
 use front_views::view_report;
+use front_words::ViewWords;
 use net_core::{Bytes, Problem};
 use outside_io::Shelf;
 use std::alloc::Global;
