@@ -1,4 +1,4 @@
-use Rattle.std.proofs.Common.{◌≡◌, ◌∙◌, ◌∷◌, List, ℕ, None, Some, ap, arith, map, string_bytes, sym}
+use Rattle.std.proofs.Common.{◌≡◌, ◌∙◌, ◌∷◌, None, Some, ap, arith, map, string_bytes, sym}
 use Rattle.front_words.specs.inner.Causes.{given_words}
 use Rattle.front_words.proofs.Giving.{option_taken, word_taken}
 use Rattle.front_words.proofs.given.take.Goals as goal
