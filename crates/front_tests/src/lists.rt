@@ -1,8 +1,7 @@
 use crate::runs::{Row, comes_to};
 use front_commands::Status;
 
-const USAGE: &str =
-    "these words are no command; zorgwint --help tells which are
+const USAGE: &str = "these words are no command; zorgwint --help tells which are
 usage: zorgwint view NET REPORT [--model F] [--failures F] [--survive links] | failures NET | help | --help | --version
 ";
 
@@ -65,13 +64,7 @@ const ROWS: [Row; 15] = [
     ),
     ("plan triangle", SOUND, Status::BadWords, "", USAGE),
     ("help me", SOUND, Status::BadWords, "", USAGE),
-    (
-        "failures nothing",
-        SOUND,
-        Status::NoFile,
-        "",
-        NOTHING,
-    ),
+    ("failures nothing", SOUND, Status::NoFile, "", NOTHING),
     (
         "failures apart",
         SOUND,
@@ -110,27 +103,129 @@ refused network fixed-link at 93
 /// Words with options, most of them of a report that isn't there, so that the files before it are read.
 const OPTIONS: [Row; 22] = [
     ("view triangle nothing", SOUND, Status::NoFile, "", NOTHING),
-    ("view --survive links triangle nothing", SOUND, Status::NoFile, "", NOTHING),
-    ("--survive links view triangle nothing", SOUND, Status::NoFile, "", NOTHING),
-    ("view triangle nothing --model plain", SOUND, Status::NoFile, "", NOTHING),
-    ("view triangle --failures list nothing", SOUND, Status::NoFile, "", NOTHING),
-    ("view triangle nothing --survive links --model plain", SOUND, Status::NoFile, "", NOTHING),
-    ("--model plain view -- -x nothing", SOUND, Status::NoFile, "", NOTHING),
+    (
+        "view --survive links triangle nothing",
+        SOUND,
+        Status::NoFile,
+        "",
+        NOTHING,
+    ),
+    (
+        "--survive links view triangle nothing",
+        SOUND,
+        Status::NoFile,
+        "",
+        NOTHING,
+    ),
+    (
+        "view triangle nothing --model plain",
+        SOUND,
+        Status::NoFile,
+        "",
+        NOTHING,
+    ),
+    (
+        "view triangle --failures list nothing",
+        SOUND,
+        Status::NoFile,
+        "",
+        NOTHING,
+    ),
+    (
+        "view triangle nothing --survive links --model plain",
+        SOUND,
+        Status::NoFile,
+        "",
+        NOTHING,
+    ),
+    (
+        "--model plain view -- -x nothing",
+        SOUND,
+        Status::NoFile,
+        "",
+        NOTHING,
+    ),
     ("view - nothing", SOUND, Status::NoFile, "", NOTHING),
     ("view nothing -", SOUND, Status::NoFile, "", NOTHING),
-    ("view triangle nothing --model nothing", SOUND, Status::NoFile, "", NOTHING),
-    ("view triangle nothing --model plain --failures list", SOUND, Status::BadFailures, "", UNUSED),
-    ("view triangle nothing --model triangle", SOUND, Status::BadModel, "", NO_MODEL),
-    ("view triangle nothing --failures triangle", SOUND, Status::BadFailures, "", NO_LIST),
+    (
+        "view triangle nothing --model nothing",
+        SOUND,
+        Status::NoFile,
+        "",
+        NOTHING,
+    ),
+    (
+        "view triangle nothing --model plain --failures list",
+        SOUND,
+        Status::BadFailures,
+        "",
+        UNUSED,
+    ),
+    (
+        "view triangle nothing --model triangle",
+        SOUND,
+        Status::BadModel,
+        "",
+        NO_MODEL,
+    ),
+    (
+        "view triangle nothing --failures triangle",
+        SOUND,
+        Status::BadFailures,
+        "",
+        NO_LIST,
+    ),
     ("view triangle", SOUND, Status::BadWords, "", USAGE),
-    ("view triangle nothing triangle", SOUND, Status::BadWords, "", USAGE),
+    (
+        "view triangle nothing triangle",
+        SOUND,
+        Status::BadWords,
+        "",
+        USAGE,
+    ),
     ("view - -", SOUND, Status::BadWords, "", USAGE),
-    ("view triangle nothing --model", SOUND, Status::BadWords, "", USAGE),
-    ("view triangle nothing --model plain --model plain", SOUND, Status::BadWords, "", USAGE),
-    ("view triangle nothing --survive nodes", SOUND, Status::BadWords, "", USAGE),
-    ("view triangle nothing --survive links --failures list", SOUND, Status::BadWords, "", USAGE),
-    ("view triangle nothing --colour red", SOUND, Status::BadWords, "", USAGE),
-    ("failures triangle --model plain", SOUND, Status::BadWords, "", USAGE),
+    (
+        "view triangle nothing --model",
+        SOUND,
+        Status::BadWords,
+        "",
+        USAGE,
+    ),
+    (
+        "view triangle nothing --model plain --model plain",
+        SOUND,
+        Status::BadWords,
+        "",
+        USAGE,
+    ),
+    (
+        "view triangle nothing --survive nodes",
+        SOUND,
+        Status::BadWords,
+        "",
+        USAGE,
+    ),
+    (
+        "view triangle nothing --survive links --failures list",
+        SOUND,
+        Status::BadWords,
+        "",
+        USAGE,
+    ),
+    (
+        "view triangle nothing --colour red",
+        SOUND,
+        Status::BadWords,
+        "",
+        USAGE,
+    ),
+    (
+        "failures triangle --model plain",
+        SOUND,
+        Status::BadWords,
+        "",
+        USAGE,
+    ),
 ];
 
 #[test]
