@@ -1,6 +1,6 @@
 /// A report of a plan of the triangle, where each link fails alone.
 pub(crate) const REPORT: &str = "?planner report; version: 1
-NOTES ( ) JOURNAL ( ) POOL ( ( 0 state 3 right 24000 ( 1 1 0 ) ) ( 1 state 1 right 12000 ( 0 0 1 ) ) )
+NOTES ( ) JOURNAL ( ( 1 cut 0 ) ( 2 cut 1 ) ) POOL ( ( 0 state 3 right 24000 ( 1 1 0 ) ) ( 1 state 1 right 12000 ( 0 0 1 ) ) )
 OUTCOMES ( PLAN ( caller 1 plan 1 version 0 position 0
   DEMANDS ( A ( A C ) 12.000 )
   cost 30.000 bound 20.000 raw 18000 1
@@ -18,7 +18,7 @@ OUTCOMES ( PLAN ( caller 1 plan 1 version 0 position 0
 
 /// The same with another cost.
 pub(crate) const DEARER: &str = "?planner report; version: 1
-NOTES ( ) JOURNAL ( ) POOL ( ( 0 state 3 right 24000 ( 1 1 0 ) ) ( 1 state 1 right 12000 ( 0 0 1 ) ) )
+NOTES ( ) JOURNAL ( ( 1 cut 0 ) ( 2 cut 1 ) ) POOL ( ( 0 state 3 right 24000 ( 1 1 0 ) ) ( 1 state 1 right 12000 ( 0 0 1 ) ) )
 OUTCOMES ( PLAN ( caller 1 plan 1 version 0 position 0
   DEMANDS ( A ( A C ) 12.000 )
   cost 31.000 bound 20.000 raw 18000 1

@@ -112,7 +112,7 @@ rejected tree 8
     # box-cut 1 0 12000 1 0 1
               ^
   were the lines below the report changed by hand?
-refused report limit at 558
+refused report limit at 582
 ",
     ),
     (
@@ -124,7 +124,7 @@ refused report limit at 558
     # a note
       ^
   were the lines below the report changed by hand?
-refused report token at 823
+refused report token at 847
 ",
     ),
     (
@@ -132,7 +132,7 @@ refused report token at 823
         TREE,
         ("# cheapest\n", ""),
         Status::BadReport,
-        "report:31:1: a proof line ends too early, or the lines end before they say what they show\n    \n    ^\n  are they cut off? the last one is cheapest or above\nrefused report ended at 846\n",
+        "report:31:1: a proof line ends too early, or the lines end before they say what they show\n    \n    ^\n  are they cut off? the last one is cheapest or above\nrefused report ended at 870\n",
     ),
 ];
 
