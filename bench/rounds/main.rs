@@ -47,6 +47,7 @@ mod separator {
     pub mod known_state;
     pub mod one_state;
     pub mod ranges;
+    pub mod warm_start;
 }
 
 use checked_fraction::gcd;
@@ -57,7 +58,7 @@ use metric_cut::{Cut, opening};
 use module_prices::unit_pair;
 use net_core::{Caps, Copied, CutLine, Demand, Demands, Global, Instance, Link, List, Module, Network, NodeId, RouteTask, StateId, States};
 use node_sets::{RoundSets, grown_set, round_set};
-use separator::known_state::KnownState;
+use separator::warm_start::KnownStates;
 
 impl Copied for master_bound::answer::Multiplier {
     fn copy(&self) -> Result<Self, net_core::NoMemory> {
@@ -144,7 +145,7 @@ fn main() {
     }
     let way = words.get(2).map_or("", |word| word.as_str());
     let mut basis = KeptMaster::new();
-    let mut kept: std::vec::Vec<_> = (0..states.count()).map(|_| KnownState::new(Global)).collect();
+    let mut kept = KnownStates::new(Global);
     let (opening, mut rounds, mut bounding, mut separating) = (cuts.len(), 0, 0, 0);
     let (mut first, mut tests) = (0, 0);
     loop {
@@ -157,7 +158,7 @@ fn main() {
         if way == "each" || rounds == 0 {
             for s in 0..states.count() {
                 tests += 1;
-                further.extend(cut_in(kept[s as usize].separate(Global, &instance, StateId(s), &caps).unwrap()));
+                further.extend(cut_in(kept.separate_state(&instance, StateId(s), &caps).unwrap()));
             }
         } else {
             further = sets_at(&instance, &caps, way == "grown");
@@ -165,7 +166,7 @@ fn main() {
                 for k in 0..states.count() {
                     let s = (first + k) % states.count();
                     tests += 1;
-                    further.extend(cut_in(kept[s as usize].route(Global, &instance, StateId(s), &caps).unwrap()));
+                    further.extend(cut_in(kept.route_state(&instance, StateId(s), &caps).unwrap()));
                     if !further.is_empty() {
                         first = s;
                         break;

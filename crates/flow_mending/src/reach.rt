@@ -1,11 +1,11 @@
-use net_core::{LinkId, List, NoMemory, NodeId, Path, Surviving};
+use net_core::{Link, LinkId, List, NoMemory, NodeId, Path, Surviving};
 use std::alloc::Global;
 
 /// A surviving link, taken from one of its ends to the other, with its length in a search.
 #[derive(Clone, Copy)]
 pub struct Arc {
     pub link: LinkId,
-    to: usize,
+    to: u32,
     /// More than 0, and `FAR` where the link isn't to be used.
     pub length: u64,
 }
@@ -15,9 +15,8 @@ pub struct Arc {
 struct Place {
     /// How far it is from the root, `FAR` where it isn't reached.
     far: u64,
-    is_settled: bool,
     link: LinkId,
-    next: usize,
+    next: u32,
 }
 
 /// The length of what isn't used or reached.
@@ -31,37 +30,24 @@ pub struct Reach {
     /// Where the arcs of each node end.
     ends: List<usize>,
     places: List<Place>,
+    /// Room for the nodes that are reached and not settled.
+    edge: List<u32>,
+}
+
+/// The nodes that are reached and not settled: the first ones of a list.
+#[derive(Drop)]
+struct Edge<'a> {
+    nodes: &'a mut [u32],
+    count: usize,
 }
 
 /// A node that isn't reached.
 fn unreached() -> Place {
     Place {
         far: FAR,
-        is_settled: false,
         link: LinkId(0),
         next: 0,
     }
-}
-
-/// Adds the arcs that leave a node.
-fn push_arcs(
-    graph: &Surviving,
-    survives: &[bool],
-    node: u32,
-    arcs: &mut List<Arc>,
-) -> Result<(), NoMemory> {
-    let links = graph.net.links().items();
-    for e in 0..links.len() {
-        let (a, b) = (links[e].a.0, links[e].b.0);
-        if (a == node || b == node) && e < survives.len() && survives[e] {
-            arcs.push(Arc {
-                link: LinkId(e as u32),
-                to: if a == node { b as usize } else { a as usize },
-                length: 1,
-            })?;
-        }
-    }
-    Ok(())
 }
 
 /// Which links survive.
@@ -74,90 +60,193 @@ fn surviving(alloc: Global, graph: &Surviving) -> Result<List<bool>, NoMemory> {
     Ok(survives)
 }
 
+/// Counts an arc at its node.
+fn count_arc(ends: &mut [usize], node: u32) {
+    let at = node as usize;
+    if at < ends.len() {
+        ends[at] = ends[at].wrapping_add(1);
+    }
+}
+
+/// Adds up the counts of the nodes before each one: where its arcs begin.
+fn add_up(ends: &mut [usize]) {
+    let mut sum = 0usize;
+    for k in 0..ends.len() {
+        let count = ends[k];
+        ends[k] = sum;
+        sum = sum.wrapping_add(count);
+    }
+}
+
+/// Puts an arc at the end of those of the node that it leaves.
+fn put_arc(arcs: &mut [Arc], ends: &mut [usize], link: u32, from: u32, to: u32) {
+    let node = from as usize;
+    if node < ends.len() {
+        let at = ends[node];
+        if at < arcs.len() {
+            arcs[at] = Arc {
+                link: LinkId(link),
+                to,
+                length: 1,
+            };
+        }
+        ends[node] = at.wrapping_add(1);
+    }
+}
+
+/// Puts the arcs of the links that survive at their places, by the nodes that they leave.
+fn put_arcs(arcs: &mut [Arc], ends: &mut [usize], graph: &Surviving, survives: &[bool]) {
+    let links = graph.net.links().items();
+    for e in 0..links.len() {
+        if e < survives.len() && survives[e] {
+            put_arc(arcs, ends, e as u32, links[e].a.0, links[e].b.0);
+            put_arc(arcs, ends, e as u32, links[e].b.0, links[e].a.0);
+        }
+    }
+}
+
+/// Where the arcs of each node begin.
+fn starts(
+    alloc: Global,
+    nodes: usize,
+    links: &[Link],
+    survives: &[bool],
+) -> Result<List<usize>, NoMemory> {
+    let mut ends = List::filled(alloc, 0usize, nodes)?;
+    for e in 0..links.len() {
+        if e < survives.len() && survives[e] {
+            count_arc(ends.items_mut(), links[e].a.0);
+            count_arc(ends.items_mut(), links[e].b.0);
+        }
+    }
+    add_up(ends.items_mut());
+    Ok(ends)
+}
+
+impl<'a> Edge<'a> {
+    /// Adds a node.
+    fn add(&mut self, node: u32) {
+        if self.count < self.nodes.len() {
+            self.nodes[self.count] = node;
+            self.count += 1;
+        }
+    }
+
+    /// Takes out the node that is nearest to the root.
+    fn take_nearest(&mut self, places: &[Place]) -> Option<u32> {
+        let mut at = 0;
+        let mut least = FAR;
+        for k in 0..self.count {
+            if k < self.nodes.len() {
+                let node = self.nodes[k] as usize;
+                if node < places.len() && places[node].far < least {
+                    at = k;
+                    least = places[node].far;
+                }
+            }
+        }
+        let nodes = self.nodes.len();
+        if least == FAR || at >= nodes || self.count == 0 || self.count > nodes {
+            return None;
+        }
+        let node = self.nodes[at];
+        self.count -= 1;
+        self.nodes[at] = self.nodes[self.count];
+        Some(node)
+    }
+}
+
 /// Reaches the end of an arc from a place, if it is nearer to the root that way.
-fn reach_by(places: &mut [Place], arc: &Arc, from: usize, far: u64) {
-    let to = arc.to;
+fn reach_by(places: &mut [Place], edge: &mut Edge, arc: &Arc, from: u32, far: u64) {
+    let to = arc.to as usize;
     let by = far.saturating_add(arc.length);
     if to < places.len() && by < places[to].far {
+        if places[to].far == FAR {
+            edge.add(arc.to);
+        }
         places[to] = Place {
             far: by,
-            is_settled: false,
             link: arc.link,
             next: from,
         };
     }
 }
 
-/// The place that is nearest of those that are reached and not settled.
-fn nearest(places: &[Place]) -> Option<usize> {
-    let mut at = 0;
-    let mut least = FAR;
-    for k in 0..places.len() {
-        if places[k].far < least && !places[k].is_settled {
-            at = k;
-            least = places[k].far;
-        }
-    }
-    if least == FAR { None } else { Some(at) }
-}
-
-/// Settles a place and reaches on from it.
-fn settle(places: &mut [Place], arcs: &[Arc], ends: &[usize], at: usize) {
+/// Reaches on from a place.
+fn settle(places: &mut [Place], edge: &mut Edge, arcs: &[Arc], ends: &[usize], node: u32) {
+    let at = node as usize;
     if at >= places.len() || at >= ends.len() {
         return;
     }
-    places[at].is_settled = true;
     let far = places[at].far;
     let first = if at > 0 { ends[at - 1] } else { 0 };
     for k in first..ends[at] {
         if k < arcs.len() {
-            reach_by(places, &arcs[k], at, far);
+            reach_by(places, edge, &arcs[k], node, far);
         }
     }
 }
 
 /// Settles one place after another, the nearest first, up to one that is asked for.
-fn settle_all(places: &mut [Place], arcs: &[Arc], ends: &[usize], last: usize) {
+fn settle_all(places: &mut [Place], edge: &mut Edge, arcs: &[Arc], ends: &[usize], last: usize) {
     for _ in 0..places.len() {
-        match nearest(places) {
-            Some(at) if at != last => settle(places, arcs, ends, at),
+        match edge.take_nearest(places) {
+            Some(node) if node as usize != last => settle(places, edge, arcs, ends, node),
             _ => return,
         }
     }
 }
 
-/// The links from a place to the root.
-fn way_from(alloc: Global, places: &[Place], from: usize) -> Result<Option<Path>, NoMemory> {
-    let mut path = List::new(alloc);
+/// How many links there are from a place to the root, `None` where it isn't reached.
+fn hops(places: &[Place], from: usize) -> Option<usize> {
     let mut at = from;
-    for _ in 0..places.len() {
+    for k in 0..places.len() {
         if at >= places.len() || places[at].far == FAR {
-            return Ok(None);
+            return None;
         }
         if places[at].far == 0 {
-            return Ok(Some(path));
+            return Some(k);
         }
-        path.push(places[at].link)?;
-        at = places[at].next;
+        at = places[at].next as usize;
     }
-    Ok(None)
+    None
+}
+
+/// The links from a place to the root.
+fn way_from(alloc: Global, places: &[Place], from: usize) -> Result<Option<Path>, NoMemory> {
+    let Some(count) = hops(places, from) else {
+        return Ok(None);
+    };
+    let mut path = List::from_vec(Vec::with_capacity(alloc, count)?);
+    let mut at = from;
+    for _ in 0..count {
+        if at < places.len() {
+            path.push(places[at].link)?;
+            at = places[at].next as usize;
+        }
+    }
+    Ok(Some(path))
 }
 
 impl Reach {
     /// Lists the arcs, each of length 1.
     pub fn new(alloc: Global, graph: &Surviving) -> Result<Reach, NoMemory> {
         let nodes = graph.net.nodes().len();
+        let links = graph.net.links().items();
         let survives = surviving(alloc, graph)?;
-        let mut arcs = List::from_vec(Vec::with_capacity(alloc, 2 * graph.net.links().len())?);
-        let mut ends = List::from_vec(Vec::with_capacity(alloc, nodes)?);
-        for k in 0..nodes {
-            push_arcs(graph, survives.items(), k as u32, &mut arcs)?;
-            ends.push(arcs.len())?;
-        }
+        let mut ends = starts(alloc, nodes, links, survives.items())?;
+        let none = Arc {
+            link: LinkId(0),
+            to: 0,
+            length: FAR,
+        };
+        let mut arcs = List::filled(alloc, none, 2 * links.len())?;
+        put_arcs(arcs.items_mut(), ends.items_mut(), graph, survives.items());
         Ok(Reach {
             arcs,
             ends,
             places: List::filled(alloc, unreached(), nodes)?,
+            edge: List::filled(alloc, 0, nodes)?,
         })
     }
 
@@ -170,15 +259,26 @@ impl Reach {
     pub fn search(&mut self, root: NodeId, last: Option<NodeId>) {
         let places = self.places.items_mut();
         places.fill(unreached());
+        let mut edge = Edge {
+            nodes: self.edge.items_mut(),
+            count: 0,
+        };
         let at = root.0 as usize;
         if at < places.len() {
             places[at].far = 0;
+            edge.add(root.0);
         }
         let last = match last {
             Some(node) => node.0 as usize,
             None => places.len(),
         };
-        settle_all(places, self.arcs.items(), self.ends.items(), last);
+        settle_all(
+            places,
+            &mut edge,
+            self.arcs.items(),
+            self.ends.items(),
+            last,
+        );
     }
 
     /// How far a node is from the root, `FAR` where it isn't reached.
@@ -195,5 +295,14 @@ impl Reach {
     /// The path from a node to the root, if it was reached.
     pub fn path(&self, alloc: Global, from: NodeId) -> Result<Option<Path>, NoMemory> {
         way_from(alloc, self.places.items(), from.0 as usize)
+    }
+
+    /// The path from the root to a node, if it was reached.
+    pub fn path_back(&self, alloc: Global, to: NodeId) -> Result<Option<Path>, NoMemory> {
+        let mut path = self.path(alloc, to)?;
+        if let Some(path) = &mut path {
+            path.items_mut().reverse();
+        }
+        Ok(path)
     }
 }

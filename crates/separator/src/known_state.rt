@@ -14,7 +14,7 @@ use warm_routing::WarmRouter;
 #[derive(Drop)]
 pub struct KnownState {
     columns: List<RouteColumn>,
-    warm: WarmRouter,
+    pub(crate) warm: WarmRouter,
 }
 
 impl KnownState {

@@ -73,6 +73,27 @@ fn answer_of(found: WarmAnswer) -> RouteAnswer
     }
 }
 
+/// What routing finds that begins with the paths of a basis; where none is left, with the known columns.
+fn route_on(
+    alloc: Global,
+    task: &RouteTask,
+    known: &mut List<RouteColumn>,
+    warm: &WarmRouter,
+) -> Result<RouteAnswer, NoMemory>
+    requires scale { 0 < task.now.caps.now.scale }
+    requires joined { AreJoined (graph_of task.now.graph) task.now.demands.now }
+    ensures found { IfOk result (IsFinding (graph_of task.now.graph) task.now.demands.now task.now.caps.now) }
+    ensures same { OnErr result (known.new ≡ known.old) }
+{
+    if !warm.has_basis() {
+        return route_near(alloc, task, known);
+    }
+    let mut columns = warm.columns()?;
+    let answer = route_near(alloc, task, &mut columns)?;
+    *known = columns;
+    Ok(answer)
+}
+
 /// What a kept basis finds, and where it finds nothing, what routing finds.
 fn route_warm(
     alloc: Global,
@@ -87,7 +108,7 @@ fn route_warm(
 {
     match warm.ask(task, TURNS)? {
         Some(found) => Ok(answer_of(found)),
-        None => route_near(alloc, task, known),
+        None => route_on(alloc, task, known, warm),
     }
 }
 
@@ -149,7 +170,8 @@ pub fn separate_state<'a>(
 ///
 /// All states and all capacities of a network with its demands have one system of equations with other right sides, so that a basis which
 /// one question ended with is some turns away from the next answer. One of the same state is nearest. Nothing is known of it, and what it
-/// finds is counted anew; a state is routed where it finds nothing within 1,000 turns.
+/// finds is counted anew. Where it finds nothing within 1,000 turns, the state is routed from the paths of that basis, which become known
+/// columns; where a number of it grew too wide, from the known columns.
 ///
 /// It takes the time and the memory of `separate_state` and of `WarmRouter::ask`.
 pub fn separate_from<'a>(

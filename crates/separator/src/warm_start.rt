@@ -7,6 +7,7 @@ use crate::known_state::KnownState;
 use flow_router::RouteAnswer;
 use net_core::{Caps, Instance, List, NoMemory, StateId};
 use std::alloc::Global;
+use warm_routing::WarmRouter;
 
 /// What is kept of the states, from state 0 on.
 #[derive(Drop)]
@@ -57,6 +58,38 @@ impl KnownStates {
     }
 }
 
+/// A copy of the first basis that there is.
+fn first_basis(by_state: &[KnownState]) -> Result<Option<WarmRouter>, NoMemory> {
+    for known in by_state {
+        if known.warm.has_basis() {
+            return Ok(Some(known.warm.copy()?));
+        }
+    }
+    Ok(None)
+}
+
+/// Gives a state that has no basis the first one that there is, from which an answer is fewer turns away than from none.
+fn lend_basis(by_state: &mut [KnownState], at: usize) -> Result<(), NoMemory> {
+    if at >= by_state.len() || by_state[at].warm.has_basis() {
+        return Ok(());
+    }
+    if let Some(warm) = first_basis(by_state)? {
+        if at < by_state.len() {
+            by_state[at].warm = warm;
+        }
+    }
+    Ok(())
+}
+
+/// Nothing of a state but the first basis that there is.
+fn begun(alloc: Global, by_state: &[KnownState]) -> Result<KnownState, NoMemory> {
+    let mut known = KnownState::new(alloc);
+    if let Some(warm) = first_basis(by_state)? {
+        known.warm = warm;
+    }
+    Ok(known)
+}
+
 /// The same over the list itself.
 fn separate_known(
     alloc: Global,
@@ -72,10 +105,11 @@ fn separate_known(
     ensures found { IfOk result (IsFinding (graph_in (case_of instance.now) state.0) instance.now.demands.now caps.now) }
 {
     let at = state.0 as usize;
+    lend_basis(by_state.items_mut(), at)?;
     if at < by_state.len() {
         return by_state.items_mut()[at].separate(alloc, instance, state, caps);
     }
-    let mut known = KnownState::new(alloc);
+    let mut known = begun(alloc, by_state.items())?;
     let found = known.separate(alloc, instance, state, caps)?;
     by_state.push(known)?;
     Ok(found)
@@ -96,10 +130,11 @@ fn route_known(
     ensures found { IfOk result (IsFinding (graph_in (case_of instance.now) state.0) instance.now.demands.now caps.now) }
 {
     let at = state.0 as usize;
+    lend_basis(by_state.items_mut(), at)?;
     if at < by_state.len() {
         return by_state.items_mut()[at].route(alloc, instance, state, caps);
     }
-    let mut known = KnownState::new(alloc);
+    let mut known = begun(alloc, by_state.items())?;
     let found = known.route(alloc, instance, state, caps)?;
     by_state.push(known)?;
     Ok(found)

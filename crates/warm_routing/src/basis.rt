@@ -1,5 +1,6 @@
+use crate::column::Column;
 use crate::row::BasisRow;
-use net_core::{LinkId, List, NoMemory, Path};
+use net_core::{Copied, LinkId, List, NoMemory, Path, RouteColumn};
 use std::alloc::Global;
 
 /// A basis of the equations that the demands are carried within the capacities: a key path for each demand, and as many further columns as
@@ -20,7 +21,51 @@ fn take_along(rest: &mut [i128], path: &[LinkId], amount: i128) {
     }
 }
 
+/// Adds a copy of a path of a demand.
+fn push_carrier(
+    columns: &mut List<RouteColumn>,
+    demand: usize,
+    path: &Path,
+) -> Result<(), NoMemory> {
+    if demand < 1 << 32 {
+        columns.push(RouteColumn::Carry(demand as u32, path.copy()?))?;
+    }
+    Ok(())
+}
+
+/// A copy of rows.
+fn rows_of(alloc: Global, rows: &[BasisRow]) -> Result<List<BasisRow>, NoMemory> {
+    let mut copies = List::from_vec(Vec::with_capacity(alloc, rows.len())?);
+    for row in rows {
+        copies.push(row.copy()?)?;
+    }
+    Ok(copies)
+}
+
 impl Basis {
+    /// A copy.
+    pub(crate) fn copy(&self, alloc: Global) -> Result<Basis, NoMemory> {
+        Ok(Basis {
+            keys: self.keys.copy()?,
+            rows: rows_of(alloc, self.rows.items())?,
+        })
+    }
+
+    /// The keys and the paths of the rows, as columns of a routing program.
+    pub(crate) fn carriers(&self, alloc: Global) -> Result<List<RouteColumn>, NoMemory> {
+        let mut columns = List::new(alloc);
+        let keys = self.keys.items();
+        for k in 0..keys.len() {
+            push_carrier(&mut columns, k, &keys[k])?;
+        }
+        for row in self.rows.items() {
+            if let Column::Carry(demand, path) = &row.column {
+                push_carrier(&mut columns, *demand, path)?;
+            }
+        }
+        Ok(columns)
+    }
+
     /// What the keys leave of the links where they carry all demands.
     pub(crate) fn rest(
         &self,

@@ -1,4 +1,4 @@
-use net_core::{LinkId, Path};
+use net_core::{Copied, LinkId, NoMemory, Path};
 
 /// A column of a basis beside the keys: what a link has left, or a path of a demand.
 #[derive(Drop)]
@@ -44,6 +44,14 @@ pub(crate) fn product_with(nums: &[i64], keys: &[Path], column: &Column) -> i64 
 }
 
 impl Column {
+    /// A copy.
+    pub(crate) fn copy(&self) -> Result<Column, NoMemory> {
+        match self {
+            Column::Slack(link) => Ok(Column::Slack(*link)),
+            Column::Carry(demand, path) => Ok(Column::Carry(*demand, path.copy()?)),
+        }
+    }
+
     /// The demand of a path.
     pub(crate) fn demand(&self) -> Option<usize> {
         match self {

@@ -73,7 +73,7 @@ pub(crate) fn entering_path(
     if least == 0 || best >= waiting.len() {
         return None;
     }
-    let Waiting { demand, path } = waiting.remove(best);
+    let Waiting { demand, path, .. } = waiting.remove(best);
     Some(Entrant {
         column: Column::Carry(demand, path),
         slope: least,

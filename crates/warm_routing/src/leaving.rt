@@ -1,3 +1,4 @@
+use crate::numbers::wide_over;
 use crate::row::BasisRow;
 use crate::share::{Share, place_of, whole_share};
 use net_core::{List, NoMemory};
@@ -22,8 +23,7 @@ pub(crate) struct Point {
 
 /// A number over a denominator, with 20 bits after the point.
 pub(crate) fn fixed_point(number: i128, den: i64) -> i128 {
-    let up = number.wrapping_mul(1 << 20);
-    if den > 0 { up / den as i128 } else { up }
+    wide_over(number.wrapping_mul(1 << 20), den)
 }
 
 /// The point of a value, if it is on the way.
@@ -57,7 +57,7 @@ pub(crate) fn points_of(
     needs: &[i128],
     entering: Option<usize>,
 ) -> Result<List<Point>, NoMemory> {
-    let mut points = List::new(alloc);
+    let mut points = List::from_vec(Vec::with_capacity(alloc, rows.len())?);
     for i in 0..rows.len() {
         let row = &rows[i];
         let point = point_of(Role::Row(i), row.value, row.product as i128, row.den);

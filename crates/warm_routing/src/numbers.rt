@@ -1,14 +1,25 @@
-use checked_fraction::gcd;
-
 /// Numbers of a row are below this; with wider ones nothing is decided.
 pub(crate) const WIDE: u64 = 1 << 31;
 
-/// The greatest common divisor, where it is a word.
+/// More steps than the greatest common divisor of two words takes.
+const STEPS: u32 = 96;
+
+/// The greatest common divisor (Euclid's algorithm).
 pub(crate) fn common(a: u64, b: u64) -> u64 {
     if a == 1 || b == 1 {
         return 1;
     }
-    gcd(a as u128, b as u128).min(u64::MAX as u128) as u64
+    let mut greater = a;
+    let mut less = b;
+    for _ in 0..STEPS {
+        if less == 0 {
+            return greater;
+        }
+        let rest = greater % less;
+        greater = less;
+        less = rest;
+    }
+    1
 }
 
 /// A word as a number with a sign, unless it is too wide.
@@ -36,7 +47,13 @@ pub(crate) fn over(number: i64, by: i64) -> i64 {
 
 /// A quotient by a positive number; by another one the number itself.
 pub(crate) fn wide_over(number: i128, by: i64) -> i128 {
-    if by > 1 { number / by as i128 } else { number }
+    if by <= 1 {
+        return number;
+    }
+    match narrowed(number) {
+        Some(number) => over(number, by) as i128,
+        None => number / by as i128,
+    }
 }
 
 /// The least common multiple of positive numbers, unless it is too wide.

@@ -11,13 +11,14 @@ use crate::leaving::{fixed_point, leaving, points_of};
 use crate::routing::routing_of;
 use crate::row::set_values;
 use crate::searching::{Waiting, collect, given, set_lengths};
-use crate::share::{Share, shares_of};
+use crate::share::{Share, set_losses, shares_of};
 use crate::shortage::{Shortage, shortage_of, weigh};
 use crate::start::{bounds_of, first_basis, needs_of};
 use crate::turning::{set_products, turn};
 use flow_mending::if_routed;
+use flow_mending::reach::Reach;
 use metric_cut::Cut;
-use net_core::{List, NoMemory, RouteTask};
+use net_core::{List, NoMemory, RouteColumn, RouteTask};
 use node_sets::threshold_set;
 use std::alloc::Global;
 
@@ -34,6 +35,7 @@ struct Question {
     bounds: List<i128>,
     needs: List<i128>,
     waiting: List<Waiting>,
+    reach: Reach,
 }
 
 /// How the search for an answer goes on.
@@ -80,7 +82,8 @@ fn search(
     let slopes = shortage.slopes.items();
     let keys = basis.keys.items();
     let needs = question.needs.items();
-    let found = collect(alloc, task, shortage, keys, shares, needs)?;
+    let reach = &mut question.reach;
+    let found = collect(alloc, task, shortage, keys, shares, needs, reach)?;
     question.waiting = found.waiting;
     if given(slopes, question.bounds.items()) < found.asked {
         if let Some(cut) = near_set(alloc, task, slopes)? {
@@ -121,6 +124,7 @@ fn enter(
     alloc: Global,
     basis: &mut Basis,
     question: &Question,
+    shares: &mut [Share],
     den: i64,
     entrant: Entrant,
 ) -> Result<bool, NoMemory> {
@@ -128,10 +132,8 @@ fn enter(
     set_products(basis, &column);
     let entering = column.demand();
     let needs = question.needs.items();
-    let Some(shares) = shares_of(alloc, basis.rows.items(), needs, entering)? else {
-        return Ok(false);
-    };
-    let mut points = points_of(alloc, basis.rows.items(), shares.items(), needs, entering)?;
+    set_losses(shares, basis.rows.items(), entering);
+    let mut points = points_of(alloc, basis.rows.items(), shares, needs, entering)?;
     let Some(role) = leaving(&mut points, fixed_point(slope as i128, den)) else {
         return Ok(false);
     };
@@ -172,10 +174,10 @@ fn advance(
     ensures { IfOk result (IsSoundStep (graph_of task.now.graph) task.now.demands.now task.now.caps.now) }
 {
     let needs = question.needs.items();
-    let Some(shares) = shares_of(alloc, basis.rows.items(), needs, None)? else {
+    let Some(mut shares) = shares_of(alloc, basis.rows.items_mut(), needs)? else {
         return Ok(Step::GivenUp);
     };
-    let shares = shares.items();
+    let shares = shares.items_mut();
     if !weigh(basis.rows.items_mut(), shares) {
         return routed(alloc, task, basis, shares, needs);
     }
@@ -185,7 +187,7 @@ fn advance(
     };
     match choose(alloc, task, basis, &shortage, shares, question)? {
         Choice::Enters(entrant) => {
-            if enter(alloc, basis, question, shortage.den, entrant)? {
+            if enter(alloc, basis, question, shares, shortage.den, entrant)? {
                 Ok(Step::Turned)
             } else {
                 Ok(Step::GivenUp)
@@ -208,12 +210,26 @@ impl WarmRouter {
         }
     }
 
+    /// Whether it has a basis: a question has left one, with numbers that aren't too wide.
+    pub fn has_basis(&self) -> bool {
+        self.basis.rows.len() > 0
+    }
+
+    /// A router that begins with the same basis. It takes time and memory in the basis.
+    pub fn copy(&self) -> Result<WarmRouter, NoMemory> {
+        Ok(WarmRouter {
+            alloc: self.alloc,
+            basis: self.basis.copy(self.alloc)?,
+        })
+    }
+
     /// Begins anew where the basis has another shape than the network and the demands.
     fn prepare(&mut self, task: &RouteTask) -> Result<Question, NoMemory> {
+        let mut reach = Reach::new(self.alloc, &task.graph)?;
         if self.basis.keys.len() != task.demands.len()
             || self.basis.rows.len() != task.graph.net.links().len()
         {
-            self.basis = first_basis(self.alloc, task)?;
+            self.basis = first_basis(self.alloc, task, &mut reach)?;
         }
         let bounds = bounds_of(self.alloc, task)?;
         let needs = needs_of(self.alloc, task)?;
@@ -223,6 +239,7 @@ impl WarmRouter {
             bounds,
             needs,
             waiting: List::new(self.alloc),
+            reach,
         })
     }
 
@@ -244,5 +261,10 @@ impl WarmRouter {
             }
         }
         Ok(None)
+    }
+
+    /// The paths of the basis, as columns that a routing program may begin with. It copies each of them.
+    pub fn columns(&self) -> Result<List<RouteColumn>, NoMemory> {
+        self.basis.carriers(self.alloc)
     }
 }

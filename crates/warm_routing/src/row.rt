@@ -1,6 +1,6 @@
 use crate::column::Column;
 use crate::numbers::{common, over, signed, wide_over};
-use net_core::List;
+use net_core::{Copied, List, NoMemory};
 
 /// A column of the basis with its row of the inverse, whole numbers over `den`.
 #[derive(Drop)]
@@ -15,6 +15,23 @@ pub(crate) struct BasisRow {
     pub product: i64,
     /// How often its value counts in what is short.
     pub weight: i64,
+    /// The place of its demand's share, past the end where it has none.
+    pub share: usize,
+}
+
+impl BasisRow {
+    /// A copy.
+    pub(crate) fn copy(&self) -> Result<BasisRow, NoMemory> {
+        Ok(BasisRow {
+            column: self.column.copy()?,
+            nums: self.nums.copy()?,
+            den: self.den,
+            value: self.value,
+            product: self.product,
+            weight: self.weight,
+            share: self.share,
+        })
+    }
 }
 
 /// The product of a row's numbers with what the keys leave of the links.
@@ -81,8 +98,17 @@ pub(crate) fn lower(row: &mut BasisRow) -> Option<()> {
 
 /// Takes `less` times another row from `times` this row.
 fn mix(nums: &mut [i64], times: i64, less: i64, other: &[i64]) {
-    for e in 0..nums.len() {
-        if e < other.len() {
+    let count = nums.len().min(other.len());
+    if times == 1 && less == 1 {
+        for e in 0..count {
+            nums[e] = nums[e].wrapping_sub(other[e]);
+        }
+    } else if times == 1 && less == -1 {
+        for e in 0..count {
+            nums[e] = nums[e].wrapping_add(other[e]);
+        }
+    } else {
+        for e in 0..count {
             nums[e] = nums[e]
                 .wrapping_mul(times)
                 .wrapping_sub(other[e].wrapping_mul(less));
@@ -111,16 +137,12 @@ pub(crate) fn combine(row: &mut BasisRow, pivot: &BasisRow) -> Option<()> {
 /// A row with its sign changed where its product is below 0.
 fn turn_sign(row: &mut BasisRow) {
     if row.product < 0 {
-        negate(row.nums.items_mut());
+        let nums = row.nums.items_mut();
+        for e in 0..nums.len() {
+            nums[e] = 0i64.wrapping_sub(nums[e]);
+        }
         row.product = 0i64.wrapping_sub(row.product);
         row.value = 0i128.wrapping_sub(row.value);
-    }
-}
-
-/// Changes the sign of each number.
-fn negate(nums: &mut [i64]) {
-    for e in 0..nums.len() {
-        nums[e] = 0i64.wrapping_sub(nums[e]);
     }
 }
 

@@ -1,17 +1,22 @@
 ghost use Rattle.std.specs.Prelude.{◌≡◌, length};
 
-use crate::column::{along, key_of};
-use crate::share::{Share, is_short, need_of};
+use crate::column::along;
+use crate::share::{Share, need_of};
 use crate::shortage::Shortage;
 use flow_mending::reach::{Arc, FAR, Reach};
-use net_core::{Demand, List, NoMemory, NodeId, Path, RouteTask};
+use net_core::{List, NoMemory, NodeId, Path, RouteTask};
 use std::alloc::Global;
+
+/// So many paths wait at most.
+const MOST: usize = 64;
 
 /// A path of a demand that may enter.
 #[derive(Drop)]
 pub(crate) struct Waiting {
     pub demand: usize,
     pub path: Path,
+    /// What it took off what was short, over its denominator, if it carried all of its demand.
+    gain: i128,
 }
 
 /// Paths that may enter, and what the demands need along the distances under the slopes.
@@ -19,6 +24,25 @@ pub(crate) struct Waiting {
 pub(crate) struct Found {
     pub waiting: List<Waiting>,
     pub asked: i128,
+}
+
+/// A demand for which there may be a cheaper path than its key.
+#[derive(Clone, Copy)]
+struct Ask {
+    demand: usize,
+    from: NodeId,
+    to: NodeId,
+    need: i128,
+    /// What the key counts under the slopes.
+    price: i64,
+}
+
+/// Demands, of which the first `count` are still to be asked, and how many of these end at each node.
+#[derive(Drop)]
+struct Asking {
+    asks: List<Ask>,
+    count: usize,
+    ends: List<i64>,
 }
 
 /// The slopes as lengths.
@@ -54,66 +78,166 @@ fn set_arcs(arcs: &mut [Arc], slopes: &[i64]) {
     }
 }
 
-/// What a demand's key counts under the slopes; 0 where no path is cheaper.
-fn key_price(shortage: &Shortage, keys: &[Path], shares: &[Share], demand: usize) -> i128 {
-    let price = along(shortage.slopes.items(), key_of(keys, demand)) as i128;
-    if is_short(shares, demand) {
-        price.wrapping_sub(shortage.den as i128)
-    } else {
-        price
+/// What each key counts under the slopes, less than that by `den` where it is short.
+fn prices_of(
+    alloc: Global,
+    shortage: &Shortage,
+    keys: &[Path],
+    shares: &[Share],
+) -> Result<List<i64>, NoMemory> {
+    let mut prices = List::from_vec(Vec::with_capacity(alloc, keys.len())?);
+    for key in keys {
+        prices.push(along(shortage.slopes.items(), key.items()))?;
+    }
+    let all = prices.items_mut();
+    for share in shares {
+        if share.value < 0 && share.demand < all.len() {
+            all[share.demand] = all[share.demand].wrapping_sub(shortage.den);
+        }
+    }
+    Ok(prices)
+}
+
+/// Adds to the count of a node.
+fn count_at(ends: &mut [i64], node: NodeId, by: i64) {
+    let at = node.0 as usize;
+    if at < ends.len() {
+        ends[at] = ends[at].wrapping_add(by);
     }
 }
 
-/// Adds a demand's cheapest path, if it is cheaper than the key.
+/// The demands for which there may be a cheaper path than the key.
+fn asks_of(
+    alloc: Global,
+    task: &RouteTask,
+    prices: &[i64],
+    needs: &[i128],
+) -> Result<Asking, NoMemory> {
+    let demands = task.demands.items();
+    let mut asks = List::from_vec(Vec::with_capacity(alloc, demands.len())?);
+    let mut ends = List::filled(alloc, 0i64, task.graph.net.nodes().len())?;
+    for k in 0..demands.len() {
+        let (from, to, need) = (demands[k].from, demands[k].to, need_of(needs, k));
+        if k < prices.len() && prices[k] > 0 && need > 0 {
+            asks.push(Ask {
+                demand: k,
+                from,
+                to,
+                need,
+                price: prices[k],
+            })?;
+            count_at(ends.items_mut(), from, 1);
+            count_at(ends.items_mut(), to, 1);
+        }
+    }
+    let count = asks.len();
+    Ok(Asking { asks, count, ends })
+}
+
+/// The node at which most demands end, if some do.
+fn busiest(ends: &[i64]) -> Option<NodeId> {
+    let mut at = 0;
+    let mut most = 0;
+    for k in 0..ends.len() {
+        if ends[k] > most {
+            at = k;
+            most = ends[k];
+        }
+    }
+    if most > 0 && at < 1 << 32 {
+        Some(NodeId(at as u32))
+    } else {
+        None
+    }
+}
+
+/// The place of the path of least gain.
+fn least_of(waiting: &[Waiting]) -> usize {
+    let mut at = 0;
+    for k in 1..waiting.len() {
+        if at < waiting.len() && waiting[k].gain < waiting[at].gain {
+            at = k;
+        }
+    }
+    at
+}
+
+/// Whether a path of this gain is to wait; where too many wait then, the one of least gain makes room.
+fn makes_room(waiting: &mut List<Waiting>, gain: i128) -> bool {
+    if waiting.len() < MOST {
+        return true;
+    }
+    let at = least_of(waiting.items());
+    if at < waiting.len() && waiting.items()[at].gain < gain {
+        waiting.remove(at);
+        return true;
+    }
+    false
+}
+
+/// Adds a demand's cheapest path to or from the root of a search, if it is cheaper than the key.
 fn offer(
     alloc: Global,
     reach: &Reach,
-    from: NodeId,
-    demand: usize,
-    price: i128,
-    need: i128,
+    root: NodeId,
+    ask: &Ask,
     found: &mut Found,
 ) -> Result<(), NoMemory> {
-    let far = reach.far(from);
+    let ends_there = ask.to.0 == root.0;
+    let far = reach.far(if ends_there { ask.from } else { ask.to });
     if far == FAR {
         return Ok(());
     }
-    let cheapest = (far / 256) as i128;
-    found.asked = found.asked.wrapping_add(cheapest.wrapping_mul(need));
-    if cheapest < price {
-        if let Some(path) = reach.path(alloc, from)? {
-            found.waiting.push(Waiting { demand, path })?;
+    let cheapest = (far / 256) as i64;
+    let asked = (cheapest as i128).wrapping_mul(ask.need);
+    found.asked = found.asked.wrapping_add(asked);
+    if cheapest >= ask.price {
+        return Ok(());
+    }
+    let gain = (ask.price.wrapping_sub(cheapest) as i128).wrapping_mul(ask.need);
+    if makes_room(&mut found.waiting, gain) {
+        let path = if ends_there {
+            reach.path(alloc, ask.from)?
+        } else {
+            reach.path_back(alloc, ask.to)?
+        };
+        let demand = ask.demand;
+        if let Some(path) = path {
+            found.waiting.push(Waiting { demand, path, gain })?;
         }
     }
     Ok(())
 }
 
-/// Adds the cheapest path of each demand that ends at a node, if it is cheaper than the key. It searches only if there is one to ask of.
-fn offer_at(
+/// Asks the demands that end at the root of a search, and keeps the others.
+fn ask_at(
     alloc: Global,
-    demands: &[Demand],
-    prices: &[i128],
-    needs: &[i128],
+    reach: &Reach,
     root: NodeId,
-    reach: &mut Reach,
+    asking: &mut Asking,
     found: &mut Found,
 ) -> Result<(), NoMemory> {
-    let mut searched = false;
-    for k in 0..demands.len() {
-        let (need, price) = (need_of(needs, k), need_of(prices, k));
-        if demands[k].to.0 == root.0 && need > 0 && price != 0 {
-            if !searched {
-                reach.search(root, None);
-                searched = true;
+    let mut kept = 0usize;
+    let asks = asking.asks.items_mut();
+    for i in 0..asking.count {
+        if i < asks.len() && kept < asks.len() {
+            let ask = asks[i];
+            if ask.to.0 == root.0 || ask.from.0 == root.0 {
+                count_at(asking.ends.items_mut(), ask.from, -1);
+                count_at(asking.ends.items_mut(), ask.to, -1);
+                offer(alloc, reach, root, &ask, found)?;
+            } else {
+                asks[kept] = ask;
+                kept += 1;
             }
-            offer(alloc, reach, demands[k].from, k, price, need, found)?;
         }
     }
+    asking.count = kept;
     Ok(())
 }
 
-/// The cheapest path of each demand for which it is cheaper than the key, under slopes none of which is below 0. It takes a search from
-/// each node.
+/// The paths that take most off what is short of those that are cheaper than the keys of their demands, under slopes none of which is
+/// below 0. It takes a search from each of some nodes, at which all demands end for which there may be such a path.
 pub(crate) fn collect(
     alloc: Global,
     task: &RouteTask,
@@ -121,28 +245,21 @@ pub(crate) fn collect(
     keys: &[Path],
     shares: &[Share],
     needs: &[i128],
+    reach: &mut Reach,
 ) -> Result<Found, NoMemory> {
-    let demands = task.demands.items();
-    let mut prices = List::from_vec(Vec::with_capacity(alloc, demands.len())?);
-    for k in 0..demands.len() {
-        prices.push(key_price(shortage, keys, shares, k))?;
-    }
-    let mut reach = Reach::new(alloc, &task.graph)?;
+    let prices = prices_of(alloc, shortage, keys, shares)?;
+    let mut asking = asks_of(alloc, task, prices.items(), needs)?;
     set_arcs(reach.arcs_mut(), shortage.slopes.items());
     let mut found = Found {
-        waiting: List::new(alloc),
+        waiting: List::from_vec(Vec::with_capacity(alloc, MOST)?),
         asked: 0,
     };
-    for k in 0..task.graph.net.nodes().len() {
-        offer_at(
-            alloc,
-            demands,
-            prices.items(),
-            needs,
-            NodeId(k as u32),
-            &mut reach,
-            &mut found,
-        )?;
+    for _ in 0..task.graph.net.nodes().len() {
+        let Some(root) = busiest(asking.ends.items()) else {
+            return Ok(found);
+        };
+        reach.search(root, None);
+        ask_at(alloc, reach, root, &mut asking, &mut found)?;
     }
     Ok(found)
 }

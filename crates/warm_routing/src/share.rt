@@ -40,10 +40,6 @@ fn take_part(share: &mut Share, row: &BasisRow) -> Option<()> {
         .value
         .wrapping_mul(up)
         .wrapping_sub(row.value.wrapping_mul(part));
-    share.product = share
-        .product
-        .wrapping_mul(up)
-        .wrapping_sub((row.product as i128).wrapping_mul(part));
     Some(())
 }
 
@@ -66,39 +62,72 @@ pub(crate) fn whole_share(needs: &[i128], demand: usize, entering: Option<usize>
     }
 }
 
+/// The place of the share of a row's demand, which is added where there is none.
+fn share_at(
+    shares: &mut List<Share>,
+    places: &mut [usize],
+    demand: usize,
+    needs: &[i128],
+) -> Result<usize, NoMemory> {
+    let count = shares.len();
+    if demand >= places.len() {
+        return Ok(usize::MAX);
+    }
+    if places[demand] >= count {
+        shares.push(whole_share(needs, demand, None))?;
+        places[demand] = count;
+    }
+    Ok(places[demand])
+}
+
 /// Takes a row's part from its demand's key.
 fn add_row(
     shares: &mut List<Share>,
-    row: &BasisRow,
+    places: &mut [usize],
+    row: &mut BasisRow,
     needs: &[i128],
-    entering: Option<usize>,
 ) -> Result<Option<()>, NoMemory> {
+    row.share = usize::MAX;
     let Some(demand) = row.column.demand() else {
         return Ok(Some(()));
     };
-    let at = place_of(shares.items(), demand);
-    if at == shares.len() {
-        shares.push(whole_share(needs, demand, entering))?;
-    }
+    let at = share_at(shares, places, demand, needs)?;
     let all = shares.items_mut();
     if at < all.len() {
+        row.share = at;
         return Ok(take_part(&mut all[at], row));
     }
     Ok(None)
 }
 
-/// What is left to the key of each demand that has rows; `None` where a number is too wide.
+/// What is left to the key of each demand that has rows; `None` where a number is too wide. Each row gets the place of its demand's.
 pub(crate) fn shares_of(
     alloc: Global,
-    rows: &[BasisRow],
+    rows: &mut [BasisRow],
     needs: &[i128],
-    entering: Option<usize>,
 ) -> Result<Option<List<Share>>, NoMemory> {
-    let mut shares = List::new(alloc);
-    for row in rows {
-        if add_row(&mut shares, row, needs, entering)?.is_none() {
+    let mut shares = List::from_vec(Vec::with_capacity(alloc, rows.len())?);
+    let mut places = List::filled(alloc, usize::MAX, needs.len())?;
+    for i in 0..rows.len() {
+        if add_row(&mut shares, places.items_mut(), &mut rows[i], needs)?.is_none() {
             return Ok(None);
         }
     }
     Ok(Some(shares))
+}
+
+/// What the keys lose to a unit of the column that enters, by the products of the rows.
+pub(crate) fn set_losses(shares: &mut [Share], rows: &[BasisRow], entering: Option<usize>) {
+    for k in 0..shares.len() {
+        let own = entering == Some(shares[k].demand);
+        shares[k].product = if own { shares[k].den as i128 } else { 0 };
+    }
+    for row in rows {
+        let at = row.share;
+        if row.product != 0 && at < shares.len() {
+            let part = over(shares[at].den, row.den) as i128;
+            let loss = (row.product as i128).wrapping_mul(part);
+            shares[at].product = shares[at].product.wrapping_sub(loss);
+        }
+    }
 }

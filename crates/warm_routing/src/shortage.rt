@@ -1,6 +1,6 @@
 use crate::numbers::{common_multiple, over};
 use crate::row::BasisRow;
-use crate::share::{Share, is_short};
+use crate::share::Share;
 use net_core::{List, NoMemory};
 use std::alloc::Global;
 
@@ -15,9 +15,10 @@ pub(crate) struct Shortage {
 /// How often a row's value counts.
 fn weight_of(row: &BasisRow, shares: &[Share]) -> i64 {
     let own = if row.value < 0 { 1 } else { 0 };
-    match row.column.demand() {
-        Some(demand) if is_short(shares, demand) => own - 1,
-        _ => own,
+    if row.share < shares.len() && shares[row.share].value < 0 {
+        own - 1
+    } else {
+        own
     }
 }
 

@@ -3,7 +3,7 @@ use crate::column::Column;
 use crate::row::BasisRow;
 use flow_mending::bounded;
 use flow_mending::reach::Reach;
-use net_core::{LinkId, List, NoMemory, Path, RouteTask};
+use net_core::{Demand, LinkId, List, NoMemory, NodeId, Path, RouteTask};
 use std::alloc::Global;
 
 /// The capacity of each link, 0 where the state fails it.
@@ -27,16 +27,44 @@ pub(crate) fn needs_of(alloc: Global, task: &RouteTask) -> Result<List<i128>, No
     Ok(needs)
 }
 
-/// A path of fewest links for each demand; none for one whose ends are apart.
-fn first_keys(alloc: Global, task: &RouteTask) -> Result<List<Path>, NoMemory> {
-    let mut reach = Reach::new(alloc, &task.graph)?;
-    let mut keys = List::new(alloc);
-    for d in task.demands.items() {
-        reach.search(d.to, Some(d.from));
-        match reach.path(alloc, d.from)? {
-            Some(path) => keys.push(path)?,
-            None => keys.push(List::new(alloc))?,
+/// Empty paths.
+fn no_paths(alloc: Global, count: usize) -> Result<List<Path>, NoMemory> {
+    let mut paths = List::from_vec(Vec::with_capacity(alloc, count)?);
+    for _ in 0..count {
+        paths.push(List::new(alloc))?;
+    }
+    Ok(paths)
+}
+
+/// Sets the keys of the demands that end at a node, by one search.
+fn set_keys_to(
+    alloc: Global,
+    demands: &[Demand],
+    node: NodeId,
+    reach: &mut Reach,
+    keys: &mut [Path],
+) -> Result<(), NoMemory> {
+    let mut searched = false;
+    for k in 0..demands.len() {
+        if demands[k].to.0 == node.0 && k < keys.len() {
+            if !searched {
+                reach.search(node, None);
+                searched = true;
+            }
+            if let Some(path) = reach.path(alloc, demands[k].from)? {
+                keys[k] = path;
+            }
         }
+    }
+    Ok(())
+}
+
+/// A path of fewest links for each demand; none for one whose ends are apart.
+fn first_keys(alloc: Global, task: &RouteTask, reach: &mut Reach) -> Result<List<Path>, NoMemory> {
+    let demands = task.demands.items();
+    let mut keys = no_paths(alloc, demands.len())?;
+    for k in 0..task.graph.net.nodes().len() {
+        set_keys_to(alloc, demands, NodeId(k as u32), reach, keys.items_mut())?;
     }
     Ok(keys)
 }
@@ -55,18 +83,23 @@ fn unit_row(alloc: Global, links: usize, at: usize) -> Result<BasisRow, NoMemory
         value: 0,
         product: 0,
         weight: 0,
+        share: usize::MAX,
     })
 }
 
 /// Keys of fewest links, and the slacks of the links.
-pub(crate) fn first_basis(alloc: Global, task: &RouteTask) -> Result<Basis, NoMemory> {
+pub(crate) fn first_basis(
+    alloc: Global,
+    task: &RouteTask,
+    reach: &mut Reach,
+) -> Result<Basis, NoMemory> {
     let links = task.graph.net.links().len();
     let mut rows = List::new(alloc);
     for e in 0..links {
         rows.push(unit_row(alloc, links, e)?)?;
     }
     Ok(Basis {
-        keys: first_keys(alloc, task)?,
+        keys: first_keys(alloc, task, reach)?,
         rows,
     })
 }
