@@ -1,4 +1,4 @@
-ghost use Rattle.fault_texts.specs.FaultTexts.{Says};
+ghost use Rattle.fault_texts.specs.FaultTexts.{HasWords};
 ghost use Rattle.fault_messages.specs.FailuresMessages.{failures_message};
 
 use fault_texts::Sentence;
@@ -6,7 +6,7 @@ use model_reader::FailuresKind;
 
 /// What is wrong with a failure list, by the kind of its first fault.
 pub fn failures_sentence(kind: FailuresKind) -> Sentence
-    ensures { Says result (failures_message kind) }
+    ensures { HasWords result (failures_message kind) }
 {
     match kind {
         FailuresKind::Header => Sentence {

@@ -1,5 +1,5 @@
 ghost use Rattle.std.specs.Prelude.{◌≡◌};
-ghost use Rattle.fault_texts.specs.FaultTexts.{Says};
+ghost use Rattle.fault_texts.specs.FaultTexts.{HasWords};
 ghost use Rattle.fault_messages.specs.FindingMessages.{finding_message, finding_wrong};
 
 use fault_texts::Sentence;
@@ -42,7 +42,7 @@ fn finding_wrong(finding: Finding) -> &'static str
 
 /// What is wrong with a report that was read and isn't accepted, by its first finding.
 pub fn finding_sentence(finding: Finding) -> Sentence
-    ensures { Says result (finding_message finding) }
+    ensures { HasWords result (finding_message finding) }
 {
     Sentence {
         wrong: finding_wrong(finding),

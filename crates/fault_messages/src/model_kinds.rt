@@ -1,5 +1,5 @@
 ghost use Rattle.std.specs.Prelude.{◌≡◌};
-ghost use Rattle.fault_texts.specs.FaultTexts.{Says};
+ghost use Rattle.fault_texts.specs.FaultTexts.{HasWords};
 ghost use Rattle.fault_messages.specs.ModelMessages.{missing_help, model_message, value_help};
 
 use fault_texts::Sentence;
@@ -41,7 +41,7 @@ fn value_help(key: ModelKey) -> &'static str
 
 /// What is wrong with a model file, by the kind of its first fault.
 pub fn model_sentence(kind: ModelKind) -> Sentence
-    ensures { Says result (model_message kind) }
+    ensures { HasWords result (model_message kind) }
 {
     match kind {
         ModelKind::Unsupported(key) => Sentence {

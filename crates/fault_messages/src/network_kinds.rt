@@ -1,4 +1,4 @@
-ghost use Rattle.fault_texts.specs.FaultTexts.{Says};
+ghost use Rattle.fault_texts.specs.FaultTexts.{HasWords};
 ghost use Rattle.fault_messages.specs.NetworkMessages.{limit_message, network_message, number_message};
 
 use fault_texts::Sentence;
@@ -7,7 +7,7 @@ use sndlib_reader::{Limited, ReadKind};
 
 /// What is wrong with something that a network has too many or too much of.
 fn limit_sentence(limited: Limited) -> Sentence
-    ensures { Says result (limit_message limited) }
+    ensures { HasWords result (limit_message limited) }
 {
     match limited {
         Limited::Name => Sentence {
@@ -39,7 +39,7 @@ fn limit_sentence(limited: Limited) -> Sentence
 
 /// What is wrong with a number.
 fn number_sentence(fault: NumberFault) -> Sentence
-    ensures { Says result (number_message fault) }
+    ensures { HasWords result (number_message fault) }
 {
     match fault {
         NumberFault::NotANumber => Sentence {
@@ -59,7 +59,7 @@ fn number_sentence(fault: NumberFault) -> Sentence
 
 /// What is wrong with a network file, by the kind of its first fault. It takes no memory, as all functions of this crate.
 pub fn network_sentence(kind: ReadKind) -> Sentence
-    ensures { Says result (network_message kind) }
+    ensures { HasWords result (network_message kind) }
 {
     match kind {
         ReadKind::Limit(limited) => limit_sentence(limited),

@@ -1,4 +1,4 @@
-ghost use Rattle.fault_texts.specs.FaultTexts.{Says};
+ghost use Rattle.fault_texts.specs.FaultTexts.{HasWords};
 ghost use Rattle.fault_messages.specs.ReportMessages.{header_message, proof_message, report_message, report_number_message};
 
 use fault_texts::Sentence;
@@ -8,7 +8,7 @@ use snd_tokens::NumberFault;
 
 /// What is wrong with a number of a report.
 fn number_sentence(fault: NumberFault) -> Sentence
-    ensures { Says result (report_number_message fault) }
+    ensures { HasWords result (report_number_message fault) }
 {
     match fault {
         NumberFault::NotANumber => Sentence {
@@ -28,7 +28,7 @@ fn number_sentence(fault: NumberFault) -> Sentence
 
 /// What is wrong with the first line of a report.
 fn header_sentence(places: Places) -> Sentence
-    ensures { Says result (header_message places) }
+    ensures { HasWords result (header_message places) }
 {
     match places {
         Places::Three => Sentence {
@@ -44,7 +44,7 @@ fn header_sentence(places: Places) -> Sentence
 
 /// What is wrong with a report for a network of these places, by the kind of its first fault.
 pub fn report_sentence(places: Places, kind: ReportKind) -> Sentence
-    ensures { Says result (report_message places kind) }
+    ensures { HasWords result (report_message places kind) }
 {
     match kind {
         ReportKind::Header => header_sentence(places),
@@ -82,7 +82,7 @@ pub fn report_sentence(places: Places, kind: ReportKind) -> Sentence
 
 /// What is wrong with the proof lines below a report, by the kind of their first fault.
 pub fn proof_sentence(kind: ReportKind) -> Sentence
-    ensures { Says result (proof_message kind) }
+    ensures { HasWords result (proof_message kind) }
 {
     match kind {
         ReportKind::Number(fault) => number_sentence(fault),

@@ -1,24 +1,19 @@
-ghost use Rattle.std.specs.Prelude.{◌≡◌, ◌≤◌, ◌++◌, OnOk, length, map};
+ghost use Rattle.std.specs.Prelude.{◌≡◌, ◌≤◌, ◌++◌, OnOk, length};
 ghost use Rattle.text_places.specs.Windows.{IsWindow};
-ghost use Rattle.fault_texts.specs.FaultTexts.{excerpt_text, shown_byte};
+ghost use Rattle.fault_texts.specs.Controls.{shown};
+ghost use Rattle.fault_texts.specs.FaultTexts.{excerpt_text};
 
+use crate::control::shown_byte;
 use net_core::{Bytes, NoMemory};
 use text_places::{Window, characters};
 use text_table::put_spaces;
 
-/// A byte as it is shown: control bytes are spaces, so that the caret stands below its byte.
-fn shown_byte(byte: u8) -> u8
-    ensures { result ≡ shown_byte byte }
-{
-    if byte < 32 || byte == 127 { 32 } else { byte }
-}
-
 /// Puts the bytes last, as they are shown.
 fn put_shown(text: &mut Bytes, bytes: &[u8]) -> Result<(), NoMemory>
-    ensures { OnOk result (text.new ≡ text.old ++ map shown_byte bytes.now) }
+    ensures { OnOk result (text.new ≡ text.old ++ shown bytes.now) }
 {
-    for b in bytes {
-        text.append(&[shown_byte(*b)])?;
+    for i in 0..bytes.len() {
+        text.append(&[shown_byte(bytes, i)])?;
     }
     Ok(())
 }

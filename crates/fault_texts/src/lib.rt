@@ -1,9 +1,14 @@
-//! What is said of a fault of a file, as text: where it stands, what is wrong, the line with a caret, and what helps.
+//! What is said of a fault of a file, as text: where it stands, what is wrong, the line with a caret, what stands there, and what helps.
 #![tactic(auto)]
 
+mod control;
 mod excerpt;
+mod here;
 mod message;
+mod quote;
 mod sentence;
 
+pub use here::token_here;
 pub use message::{put_fault, put_note};
+pub use quote::put_quote;
 pub use sentence::Sentence;

@@ -1,8 +1,10 @@
 ghost use Rattle.std.specs.Prelude.{◌≡◌, ◌≤◌, ◌++◌, List, OnOk, codes, length, ℕ};
 ghost use Rattle.text_places.specs.Windows.{IsWindow};
-ghost use Rattle.fault_texts.specs.FaultTexts.{IsFaultText, excerpt_text, note_text, place_text};
+ghost use Rattle.fault_texts.specs.FaultTexts.{IsFaultText, excerpt_text, place_text};
+ghost use Rattle.fault_texts.specs.Quotes.{note_text};
 
 use crate::excerpt::put_excerpt;
+use crate::here::put_here;
 use crate::sentence::Sentence;
 use net_core::{Bytes, NoMemory};
 use text_kit::write::put_decimal;
@@ -48,7 +50,7 @@ fn put_wrong(
 }
 
 /// Puts what is wrong with a file at a byte of it last: the file's name, the line and the column with a sentence, the line itself with a
-/// caret, and what helps. It goes over the bytes before the byte at most four times.
+/// caret, what stands there, and what helps. It goes over the bytes before the byte at most four times.
 pub fn put_fault(
     text: &mut Bytes,
     name: &[u8],
@@ -63,5 +65,6 @@ pub fn put_fault(
     let window = window_of(bytes, at);
     put_place(text, name, place)?;
     put_wrong(text, sentence.wrong, bytes, at, window)?;
+    put_here(text, bytes, at)?;
     put_note(text, sentence.help)
 }

@@ -80,6 +80,7 @@ const ROWS: [Row; 15] = [
         "broken:3:29: this link has capacity in place and no module
     LINKS ( L ( A B ) 5 0 0 0 ( ) )
                                 ^
+  here stands `)`
   a link is planned only with a module; give it one, or leave the link out
 refused network fixed-link at 93
 ",

@@ -24,8 +24,9 @@ const BROKEN: &[u8] =
 /// A failure list whose lines end in carriage returns, too.
 const LIST: &[u8] = b"?planner failures; version: 1\r\nFAILURES (\r\n\ts ( XY )\r\n)\r\n";
 
-/// Faults in the middle of a line, after a tab, after characters of two bytes and bytes of control, and at the end of files.
-const FAULTS: [FaultRow; 5] = [
+/// Faults in the middle of a line, after a tab, after characters of two bytes and bytes of control, at the end of files, at a comment, at
+/// control characters of one byte and of two, and at what isn't UTF-8.
+const FAULTS: [FaultRow; 8] = [
     FaultRow {
         name: b"data/broken.txt",
         bytes: BROKEN,
@@ -34,35 +35,56 @@ const FAULTS: [FaultRow; 5] = [
             wrong: "this link has capacity in place and no module",
             help: "a link is planned only with a module; give it one, or leave the link out",
         },
-        message: b"data/broken.txt:3:29: this link has capacity in place and no module\n    LINKS ( L ( A B ) 5 0 0 0 ( ) )\n                                ^\n  a link is planned only with a module; give it one, or leave the link out\n",
+        message: b"data/broken.txt:3:29: this link has capacity in place and no module\n    LINKS ( L ( A B ) 5 0 0 0 ( ) )\n                                ^\n  here stands `)`\n  a link is planned only with a module; give it one, or leave the link out\n",
     },
     FaultRow {
         name: b"list",
         bytes: LIST,
         at: 48,
         sentence: SHORT,
-        message: b"list:3:6: wrong\n     s ( XY )\n         ^\n  do better\n",
+        message: b"list:3:6: wrong\n     s ( XY )\n         ^\n  here stands `XY`\n  do better\n",
     },
     FaultRow {
         name: b"-",
         bytes: b"z\xc3\xbcrich\x1b[1m\x7f!",
         at: 12,
         sentence: SHORT,
-        message: b"-:1:12: wrong\n    z\xc3\xbcrich [1m !\n               ^\n  do better\n",
+        message: b"-:1:12: wrong\n    z\xc3\xbcrich [1m !\n               ^\n  here stands `!`\n  do better\n",
     },
     FaultRow {
         name: b"f",
         bytes: b"",
         at: 0,
         sentence: SHORT,
-        message: b"f:1:1: wrong\n    \n    ^\n  do better\n",
+        message: b"f:1:1: wrong\n    \n    ^\n  the file ends here\n  do better\n",
     },
     FaultRow {
         name: b"f",
         bytes: b"a\rb\n",
         at: 4,
         sentence: SHORT,
-        message: b"f:3:1: wrong\n    \n    ^\n  do better\n",
+        message: b"f:3:1: wrong\n    \n    ^\n  the file ends here\n  do better\n",
+    },
+    FaultRow {
+        name: b"f",
+        bytes: b"# c\nx",
+        at: 0,
+        sentence: SHORT,
+        message: b"f:1:1: wrong\n    # c\n    ^\n  do better\n",
+    },
+    FaultRow {
+        name: b"f",
+        bytes: b"\x1b]0;\xc2\x9bz\x7f",
+        at: 0,
+        sentence: SHORT,
+        message: b"f:1:1: wrong\n     ]0;\xc2\xa0z \n    ^\n  here stands `\\x1b]0;\\xc2\\x9bz\\x7f`\n  do better\n",
+    },
+    FaultRow {
+        name: b"f",
+        bytes: b"a\x9b\xffb",
+        at: 0,
+        sentence: SHORT,
+        message: b"f:1:1: wrong\n    a\x9b\xffb\n    ^\n  here stands `a\\x9b\\xffb`\n  do better\n",
     },
 ];
 

@@ -26,7 +26,7 @@ fn put_lines(text: &mut Bytes, instance: &Instance, blocks: &List<Block>) -> Res
     )
 }
 
-/// The text of a trimmed plan's report, and a comment line for each block, as `# blocked AC 0 cut 0 right 12000 lengths 1 0 1` for the link
+/// The text of a trimmed plan's report, and a comment line for each block, as `# blocked AC 0 cut 0 right 12000 lengths 1 1 1` for the link
 /// AC of the triangle, of whose two modules of 10.00 none can be spared. Reading the text gives the report again.
 ///
 /// It takes time and memory in the number of the text's bytes.
