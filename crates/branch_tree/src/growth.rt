@@ -6,9 +6,10 @@ ghost use Rattle.box_search.specs.Searches.{HasLearned, IsAim, IsSearch, aimed, 
 ghost use Rattle.branch_tree.specs.inner.Places.{IsOpenPlace};
 
 use crate::choice::{Choice, choose};
-use crate::tree::{Tree, least_open, set_twig};
+use crate::tree::{Tree, least_open, open_boxes, set_twig};
 use box_search::{Aim, Cheaper, Found, OpenBox, Search, Twig, copied, look, make_first_lines};
 use net_core::{Copied, LinkId, NoMemory};
+use outside_io::{Gate, TreeFigures};
 use std::alloc::Global;
 use tree_check::boxes::{lower_side, upper_side, whole_box};
 use tree_check::{BoxCert, Node};
@@ -199,14 +200,27 @@ fn grow_once(
     }
 }
 
+/// Where the growth of a tree is after one more split, and a cheapest plan of this cost so far. It takes time in the size of the tree.
+fn figures_of(tree: &Tree, cost: u128, splits: u32, limit: u32) -> TreeFigures {
+    let (open, bound) = open_boxes(&tree.twigs, cost);
+    TreeFigures {
+        splits: splits.saturating_add(1),
+        limit,
+        cost,
+        bound,
+        open,
+    }
+}
+
 /// Grows a tree by what is known, by as many splits as a limit says, or until no box is open, or until cheaper counts are found. The box
 /// of all counts has this certificate besides.
-fn grown_on(
+fn grown_on<G: Gate>(
     alloc: Global,
     aim: &Aim,
     search: &mut Search,
     root: &BoxCert,
     limit: u32,
+    gate: &G,
 ) -> Result<Growth, NoMemory>
     requires aim { IsAim search.old.known.entries aim.now }
     requires search { IsSearch (aimed aim.now) search.old }
@@ -225,7 +239,7 @@ fn grown_on(
     let mut tree = Tree::new(alloc, root)?;
     for splits in 0..limit {
         match grow_once(alloc, aim, search, &mut tree, splits)? {
-            Turn::Split => {}
+            Turn::Split => gate.split(figures_of(&tree, aim.plan.cost, splits, limit)),
             Turn::Done => return Ok(Growth::Tree(tree)),
             Turn::Cheaper(cheaper) => return Ok(Growth::Cheaper(cheaper)),
         }
@@ -235,12 +249,13 @@ fn grown_on(
 
 /// Grows a tree so, after lines were made for its root if lines are to be made. The best certificate of the box of all counts that they
 /// give takes the place of `root`.
-pub(crate) fn grown(
+pub(crate) fn grown<G: Gate>(
     alloc: Global,
     aim: &Aim,
     search: &mut Search,
     root: &mut BoxCert,
     limit: u32,
+    gate: &G,
 ) -> Result<Growth, NoMemory>
     requires aim { IsAim search.old.known.entries aim.now }
     requires search { IsSearch (aimed aim.now) search.old }
@@ -253,5 +268,5 @@ pub(crate) fn grown(
 {
     let whole = whole_box(alloc, aim.instance.net)?;
     make_first_lines(alloc, aim, search, &whole, root)?;
-    grown_on(alloc, aim, search, root, limit)
+    grown_on(alloc, aim, search, root, limit, gate)
 }

@@ -15,6 +15,7 @@ use crate::tree::{Tree, finished};
 use able_counts::AbleTest;
 use box_search::{Aim, Cheaper, Known, MOST_FURTHER, MOST_SET_CUTS, Search, empty_cert};
 use net_core::{Copied, CutLine, Instance, List, Network, NoMemory, States};
+use outside_io::Gate;
 use plan_swaps::swap;
 use plan_types::Plan;
 use proof_order::{Entry, Ordered, in_order};
@@ -129,13 +130,14 @@ fn proof_of(alloc: Global, plan: Plan, entries: List<Entry>, tree: Tree) -> Resu
 }
 
 /// The proof of a plan, or of a cheaper one that the search finds: then the tree begins anew.
-fn proved<'a>(
+fn proved<'a, G: Gate>(
     alloc: Global,
     instance: &'a Instance<'a>,
     plan: Plan,
     own: &'a BoxCert,
     search: Search,
     limit: u32,
+    gate: &G,
 ) -> Result<Proof, NoMemory>
     requires limit { limit ≤ 9999 }
     requires survivable { IsSurvivable (case_of instance.now) }
@@ -156,7 +158,7 @@ fn proved<'a>(
             plan: &plan,
             own: &*own,
         };
-        match grown(alloc, &aim, &mut search, &mut root, limit)? {
+        match grown(alloc, &aim, &mut search, &mut root, limit, gate)? {
             Growth::Cheaper(cheaper) => {
                 plan = cheaper_plan(alloc, instance, plan, cheaper)?;
                 search = begun_anew(alloc, instance, search)?;
@@ -181,13 +183,14 @@ fn room_for(handed: usize, divides: bool) -> usize
 }
 
 /// The proof of a plan, or of a cheaper one, from handed-in cuts.
-fn searched(
+fn searched<G: Gate>(
     alloc: Global,
     instance: &Instance,
     plan: Plan,
     cuts: List<CutLine>,
     limit: u32,
     divides: bool,
+    gate: &G,
 ) -> Result<Proof, NoMemory>
     requires limit { limit ≤ 9999 }
     requires survivable { IsSurvivable (case_of instance.now) }
@@ -205,11 +208,11 @@ fn searched(
         handed,
         room: room_for(handed, divides),
     };
-    proved(alloc, instance, plan, &own, search, limit)
+    proved(alloc, instance, plan, &own, search, limit, gate)
 }
 
 /// Exchanges modules, and then searches for the proof.
-fn prove_with(
+fn prove_with<G: Gate>(
     alloc: Global,
     net: &Network,
     states: &States,
@@ -217,6 +220,7 @@ fn prove_with(
     cuts: List<CutLine>,
     limit: u32,
     divides: bool,
+    gate: &G,
 ) -> Result<Proof, NoMemory>
     requires limit { limit ≤ 9999 }
     requires charged { AreCharged net.now.links }
@@ -239,7 +243,7 @@ fn prove_with(
         demands: &demands,
     };
     let better = swap(alloc, net, states, plan)?;
-    searched(alloc, &instance, better, cuts, limit, divides)
+    searched(alloc, &instance, better, cuts, limit, divides, gate)
 }
 
 /// Searches for a branch tree that shows a plan to be cheapest, with at most `limit` splits.
@@ -252,7 +256,8 @@ fn prove_with(
 /// modules and cheaper counts on the way make it so. Its tree is of this plan. The cuts that the search finds come after the given ones.
 /// Where the tree has no open leaf the verdict is `Cheapest`, else `Above` with the least of the plan's cost and the open leaves' values,
 /// in units of the network. An open leaf is `Spent` where the limit of splits was reached, or `Stuck`, a box of one choice of counts of
-/// which a number of some state's routing program is too wide.
+/// which a number of some state's routing program is too wide. The gate is told of each split; where a cheaper plan is found the tree
+/// begins anew, and so do the splits.
 ///
 /// On the triangle with modules of 10.00 for 5.00 and a demand of 12.00 from A to C, two modules on each link are cheapest where each link
 /// fails alone, for 30.00: AC is split at 1, then AB.
@@ -261,13 +266,14 @@ fn prove_with(
 /// Each split takes up to nineteen programs of as many rows as twice the modules, one more for each cut that a whole point violates, and
 /// routing programs for whole points and for boxes of one choice of counts. It takes memory for a number of each module for each cut, and
 /// for the boxes that are open.
-pub fn prove(
+pub fn prove<G: Gate>(
     alloc: Global,
     net: &Network,
     states: &States,
     plan: Plan,
     cuts: List<CutLine>,
     limit: u32,
+    gate: &G,
 ) -> Result<Proof, NoMemory>
     requires limit { limit ≤ 9999 }
     requires charged { AreCharged net.now.links }
@@ -283,7 +289,7 @@ pub fn prove(
     ensures above { IfOk result (λ r. (least : ℕ) → r.verdict ≡ Verdict.Above least → (counts : List (List ℕ))
         → IsAble (case net.now states.now plan.demands) counts → least ≤ total_cost net.now.links counts) }
 {
-    prove_with(alloc, net, states, plan, cuts, limit, false)
+    prove_with(alloc, net, states, plan, cuts, limit, false, gate)
 }
 
 /// As `prove`, but the tree's leaves may also name lines that are made of the cuts, and come with the proof: sums of cuts that are divided
@@ -301,13 +307,14 @@ pub fn prove(
 /// But for cuts of boxes of one choice of counts, the cuts and lines of the answer are at most 6,144 more than three times the given cuts. A
 /// round takes a program, and time in the cuts and lines times the modules times the square of the kinds of modules; one of table lines
 /// takes, for each line, up to 4,096 times the kinds.
-pub fn prove_by_lines(
+pub fn prove_by_lines<G: Gate>(
     alloc: Global,
     net: &Network,
     states: &States,
     plan: Plan,
     cuts: List<CutLine>,
     limit: u32,
+    gate: &G,
 ) -> Result<Proof, NoMemory>
     requires limit { limit ≤ 9999 }
     requires charged { AreCharged net.now.links }
@@ -322,5 +329,5 @@ pub fn prove_by_lines(
     ensures above { IfOk result (λ r. (least : ℕ) → r.verdict ≡ Verdict.Above least → (counts : List (List ℕ))
         → IsAble (case net.now states.now plan.demands) counts → least ≤ total_cost net.now.links counts) }
 {
-    prove_with(alloc, net, states, plan, cuts, limit, true)
+    prove_with(alloc, net, states, plan, cuts, limit, true, gate)
 }

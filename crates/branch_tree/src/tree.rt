@@ -99,6 +99,23 @@ pub(crate) fn least_open(twigs: &[Twig]) -> Option<usize>
     }
 }
 
+/// How many boxes of a tree are open, and the least of a plan's cost and of what the open leaves show: no plan costs less.
+pub(crate) fn open_boxes(twigs: &[Twig], cost: u128) -> (usize, u128) {
+    let mut open = 0usize;
+    let mut least = cost;
+    for i in 0..twigs.len() {
+        match &twigs[i] {
+            Twig::Settled(_) => {}
+            Twig::Stuck(best, _) => least = least.min(best.value),
+            Twig::Open(OpenBox { best, .. }) => {
+                least = least.min(best.value);
+                open = open.saturating_add(1);
+            }
+        }
+    }
+    (open, least)
+}
+
 /// What the nodes of a tree show.
 #[derive(Clone, Copy)]
 struct Shown {

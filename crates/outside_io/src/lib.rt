@@ -1,10 +1,12 @@
-//! The outside: where files come from, where output goes, and where a test may hold callers.
+//! The outside: where files come from, where output goes, and where a test may hold callers and a program
+//! may show how far they are.
 //!
 //! `MemShelf` and `MemSink` tell what they hold, so that clauses can speak of it. `FileShelf` and
 //! `StreamSink` are the two trusted edges to the machine: what a real file holds, and that a real
 //! stream took the bytes, is outside what is proved.
 #![tactic(auto)]
 
+pub mod figures;
 pub mod files;
 pub mod gate;
 pub mod memory;
@@ -12,6 +14,7 @@ pub mod shelf;
 pub mod sink;
 pub mod stream;
 
+pub use figures::{RoundFigures, TreeFigures};
 pub use files::FileShelf;
 pub use gate::{Gate, OpenGate};
 pub use memory::{MemFile, MemShelf, MemSink, have_different_names};

@@ -22,6 +22,7 @@ use length_master::KeptMaster;
 use master_bound::{Best, MasterFault, unit_pairs};
 use module_prices::UnitPair;
 use net_core::{Caps, CutLine, Instance, List, NoMemory};
+use outside_io::RoundFigures;
 use plan_types::{Cause, Quality, Spot};
 use separator::{Separate, StateAnswer};
 use std::alloc::Global;
@@ -161,14 +162,14 @@ fn answers_at<S: Separate>(
     }
 }
 
-/// Asks states about the share of the best certificate of the cuts so far.
+/// Asks states about the share of the best certificate of the cuts so far, all of them in round 1.
 fn ask<S: Separate>(
     alloc: Global,
     instance: &Instance,
     pairs: &List<UnitPair>,
     room: usize,
     best: Best,
-    is_first: bool,
+    round: u32,
     separator: &mut S,
     candidates: &mut Candidates,
 ) -> Result<Turn, NoMemory>
@@ -186,8 +187,15 @@ fn ask<S: Separate>(
         (S.seen_of separator.new) candidates.old.lines candidates.new.lines turn) }
 {
     let caps = share_caps(alloc, instance.net, pairs, &best.share)?;
-    let answers = answers_at(instance, &caps.divided, is_first, separator)?;
+    let answers = answers_at(instance, &caps.divided, round == 1, separator)?;
     let answered = sorted(alloc, answers)?;
+    separator.note(RoundFigures {
+        round,
+        cuts: candidates.lines.len(),
+        raw_num: best.raw_num,
+        raw_den: best.raw_den,
+        routed: answered.routings.len(),
+    });
     judge(alloc, instance, room, best, caps, answered, candidates)
 }
 
@@ -210,6 +218,7 @@ fn take_turn<S: Separate>(
     instance: &Instance,
     pairs: &List<UnitPair>,
     room: usize,
+    round: u32,
     before: Option<Best>,
     kept: &mut KeptMaster,
     separator: &mut S,
@@ -227,10 +236,9 @@ fn take_turn<S: Separate>(
     ensures alone { IfOk result (λ turn. PoolsTurn (case_of instance.now) pairs.now room (S.seen_of separator.old)
         (S.seen_of separator.new) candidates.old.lines candidates.new.lines turn) }
 {
-    let is_first = before.is_none();
     match best_so_far(alloc, instance.net, &candidates.lines, kept) {
         Ok(best) => ask(
-            alloc, instance, pairs, room, best, is_first, separator, candidates,
+            alloc, instance, pairs, room, best, round, separator, candidates,
         ),
         Err(fault) => too_wide(fault, before),
     }
@@ -258,14 +266,17 @@ fn turns<S: Separate>(
 {
     let mut candidates = candidates;
     let mut before = None;
+    let mut round = 0u32;
     let mut kept = KeptMaster::new();
     loop {
         let room = most - candidates.lines.len();
+        round = round.saturating_add(1);
         match take_turn(
             alloc,
             instance,
             pairs,
             room,
+            round,
             before,
             &mut kept,
             separator,

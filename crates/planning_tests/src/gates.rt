@@ -1,5 +1,5 @@
 //! Gates that hold callers.
-use outside_io::Gate;
+use outside_io::{Gate, RoundFigures, TreeFigures};
 use std::sync::atomic::{AtomicU64, Ordering};
 use std::thread;
 
@@ -53,6 +53,10 @@ impl Gate for LateEdit {
     fn before(&self, _caller: u32, _state: u32) {}
 
     fn after(&self, _caller: u32, _state: u32) {}
+
+    fn rounded(&self, _caller: u32, _figures: RoundFigures) {}
+
+    fn split(&self, _figures: TreeFigures) {}
 }
 
 /// An edit of caller 2 waits until caller 1 has begun with state 0 in a round, and caller 1 waits after each state until caller 2 has
@@ -96,4 +100,8 @@ impl Gate for EditAmidPlan {
             wait_for(&self.edited);
         }
     }
+
+    fn rounded(&self, _caller: u32, _figures: RoundFigures) {}
+
+    fn split(&self, _figures: TreeFigures) {}
 }

@@ -38,7 +38,7 @@ pub enum ProofEnding {
 }
 
 /// Searches for a branch tree, over divided lines or over cuts alone.
-fn searched(
+fn searched<G: Gate>(
     alloc: Global,
     net: &Network,
     states: &States,
@@ -46,6 +46,7 @@ fn searched(
     cuts: List<CutLine>,
     limit: u32,
     divides: bool,
+    gate: &G,
 ) -> Result<Proof, NoMemory>
     requires limit { limit ≤ 9999 }
     requires charged { AreCharged net.now.links }
@@ -62,19 +63,20 @@ fn searched(
         → IsAble (case net.now states.now plan.demands) counts → least ≤ total_cost net.now.links counts) }
 {
     if divides {
-        prove_by_lines(alloc, net, states, plan, cuts, limit)
+        prove_by_lines(alloc, net, states, plan, cuts, limit, gate)
     } else {
-        prove(alloc, net, states, plan, cuts, limit)
+        prove(alloc, net, states, plan, cuts, limit, gate)
     }
 }
 
 /// Searches for a branch tree of a report's plan, with at most `limit` splits.
-fn prove_planned(
+fn prove_planned<G: Gate>(
     alloc: Global,
     instance: &Instance,
     planned: PlannedReport,
     limit: u32,
     divides: bool,
+    gate: &G,
 ) -> Result<ProvedReport, NoMemory>
     requires limit { limit ≤ 9999 }
     requires charged { AreCharged instance.now.net.now.links }
@@ -92,6 +94,7 @@ fn prove_planned(
         cuts,
         limit,
         divides,
+        gate,
     )?;
     Ok(ProvedReport {
         notes: planned.notes,
@@ -102,34 +105,36 @@ fn prove_planned(
 }
 
 /// Searches for a branch tree of a report's plan over cuts alone.
-fn prove_by_cuts(
+fn prove_by_cuts<G: Gate>(
     alloc: Global,
     instance: &Instance,
     planned: PlannedReport,
     limit: u32,
+    gate: &G,
 ) -> Result<ProofEnding, NoMemory>
     requires limit { limit ≤ 9999 }
     requires charged { AreCharged instance.now.net.now.links }
     requires trimmed { IsTrimmedOnce (case_of instance.now) instance.now.net.now.notes planned }
     ensures { IfOk result (IsProofEnding (case_of instance.now) instance.now.net.now.notes limit) }
 {
-    let report = prove_planned(alloc, instance, planned, limit, false)?;
+    let report = prove_planned(alloc, instance, planned, limit, false, gate)?;
     Ok(ProofEnding::Proved(report))
 }
 
 /// Searches for a branch tree of a report's plan over divided lines.
-fn prove_with_lines(
+fn prove_with_lines<G: Gate>(
     alloc: Global,
     instance: &Instance,
     planned: PlannedReport,
     limit: u32,
+    gate: &G,
 ) -> Result<ProofEnding, NoMemory>
     requires limit { limit ≤ 9999 }
     requires charged { AreCharged instance.now.net.now.links }
     requires trimmed { IsTrimmedOnce (case_of instance.now) instance.now.net.now.notes planned }
     ensures { IfOk result (IsLinedEnding (case_of instance.now) instance.now.net.now.notes limit) }
 {
-    let report = prove_planned(alloc, instance, planned, limit, true)?;
+    let report = prove_planned(alloc, instance, planned, limit, true, gate)?;
     Ok(ProofEnding::Proved(report))
 }
 
@@ -149,7 +154,9 @@ pub fn prove_once<R: Threads + Wait + Sync, G: Gate + Sync>(
     ensures { IfOk result (IsProofEnding (case_of instance.now) instance.now.net.now.notes limit) }
 {
     match trim_once(rt, alloc, instance, gate) {
-        Ok(TrimEnding::Trimmed { report, .. }) => prove_by_cuts(alloc, instance, report, limit),
+        Ok(TrimEnding::Trimmed { report, .. }) => prove_by_cuts(
+            alloc, instance, report, limit, gate,
+        ),
         Ok(TrimEnding::Separated { state, demand }) => Ok(ProofEnding::Separated { state, demand }),
         Err(NoMemory) => Err(NoMemory),
     }
@@ -171,7 +178,9 @@ pub fn prove_once_by_lines<R: Threads + Wait + Sync, G: Gate + Sync>(
     ensures { IfOk result (IsLinedEnding (case_of instance.now) instance.now.net.now.notes limit) }
 {
     match trim_once(rt, alloc, instance, gate) {
-        Ok(TrimEnding::Trimmed { report, .. }) => prove_with_lines(alloc, instance, report, limit),
+        Ok(TrimEnding::Trimmed { report, .. }) => prove_with_lines(
+            alloc, instance, report, limit, gate,
+        ),
         Ok(TrimEnding::Separated { state, demand }) => Ok(ProofEnding::Separated { state, demand }),
         Err(NoMemory) => Err(NoMemory),
     }

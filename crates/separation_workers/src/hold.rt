@@ -1,4 +1,4 @@
-use outside_io::Gate;
+use outside_io::{Gate, RoundFigures, TreeFigures};
 use std::sync::atomic::{AtomicU64, Ordering};
 use std::thread;
 
@@ -72,4 +72,8 @@ impl Gate for Hold {
             self.let_go.store(1, Ordering::SeqCst);
         }
     }
+
+    fn rounded(&self, _caller: u32, _figures: RoundFigures) {}
+
+    fn split(&self, _figures: TreeFigures) {}
 }

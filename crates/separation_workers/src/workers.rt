@@ -20,7 +20,7 @@ use flow_router::RouteAnswer;
 use hint_board::HintBoard;
 use metric_cut::Cut;
 use net_core::{Caps, Instance, List, NoMemory, StateId};
-use outside_io::Gate;
+use outside_io::{Gate, RoundFigures};
 use plan_types::Spot;
 use separator::{KnownState, Separate, Separated, StateAnswer, line_of};
 use std::alloc::Global;
@@ -307,5 +307,9 @@ impl<'r, 'd, 'a, R: Threads + Wait, G: Gate> Separate for Workers<'r, 'd, 'a, R,
             &mut self.first,
             &mut self.caller,
         )
+    }
+
+    fn note(&self, figures: RoundFigures) {
+        self.gate.rounded(self.caller.number(), figures);
     }
 }

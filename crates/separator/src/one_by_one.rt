@@ -12,6 +12,7 @@ use crate::warm_start::KnownStates;
 use cut_pool::Board;
 use metric_cut::Cut;
 use net_core::{Caps, Demands, Instance, List, NoMemory, StateId};
+use outside_io::RoundFigures;
 use plan_types::Spot;
 use std::alloc::Global;
 use std::snapshot::Snapshot as Remembered;
@@ -148,4 +149,6 @@ impl<'a> Separate for OneByOne<'a> {
             &mut self.known,
         )
     }
+
+    fn note(&self, _figures: RoundFigures) {}
 }

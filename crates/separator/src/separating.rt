@@ -8,6 +8,7 @@ ghost use Rattle.separator.specs.Separators.{cuts_answered, cuts_since};
 use crate::answers::StateAnswer;
 use metric_cut::Cut;
 use net_core::{Caps, Instance, List, NoMemory};
+use outside_io::RoundFigures;
 use plan_types::Spot;
 
 /// A separator: it tells of each state whether capacities carry the demands there, and puts the cuts that they violate into the pool
@@ -66,6 +67,9 @@ pub trait Separate {
         ensures different { AllPairs (λ x y. x.0 ≢ y.0) (cuts_since (seen_of self.old) (seen_of self.new)) }
         ensures answers { IfOk result (λ answers. ∥ AreAnswersUntilCut (case_of instance.now) caps.now (seen_of self.new).history answers ∥₁) }
         ensures answered { IfOk result (λ answers. All (Contains (cuts_answered answers)) (cuts_since (seen_of self.old) (seen_of self.new))) };
+
+    /// Takes note of where the planning is, at the end of a round. No answer depends on it.
+    fn note(&self, figures: RoundFigures);
 
     /// What has been seen keeps the limits of a history, and the own entries stand in it.
     ghost seen: { (s : Self) → ∥ IsSeenHistory (frame s).network (frame s).states (seen_of s) ∥₁ };

@@ -10,21 +10,21 @@ use Rattle.branch_tree.proofs.Sides.{whole_searched}
 use Rattle.branch_tree.proofs.growth.grown_on.Goals as goal
 
 pub look-requires-clause-search_box : goal.look-requires-clause-search_box
-look-requires-clause-search_box c = subst (λ (box : TreeBox). IsSearchBox (aimed c.args.aim.now).links 0 box) (sym c.in_ok-whole.ensures) (whole_searched (aimed c.args.aim.now).links)
+look-requires-clause-search_box g c = subst (λ (box : TreeBox). IsSearchBox (aimed c.args.aim.now).links 0 box) (sym c.in_ok-whole.ensures) (whole_searched (aimed c.args.aim.now).links)
 
 pub grow_once-requires-clause-aim : goal.grow_once-requires-clause-aim
-grow_once-requires-clause-aim c = aim_on c.args.aim.now c.args.search.now.known.entries c.loop-splits.search.known.entries c.loop-splits.invariant.learned.extends c.requires.aim
+grow_once-requires-clause-aim g c = aim_on c.args.aim.now c.args.search.now.known.entries c.loop-splits.search.known.entries c.loop-splits.invariant.learned.extends c.requires.aim
 
 pub returns-in-Done-clause-learned : goal.returns-in-Done-clause-learned
-returns-in-Done-clause-learned c =
+returns-in-Done-clause-learned g c =
     learned_on c.args.search.now c.loop-splits.search c.grow_once.new.search c.loop-splits.invariant.learned c.in_ok-grow_once.ensures.learned
 
 pub returns-in-Cheaper-2-clause-learned : goal.returns-in-Cheaper-2-clause-learned
-returns-in-Cheaper-2-clause-learned c =
+returns-in-Cheaper-2-clause-learned g c =
     learned_on c.args.search.now c.loop-splits.search c.grow_once.new.search c.loop-splits.invariant.learned c.in_ok-grow_once.ensures.learned
 
 pub loop-splits-preserved : goal.loop-splits-preserved
-loop-splits-preserved c =
+loop-splits-preserved g c =
     let a = c.args.aim.now in
     let s = c.loop-splits.search in
     let new = c.grow_once.new.search in

@@ -5,7 +5,7 @@ use Rattle.branch_tree.proofs.growth.grown_on.Given as goal
 
 -- the tree has as many splits as there were turns, each of which added two cuts at most but for those of whole points
 abbrev pub invariant-loop-splits : goal.invariant-loop-splits
-invariant-loop-splits l = record {
+invariant-loop-splits g l = record {
   search : IsSearch (aimed l.aim) l.search;
   learned : HasLearned l.fn.search l.search;
   few : length l.search.known.entries ≤ most_entries l.fn.search + 2 * l.splits + 1;

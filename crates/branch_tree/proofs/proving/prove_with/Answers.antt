@@ -10,10 +10,10 @@ use Rattle.branch_tree.proofs.Restarts.{handed_still, proof_still}
 use Rattle.branch_tree.proofs.proving.prove_with.Goals as goal
 
 pub searched-requires-clause-survivable : goal.searched-requires-clause-survivable
-searched-requires-clause-survivable c = subst (λ (ds : List Demand). IsSurvivable (case c.args.net.now c.args.states.now ds)) (sym c.in_ok-demands.ensures) c.requires.survivable
+searched-requires-clause-survivable g c = subst (λ (ds : List Demand). IsSurvivable (case c.args.net.now c.args.states.now ds)) (sym c.in_ok-demands.ensures) c.requires.survivable
 
 pub searched-requires-clause-cuts : goal.searched-requires-clause-cuts
-searched-requires-clause-cuts c =
+searched-requires-clause-cuts g c =
     let net = c.args.net.now in
     let states = c.args.states.now in
     let better = c.in_ok-better.better in
@@ -21,7 +21,7 @@ searched-requires-clause-cuts c =
     (handed_still (case net states c.args.plan.demands) c.args.plan better c.args.cuts c.in_ok-better.ensures c.requires.cuts)
 
 pub returns-clause-proof : goal.returns-clause-proof
-returns-clause-proof c =
+returns-clause-proof g c =
     let net = c.args.net.now in
     let states = c.args.states.now in
     let p = case net states c.args.plan.demands in
@@ -31,7 +31,7 @@ returns-clause-proof c =
     (λ (proof : Proof) of. proof_still p c.args.plan better c.args.cuts c.args.limit proof c.in_ok-better.ensures of.proof_is) is
 
 pub returns-clause-cheapest : goal.returns-clause-cheapest
-returns-clause-cheapest c =
+returns-clause-cheapest g c =
     let net = c.args.net.now in
     let states = c.args.states.now in
     let p = case net states c.args.plan.demands in
@@ -42,7 +42,7 @@ returns-clause-cheapest c =
     (λ (proof : Proof) of. λ verdict counts able. cheapest_holds p proof counts of.proof_is.accepted verdict able) is
 
 pub returns-clause-above : goal.returns-clause-above
-returns-clause-above c =
+returns-clause-above g c =
     let net = c.args.net.now in
     let states = c.args.states.now in
     let p = case net states c.args.plan.demands in
@@ -53,6 +53,6 @@ returns-clause-above c =
     (λ (proof : Proof) of. λ least verdict counts able. open_leaves_hold p proof least counts of.proof_is.accepted verdict able) is
 
 pub returns-clause-lines : goal.returns-clause-lines
-returns-clause-lines c = λ none.
+returns-clause-lines g c = λ none.
     IfOk-weaker c.searched.result (IsProofWith (case c.args.net.now c.args.states.now c.in_ok-demands.demands) c.args.divides c.in_ok-better.better c.args.cuts c.args.limit)
     (λ (r : Proof). r.lines ≡ []) (λ (proof : Proof) of. of.plain none) c.searched.ensures

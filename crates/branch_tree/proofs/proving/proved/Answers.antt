@@ -9,17 +9,17 @@ use Rattle.branch_tree.proofs.Restarts.{aim_of, attempt_room, cheaper_both, chea
 use Rattle.branch_tree.proofs.proving.proved.Goals as goal
 
 pub attempt-init : goal.attempt-init
-attempt-init c = record { plan = cheaper_none (case_of c.args.instance.now) c.args.plan c.requires.routed; search = c.requires.search; handed = refl; divides = refl; few = c.requires.few }
+attempt-init g c = record { plan = cheaper_none (case_of c.args.instance.now) c.args.plan c.requires.routed; search = c.requires.search; handed = refl; divides = refl; few = c.requires.few }
 
 pub grown-requires-clause-aim : goal.grown-requires-clause-aim
-grown-requires-clause-aim c =
+grown-requires-clause-aim g c =
     aim_of _ c.args.plan c.attempt.search (handed_in c.args.search) c.attempt.invariant.search c.requires.survivable c.requires.demands c.attempt.invariant.plan c.attempt.invariant.handed c.requires.own
 
 pub grown-requires-clause-room : goal.grown-requires-clause-room
-grown-requires-clause-room c = attempt_room (case_of c.args.instance.now) c.attempt.search c.args.limit c.attempt.invariant.search c.attempt.invariant.few c.requires.limit
+grown-requires-clause-room g c = attempt_room (case_of c.args.instance.now) c.attempt.search c.args.limit c.attempt.invariant.search c.attempt.invariant.few c.requires.limit
 
 pub attempt-preserved : goal.attempt-preserved
-attempt-preserved c =
+attempt-preserved g c =
     let p = case_of c.args.instance.now in
     let old = c.attempt.search in
     let told = c.in_ok-cheaper.ensures in
@@ -32,12 +32,12 @@ attempt-preserved c =
     }
 
 pub returns-in-Tree : goal.returns-in-Tree
-returns-in-Tree c =
+returns-in-Tree g c =
     let p = case_of c.args.instance.now in
     let old = c.attempt.search in
     let new = c.grown.new.search in
     let told = c.in_ok-cheaper.ensures in
-    let is = subst (λ (g : Growth). IsGrownTo p c.attempt.plan (handed_in old) new.known.tested c.args.limit g) c.in-Tree.is told.grown in
+    let is = subst (λ (growth : Growth). IsGrownTo p c.attempt.plan (handed_in old) new.known.tested c.args.limit growth) c.in-Tree.is told.grown in
     IfOk-weaker c.proof_of.result _ _
     (made_proof p c.args.plan c.attempt.plan old new c.in-Tree.tree c.args.limit (handed_in c.args.search) c.args.search.known.divides c.attempt.invariant.handed
     (told.learned.divides ∙ c.attempt.invariant.divides) c.attempt.invariant.plan c.requires.certified c.requires.limit

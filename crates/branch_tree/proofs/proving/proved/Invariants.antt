@@ -6,7 +6,7 @@ use Rattle.branch_tree.proofs.proving.proved.Given as goal
 
 -- the plan is the given one or a cheaper one, and the handed-in cuts are the first ones still
 abbrev pub invariant-attempt : goal.invariant-attempt
-invariant-attempt l = record {
+invariant-attempt g l = record {
   plan : IsCheaperPlan (case_of l.instance) l.fn.plan l.plan;
   search : IsSearch (case_of l.instance) l.search;
   handed : handed_in l.search ≡ handed_in l.fn.search;
@@ -16,4 +16,4 @@ invariant-attempt l = record {
 
 -- each attempt begins with a cheaper plan
 abbrev pub decreases-attempt : goal.decreases-attempt
-decreases-attempt l = l.plan.cost
+decreases-attempt g l = l.plan.cost

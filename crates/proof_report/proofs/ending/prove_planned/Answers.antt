@@ -15,40 +15,40 @@ use Rattle.proof_report.specs.ProvedReports.{certificate_cuts}
 use Rattle.proof_report.proofs.ending.prove_planned.Goals as goal
 
 pub handed_cuts-requires-clause-pool : goal.handed_cuts-requires-clause-pool
-handed_cuts-requires-clause-pool c = let i = c.args.instance.now in pool_few (case_of i) i.net.now.notes c.args.planned c.requires.trimmed.trimmed.transcript
+handed_cuts-requires-clause-pool g c = let i = c.args.instance.now in pool_few (case_of i) i.net.now.notes c.args.planned c.requires.trimmed.trimmed.transcript
 
 pub handed_cuts-requires-clause-lines : goal.handed_cuts-requires-clause-lines
-handed_cuts-requires-clause-lines c =
+handed_cuts-requires-clause-lines g c =
     let i = c.args.instance.now in
     let few = certificate_few (case_of i) i.net.now.notes c.args.planned c.requires.trimmed.trimmed.transcript in
     omega (arith, few)
 
 pub work_out-requires : goal.work_out-requires
-work_out-requires c =
+work_out-requires g c =
     let i = c.args.instance.now in
     subst (λ (cuts : List CutLine). All (λ cut. ∥ IsCut (case_of i) cut ∥₁) cuts) (sym c.items.ensures)
     (handed_told (case_of i) i.net.now.notes c.args.planned c.requires.trimmed.trimmed.transcript c.in_ok-cuts.cuts c.in_ok-cuts.ensures)
 
 pub searched-requires-clause-belong : goal.searched-requires-clause-belong
-searched-requires-clause-belong c =
+searched-requires-clause-belong g c =
     let i = c.args.instance.now in
     subst (AreDemands (length i.net.now.nodes)) (sym ((lone_plans_carry (case_of i) i.net.now.notes c.args.planned c.requires.trimmed.trimmed.transcript).0.demands)) i.belong
 
 pub searched-requires-clause-survivable : goal.searched-requires-clause-survivable
-searched-requires-clause-survivable c =
+searched-requires-clause-survivable g c =
     let i = c.args.instance.now in
     let known = lone_plans_carry (case_of i) i.net.now.notes c.args.planned c.requires.trimmed.trimmed.transcript in
     subst (λ (ds : List Demand). IsSurvivable (case i.net.now i.states.now ds)) (sym known.0.demands) known.1
 
 pub searched-requires-clause-routed : goal.searched-requires-clause-routed
-searched-requires-clause-routed c =
+searched-requires-clause-routed g c =
     let i = c.args.instance.now in
     let known = lone_plans_carry (case_of i) i.net.now.notes c.args.planned c.requires.trimmed.trimmed.transcript in
     subst (λ (ds : List Demand). IsRoutedPlan (case i.net.now i.states.now ds) c.args.planned.plan) (sym known.0.demands)
     (routed_plan (case_of i) i.net.now.notes c.args.limit c.args.planned c.requires.trimmed)
 
 pub searched-requires-clause-certified : goal.searched-requires-clause-certified
-searched-requires-clause-certified c =
+searched-requires-clause-certified g c =
     let i = c.args.instance.now in
     let p = case_of i in
     let known = lone_plans_carry p i.net.now.notes c.args.planned c.requires.trimmed.trimmed.transcript in
@@ -59,7 +59,7 @@ searched-requires-clause-certified c =
     (lines_shown p cuts c.args.planned.plan.certificate.lines sound c.in_ok-cuts.ensures.all))
 
 pub searched-requires-clause-cuts : goal.searched-requires-clause-cuts
-searched-requires-clause-cuts c =
+searched-requires-clause-cuts g c =
     let i = c.args.instance.now in
     let p = case_of i in
     let known = lone_plans_carry p i.net.now.notes c.args.planned c.requires.trimmed.trimmed.transcript in
@@ -76,7 +76,7 @@ searched-requires-clause-cuts c =
     })
 
 pub returns-clause-lined : goal.returns-clause-lined
-returns-clause-lined c =
+returns-clause-lined g c =
     let i = c.args.instance.now in
     let p = case_of i in
     let known = lone_plans_carry p i.net.now.notes c.args.planned c.requires.trimmed.trimmed.transcript in
@@ -89,4 +89,4 @@ returns-clause-lined c =
     c.in_ok-proof.ensures.above)
 
 pub returns-clause-plain : goal.returns-clause-plain
-returns-clause-plain c = λ none. c.in_ok-proof.ensures.lines none
+returns-clause-plain g c = λ none. c.in_ok-proof.ensures.lines none

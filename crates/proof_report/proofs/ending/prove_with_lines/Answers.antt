@@ -1,4 +1,4 @@
 use Rattle.proof_report.proofs.ending.prove_with_lines.Goals as goal
 
 pub returns : goal.returns
-returns c = c.in_ok-report.ensures.lined
+returns g c = c.in_ok-report.ensures.lined
