@@ -33,6 +33,14 @@ mod plan_checker {
     pub mod kept;
 }
 
+mod outside_io {
+    pub mod figures;
+    pub mod gate;
+
+    pub use figures::{RoundFigures, TreeFigures};
+    pub use gate::{Gate, OpenGate};
+}
+
 mod plan_types {
     pub mod certificate;
     pub mod plan;
@@ -81,6 +89,7 @@ use metric_cut::opening;
 use module_choice::{Fallback, fallback_plan};
 use module_prices::unit_pair;
 use net_core::{Caps, Copied, CutLine, Demand, Demands, Global, Instance, Link, List, Module, Network, NodeId, StateId, States};
+use outside_io::OpenGate;
 use branch_tree::{prove, prove_by_lines};
 use plan_types::{CertLine, Cause, Certificate, Plan, Quality, Spot};
 use separator::{line_of, separate_state};
@@ -291,8 +300,8 @@ fn main() {
         let (plan, cuts) = planned(&instance);
         let (first, bound, handed) = (plan.cost, plan.bound, cuts.len());
         let start = clock();
-        let search = if by_lines { prove_by_lines } else { prove };
-        let proof = search(Global, &net, &states, plan, cuts, limit).unwrap();
+        let search = if by_lines { prove_by_lines::<OpenGate> } else { prove::<OpenGate> };
+        let proof = search(Global, &net, &states, plan, cuts, limit, &OpenGate).unwrap();
         let middle = clock();
         let answer = check_tree(Global, &net, &states, &demands, &proof);
         let end = clock();
