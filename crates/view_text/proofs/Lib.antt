@@ -1,5 +1,3 @@
-pub mod Appended
-pub mod Apart
 pub mod Few
 pub mod ModuleWords
 pub mod Plans

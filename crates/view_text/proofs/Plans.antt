@@ -12,7 +12,7 @@ use Rattle.view_text.specs.CostProofs.{HoldsProof}
 use Rattle.view_text.specs.LinkCells.{cells_of_link, link_heads, total_cells}
 use Rattle.view_text.specs.PlanViews.{IsPlanView, ShowsRows, accepted_text}
 use Rattle.view_text.specs.StateCells.{state_cells, state_heads}
-use Rattle.view_text.specs.Tables.{AddsText, HasRows, HasRowsAbove}
+use Rattle.view_cells.specs.Terms.{AddsText, HasRows, HasRowsAbove}
 use Rattle.view_text.specs.declared.plan.PlanNumbers.{PlanNumbers}
 use Rattle.view_text.specs.declared.proof.CostProof.{CostProof}
 use Rattle.view_text.specs.inner.Numbers.{AreNumbers}

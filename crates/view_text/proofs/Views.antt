@@ -6,10 +6,10 @@ use Rattle.plan_types.specs.declared.report.Outcome.{Outcome}
 use Rattle.view_text.specs.Headings.{heading_text}
 use Rattle.view_text.specs.OutcomeCells.{HasOutcomes, numbers_text}
 use Rattle.view_text.specs.Reports.{AreOutcomeViews, IsBody, IsBrief, IsFirstBlock, IsNumberedView, IsOutcomeView, IsReportView, IsSessionView}
-use Rattle.view_text.specs.Tables.{AddsText}
+use Rattle.view_cells.specs.Terms.{AddsText}
 use Rattle.view_text.specs.declared.proof.CostProof.{CostProof}
 use Rattle.view_text.specs.declared.proof.CostProof.TheVariants.{Nothing}
-use Rattle.view_text.proofs.Appended.{appended}
+use Rattle.view_cells.proofs.Lemmas.{appended}
 
 pub numbered : (p : Case) (outcome : Outcome) (old mid new : List ℕ) → mid ≡ old ++ numbers_text outcome
     → AddsText (IsOutcomeView p Nothing outcome) mid new → AddsText (IsNumberedView p outcome) old new

@@ -6,7 +6,7 @@ use Rattle.plan_types.specs.declared.quality.Quality.{Quality}
 use Rattle.plan_types.specs.declared.quality.Quality.TheVariants.{Tight, Loose}
 use Rattle.plan_view.specs.declared.rows.PlanSummary.{PlanSummary}
 use Rattle.text_kit.specs.Terms.{money_word}
-use Rattle.view_text.specs.Cells.{counted, tenths_per_cent}
+use Rattle.view_cells.specs.Terms.{counted, tenths_per_cent}
 use Rattle.view_text.specs.declared.proof.CostProof.{CostProof}
 use Rattle.view_text.specs.declared.proof.CostProof.TheVariants.{Nothing, Cheapest, Above}
 

@@ -5,7 +5,7 @@ use Rattle.plan_terms.specs.Terms.{Case, Demand, Places, total_need}
 use Rattle.plan_types.specs.declared.report.Outcome.{Outcome}
 use Rattle.plan_types.specs.declared.report.Outcome.TheVariants.{Planned, Unsurvivable}
 use Rattle.text_kit.specs.Terms.{money_word}
-use Rattle.view_text.specs.Cells.{counted}
+use Rattle.view_cells.specs.Terms.{counted}
 
 -- the outcome is a plan
 abbrev pub is_planned : Outcome → Bool

@@ -1,4 +1,3 @@
-pub mod Cells
 pub mod CostCells
 pub mod CostProofs
 pub mod Headings
@@ -7,6 +6,5 @@ pub mod OutcomeCells
 pub mod PlanViews
 pub mod Reports
 pub mod StateCells
-pub mod Tables
 pub mod Terms
 pub mod inner

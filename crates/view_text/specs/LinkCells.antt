@@ -6,7 +6,7 @@ use Rattle.plan_report.specs.Terms.{KnownNames, node_name, state_name}
 use Rattle.plan_terms.specs.Terms.{Link, Module, Places}
 use Rattle.plan_view.specs.declared.rows.LinkRow.{LinkRow}
 use Rattle.plan_view.specs.declared.rows.PlanSummary.{PlanSummary}
-use Rattle.view_text.specs.Cells.{joined_words, per_cent}
+use Rattle.view_cells.specs.Terms.{joined_words, per_cent}
 
 -- the names of a link's ends
 abbrev pub ends_text : List (List ℕ) → Link → List ℕ

@@ -5,7 +5,7 @@ use Rattle.plan_report.specs.Terms.{state_name}
 use Rattle.plan_types.specs.declared.report.Outcome.{Outcome}
 use Rattle.plan_types.specs.declared.report.Outcome.TheVariants.{Planned, Unsurvivable}
 use Rattle.text_kit.specs.Terms.{money_word}
-use Rattle.view_text.specs.Tables.{HasRows}
+use Rattle.view_cells.specs.Terms.{HasRows}
 
 -- the line of an outcome without a plan whose demand a failure separates
 abbrev pub failure_text : List Listed → ℕ → List ℕ → List ℕ

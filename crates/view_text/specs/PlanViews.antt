@@ -12,7 +12,7 @@ use Rattle.view_text.specs.CostCells.{cost_rows, least_text}
 use Rattle.view_text.specs.CostProofs.{HoldsProof}
 use Rattle.view_text.specs.LinkCells.{cells_of_link, link_heads, total_cells}
 use Rattle.view_text.specs.StateCells.{state_cells, state_heads}
-use Rattle.view_text.specs.Tables.{HasRows, HasRowsAbove}
+use Rattle.view_cells.specs.Terms.{HasRows, HasRowsAbove}
 use Rattle.view_text.specs.declared.proof.CostProof.{CostProof}
 
 -- the case with the demands of a plan

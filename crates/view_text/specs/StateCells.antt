@@ -5,7 +5,7 @@ use Rattle.plan_report.specs.Terms.{KnownNames, state_name}
 use Rattle.plan_view.specs.declared.rows.StateRow.{StateRow}
 use Rattle.text_kit.specs.Terms.{money_word}
 use Rattle.text_table.specs.Cells.{right_cell, spaces}
-use Rattle.view_text.specs.Cells.{joined_words, per_cent, tenths_per_cent}
+use Rattle.view_cells.specs.Terms.{joined_words, per_cent, tenths_per_cent}
 
 -- the names of links
 abbrev pub names_text : List Link → List LinkId → List ℕ

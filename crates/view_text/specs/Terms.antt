@@ -2,4 +2,4 @@
 pub use Rattle.view_text.specs.CostProofs.{HoldsProof, CostsAtLeast}
 pub use Rattle.view_text.specs.PlanViews.{case_of_plan}
 pub use Rattle.view_text.specs.Reports.{HoldsOfSingle, IsFirstBlock, IsReportView, HasSoundPlan, problem_case}
-pub use Rattle.view_text.specs.Tables.{AddsText}
+pub use Rattle.view_cells.specs.Terms.{AddsText}

@@ -1,18 +1,18 @@
 ghost use Rattle.std.specs.Prelude.{◌≡◌, ◌≤◌, ◌++◌, All, IfOk, OnOk, codes, cond, length, nat_eq};
 ghost use Rattle.std.specs.List.{AllByRecursion};
-ghost use Rattle.view_text.specs.Cells.{tenths_per_cent};
+ghost use Rattle.view_cells.specs.Terms.{tenths_per_cent};
 ghost use Rattle.view_text.specs.CostCells.{cost_row, cost_rows, cost_text, gap_text, least_known, least_text, tree_text, value_text};
-ghost use Rattle.view_text.specs.Tables.{HasRows, IsApart};
+ghost use Rattle.view_cells.specs.Terms.{HasRows, IsApart};
 
-use crate::cells::{push_cell, push_money, push_words, put_counted, put_tenths};
 use crate::proof::CostProof;
-use crate::tables::{fitting, left, right, table};
 use net_core::{Bytes, List, NoMemory, Places};
 use plan_types::{Cause, Quality};
 use plan_view::PlanSummary;
 use std::alloc::Global;
 use text_kit::write::put_money_word;
 use text_table::{Column, Row};
+use view_cells::cells::{push_cell, push_money, push_words, put_counted, put_tenths};
+use view_cells::tables::{fitting, left, right, table};
 
 /// The columns of the costs: what it is, how much, and why.
 const COLUMNS: [Column; 3] = [

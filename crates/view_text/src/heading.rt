@@ -1,13 +1,13 @@
 ghost use Rattle.std.specs.Prelude.{◌≡◌, ◌++◌, [], OnOk, codes, cond, length, nat_eq};
 ghost use Rattle.std.specs.List.{list_all};
 ghost use Rattle.plan_terms.specs.Terms.{case, total_need};
-ghost use Rattle.view_text.specs.Cells.{counted};
+ghost use Rattle.view_cells.specs.Terms.{counted};
 ghost use Rattle.view_text.specs.Headings.{are_all_survived, demands_text, failures_text, heading_text, is_planned, size_text, told_demands};
 
-use crate::cells::put_counted;
 use net_core::{Bytes, Demand, Network, NoMemory, Places, Problem};
 use plan_types::Outcome;
 use text_kit::write::put_money_word;
+use view_cells::cells::put_counted;
 
 /// What the demands need together, in units of the network.
 fn total_need(demands: &[Demand]) -> u128

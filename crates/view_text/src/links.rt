@@ -2,18 +2,20 @@ ghost use Rattle.std.specs.Prelude.{◌≡◌, ◌≤◌, ◌++◌, ◌∷◌, [
 ghost use Rattle.std.specs.List.{AllByRecursion};
 ghost use Rattle.plan_report.specs.Terms.{known_of, state_name};
 ghost use Rattle.text_kit.specs.Terms.{money_word};
-ghost use Rattle.view_text.specs.Cells.{joined_words, per_cent};
+ghost use Rattle.view_cells.specs.Terms.{joined_words, per_cent};
 ghost use Rattle.view_text.specs.LinkCells.{cells_of_link, ends_text, kind_words, kinds_words, link_cells, link_heads, total_cells};
-ghost use Rattle.view_text.specs.Tables.{HasRowsAbove, IsApart};
+ghost use Rattle.view_cells.specs.Terms.{HasRowsAbove, IsApart};
 
-use crate::cells::{push_cell, push_joined, push_money, push_per_cent, push_three, push_words};
-use crate::names::{node_name, state_name};
-use crate::tables::{above, fitting, left, right, table};
 use net_core::{Bytes, Link, List, Module, Name, Network, NoMemory, Places, States};
 use plan_view::{LinkRow, PlanSummary};
 use std::alloc::Global;
 use text_kit::write::{put_decimal, put_money_word};
 use text_table::{Column, Row};
+use view_cells::cells::{
+    push_cell, push_joined, push_money, push_per_cent, push_three, push_words,
+};
+use view_cells::names::{node_name, state_name};
+use view_cells::tables::{above, fitting, left, right, table};
 
 /// The columns of the table of links: name, ends, modules, capacity, loads, use, state, and cost.
 const COLUMNS: [Column; 9] = [

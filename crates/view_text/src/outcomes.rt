@@ -1,16 +1,16 @@
 ghost use Rattle.std.specs.Prelude.{◌≡◌, ◌≤◌, ◌++◌, ◌∷◌, [], All, IfOk, OnOk, decimal, length, map};
 ghost use Rattle.view_text.specs.OutcomeCells.{HasOutcomes, outcome_cells, outcome_heads};
 ghost use Rattle.view_text.specs.OutcomeCells.{failure_text, numbers_line, numbers_text, separation_text, unlinked_text};
-ghost use Rattle.view_text.specs.Tables.{AddsText, HasRows};
+ghost use Rattle.view_cells.specs.Terms.{AddsText, HasRows};
 
-use crate::cells::{push_money, push_number, push_pair, push_three};
-use crate::names::state_name;
-use crate::tables::{fitting, table};
 use net_core::{Bytes, List, Listed, Name, NoMemory, Places, StateId};
 use plan_types::Outcome;
 use std::alloc::Global;
 use text_kit::write::put_decimal;
 use text_table::{Column, Row};
+use view_cells::cells::{push_money, push_number, push_pair, push_three};
+use view_cells::names::state_name;
+use view_cells::tables::{fitting, table};
 
 /// The columns of the table of outcomes: caller, number, version, cost, and bound.
 const COLUMNS: [Column; 5] = [

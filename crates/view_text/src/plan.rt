@@ -4,7 +4,7 @@ ghost use Rattle.plan_report.specs.Terms.{known_of};
 ghost use Rattle.plan_view.specs.Terms.{IsSoundPlan};
 ghost use Rattle.view_text.specs.CostProofs.{HoldsProof};
 ghost use Rattle.view_text.specs.PlanViews.{IsCostView, IsPlanView, ShowsRows, accepted_text, states_line};
-ghost use Rattle.view_text.specs.Tables.{AddsText};
+ghost use Rattle.view_cells.specs.Terms.{AddsText};
 ghost use Rattle.view_text.specs.inner.Numbers.{AreNumbers};
 
 use crate::costs::{costs_text, put_least};

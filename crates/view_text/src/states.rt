@@ -3,20 +3,20 @@ ghost use Rattle.std.specs.List.{AllByRecursion};
 ghost use Rattle.plan_report.specs.Terms.{known_of, state_name};
 ghost use Rattle.plan_terms.specs.Terms.{link_name};
 ghost use Rattle.text_table.specs.Cells.{right_cell};
-ghost use Rattle.view_text.specs.Cells.{tenths_per_cent};
+ghost use Rattle.view_cells.specs.Terms.{tenths_per_cent};
 ghost use Rattle.view_text.specs.StateCells.{bar_text, fullest_name, fullest_use, names_text, part_text, rerouted_text, state_cells, state_heads};
-ghost use Rattle.view_text.specs.Tables.{HasRowsAbove, IsApart};
+ghost use Rattle.view_cells.specs.Terms.{HasRowsAbove, IsApart};
 
-use crate::cells::{
-    push_cell, push_joined, push_money, push_pair, push_per_cent, push_three, push_words,
-    put_tenths,
-};
-use crate::names::{link_name, state_name};
-use crate::tables::{above, fitting, left, right, table};
 use net_core::{Bytes, Link, LinkId, List, Network, NoMemory, Places, States};
 use plan_view::StateRow;
 use std::alloc::Global;
 use text_table::{Column, Row, put_right, put_spaces};
+use view_cells::cells::{
+    push_cell, push_joined, push_money, push_pair, push_per_cent, push_three, push_words,
+    put_tenths,
+};
+use view_cells::names::{link_name, state_name};
+use view_cells::tables::{above, fitting, left, right, table};
 
 /// The columns of the table of states: name, links out, rerouted amount, fullest link and its use, and part of the bound.
 const COLUMNS: [Column; 6] = [

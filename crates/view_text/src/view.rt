@@ -7,7 +7,7 @@ ghost use Rattle.view_text.specs.PlanViews.{IsCostView, IsPlanView, case_of_plan
 ghost use Rattle.view_text.specs.Reports.{AreOutcomeViews, IsBody, IsBrief, IsFirstBlock, IsNumberedView, IsOutcomeView, IsReportView};
 ghost use Rattle.view_text.specs.Reports.{IsSessionView, IsShortView};
 ghost use Rattle.view_text.specs.Reports.{HasSoundPlan, HoldsOfOutcome, HoldsOfSingle, no_outcome_text, problem_case};
-ghost use Rattle.view_text.specs.Tables.{AddsText};
+ghost use Rattle.view_cells.specs.Terms.{AddsText};
 
 use crate::heading::put_heading;
 use crate::outcomes::{put_numbers, put_outcomes, put_separation};

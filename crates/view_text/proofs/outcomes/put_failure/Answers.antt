@@ -1,7 +1,7 @@
 use Rattle.std.proofs.Common.{◌++◌, ap, codes, ◌∙◌}
 use Rattle.plan_report.specs.Terms.{state_name}
 use Rattle.text_kit.proofs.Lemmas.{on_ok}
-use Rattle.view_text.proofs.Appended.{appended_five}
+use Rattle.view_cells.proofs.Lemmas.{appended_five}
 use Rattle.view_text.proofs.outcomes.put_failure.Goals as goal
 
 pub returns : goal.returns

@@ -1,6 +1,6 @@
 use Rattle.std.proofs.Common.{◌++◌, ap, codes, ◌∙◌}
 use Rattle.text_kit.proofs.Lemmas.{on_ok}
-use Rattle.view_text.proofs.Appended.{appended_three}
+use Rattle.view_cells.proofs.Lemmas.{appended_three}
 use Rattle.view_text.proofs.outcomes.put_unlinked.Goals as goal
 
 pub returns : goal.returns

@@ -7,7 +7,7 @@ use Rattle.view_text.specs.CostCells.{cost_rows}
 use Rattle.view_text.specs.LinkCells.{cells_of_link, link_heads, total_cells}
 use Rattle.view_text.specs.PlanViews.{accepted_text}
 use Rattle.view_text.specs.StateCells.{state_cells, state_heads}
-use Rattle.view_text.specs.Tables.{HasRows, HasRowsAbove}
+use Rattle.view_cells.specs.Terms.{HasRows, HasRowsAbove}
 use Rattle.view_text.proofs.Plans.{rows_shown}
 use Rattle.view_text.proofs.plan.put_rows.Goals as goal
 

@@ -1,6 +1,6 @@
 use Rattle.std.proofs.Common.{codes, decimal}
 use Rattle.text_kit.proofs.Lemmas.{on_ok}
-use Rattle.view_text.proofs.Appended.{appended_five}
+use Rattle.view_cells.proofs.Lemmas.{appended_five}
 use Rattle.view_text.proofs.plan.put_states.Goals as goal
 
 pub returns : goal.returns

@@ -1,14 +1,15 @@
 ghost use Rattle.std.specs.Prelude.{◌≡◌, ◌++◌, ◌∷◌, [], IfOk, OnOk, codes, decimal, flat_map};
 ghost use Rattle.text_kit.specs.Terms.{money_word};
-ghost use Rattle.view_text.specs.Cells.{counted, joined_words, per_cent, tenths_per_cent};
+ghost use Rattle.view_cells.specs.Cells.{counted, joined_words, per_cent, tenths_per_cent};
 
 use net_core::{Bytes, List, NoMemory, Places};
 use std::alloc::Global;
 use text_kit::write::{put_decimal, put_money_word};
 use text_table::Row;
 
-/// Puts a cell last.
-pub(crate) fn push_cell(row: &mut Row, cell: Bytes) -> Result<(), NoMemory>
+/// Puts a cell last. Each function here takes time in what it puts, and asks for memory only for that; where memory runs out, the row or the text
+/// may end in part of what was to be put.
+pub fn push_cell(row: &mut Row, cell: Bytes) -> Result<(), NoMemory>
     ensures { OnOk result (row.new ≡ row.old ++ cell ∷ []) }
 {
     row.push(cell)?;
@@ -16,19 +17,14 @@ pub(crate) fn push_cell(row: &mut Row, cell: Bytes) -> Result<(), NoMemory>
 }
 
 /// Puts a cell of these words last.
-pub(crate) fn push_words(row: &mut Row, alloc: Global, words: &[u8]) -> Result<(), NoMemory>
+pub fn push_words(row: &mut Row, alloc: Global, words: &[u8]) -> Result<(), NoMemory>
     ensures { OnOk result (row.new ≡ row.old ++ words.now ∷ []) }
 {
     push_cell(row, List::from_slice(alloc, words)?)
 }
 
 /// Puts two cells of these words last.
-pub(crate) fn push_pair(
-    row: &mut Row,
-    alloc: Global,
-    first: &[u8],
-    second: &[u8],
-) -> Result<(), NoMemory>
+pub fn push_pair(row: &mut Row, alloc: Global, first: &[u8], second: &[u8]) -> Result<(), NoMemory>
     ensures { OnOk result (row.new ≡ row.old ++ first.now ∷ second.now ∷ []) }
 {
     push_words(row, alloc, first)?;
@@ -36,7 +32,7 @@ pub(crate) fn push_pair(
 }
 
 /// Puts three cells of these words last.
-pub(crate) fn push_three(
+pub fn push_three(
     row: &mut Row,
     alloc: Global,
     first: &[u8],
@@ -50,12 +46,7 @@ pub(crate) fn push_three(
 }
 
 /// Puts a cell of units of a network with these places last, as an amount or money.
-pub(crate) fn push_money(
-    row: &mut Row,
-    alloc: Global,
-    places: Places,
-    n: u128,
-) -> Result<(), NoMemory>
+pub fn push_money(row: &mut Row, alloc: Global, places: Places, n: u128) -> Result<(), NoMemory>
     ensures { OnOk result (row.new ≡ row.old ++ money_word places n ∷ []) }
 {
     let mut text = List::new(alloc);
@@ -64,7 +55,7 @@ pub(crate) fn push_money(
 }
 
 /// Puts a cell of a whole number last.
-pub(crate) fn push_number(row: &mut Row, alloc: Global, n: u128) -> Result<(), NoMemory>
+pub fn push_number(row: &mut Row, alloc: Global, n: u128) -> Result<(), NoMemory>
     ensures { OnOk result (row.new ≡ row.old ++ decimal n ∷ []) }
 {
     let mut text = List::new(alloc);
@@ -81,7 +72,7 @@ fn put_per_cent(text: &mut Bytes, n: u32) -> Result<(), NoMemory>
 }
 
 /// Puts a cell of a number in per cent last.
-pub(crate) fn push_per_cent(row: &mut Row, alloc: Global, n: u32) -> Result<(), NoMemory>
+pub fn push_per_cent(row: &mut Row, alloc: Global, n: u32) -> Result<(), NoMemory>
     ensures { OnOk result (row.new ≡ row.old ++ per_cent n ∷ []) }
 {
     let mut text = List::new(alloc);
@@ -90,7 +81,7 @@ pub(crate) fn push_per_cent(row: &mut Row, alloc: Global, n: u32) -> Result<(), 
 }
 
 /// Puts a number of tenths of a per cent last.
-pub(crate) fn put_tenths(text: &mut Bytes, n: u32) -> Result<(), NoMemory>
+pub fn put_tenths(text: &mut Bytes, n: u32) -> Result<(), NoMemory>
     ensures { OnOk result (text.new ≡ text.old ++ tenths_per_cent n) }
 {
     put_decimal(text, (n / 10) as u128)?;
@@ -100,12 +91,7 @@ pub(crate) fn put_tenths(text: &mut Bytes, n: u32) -> Result<(), NoMemory>
 }
 
 /// Puts a number last, and a word for that many things: the word for one, or the word for another number.
-pub(crate) fn put_counted(
-    text: &mut Bytes,
-    n: usize,
-    one: &[u8],
-    more: &[u8],
-) -> Result<(), NoMemory>
+pub fn put_counted(text: &mut Bytes, n: usize, one: &[u8], more: &[u8]) -> Result<(), NoMemory>
     ensures { OnOk result (text.new ≡ text.old ++ counted n one.now more.now) }
 {
     put_decimal(text, n as u128)?;
@@ -138,7 +124,7 @@ fn put_joined(text: &mut Bytes, between: &[u8], words: &[Bytes]) -> Result<(), N
 }
 
 /// Puts a cell of words last, with a text between each two; a dash where there are none.
-pub(crate) fn push_joined(
+pub fn push_joined(
     row: &mut Row,
     alloc: Global,
     between: &[u8],

@@ -3,7 +3,7 @@ use Rattle.std.proofs.Common.{◌≡◌, ℕ, ◌≤◌, ◌<◌, false, List, S
 use Rattle.net_core.proofs.Library.{AllByRecursion, All-from_get_or, All-from_recursion, All-get_or, recursion_from_All, slice_get-get_or}
 use Rattle.text_table.specs.Cells.{AreWidened}
 use Rattle.text_table.specs.declared.column.Column.{Column}
-use Rattle.view_text.specs.Tables.{IsApart}
+use Rattle.view_cells.specs.Tables.{IsApart}
 
 no_column : Column
 no_column = record { gap = 0; width = 0; right = false }

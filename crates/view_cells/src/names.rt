@@ -4,7 +4,7 @@ ghost use Rattle.plan_report.specs.Terms.{link_name, node_name, state_name};
 use net_core::{Link, LinkId, Listed, Name, NodeId, StateId};
 
 /// The name of a node; nothing where there is no such node.
-pub(crate) fn node_name(nodes: &[Name], n: NodeId) -> &[u8]
+pub fn node_name(nodes: &[Name], n: NodeId) -> &[u8]
     ensures { result.now ≡ node_name nodes.now n }
 {
     match nodes.get(n.0 as usize) {
@@ -14,7 +14,7 @@ pub(crate) fn node_name(nodes: &[Name], n: NodeId) -> &[u8]
 }
 
 /// The name of a link; nothing where there is no such link.
-pub(crate) fn link_name(links: &[Link], e: LinkId) -> &[u8]
+pub fn link_name(links: &[Link], e: LinkId) -> &[u8]
     ensures { result.now ≡ link_name links.now e }
 {
     match links.get(e.0 as usize) {
@@ -24,7 +24,7 @@ pub(crate) fn link_name(links: &[Link], e: LinkId) -> &[u8]
 }
 
 /// The name of a state, which is `none` where nothing fails; nothing where there is no such state.
-pub(crate) fn state_name(listed: &[Listed], s: StateId) -> &[u8]
+pub fn state_name(listed: &[Listed], s: StateId) -> &[u8]
     ensures { result.now ≡ state_name listed.now s.0 }
 {
     if s.0 == 0 {

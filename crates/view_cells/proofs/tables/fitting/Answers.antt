@@ -1,9 +1,9 @@
 use Rattle.net_core.proofs.Library.{AllByRecursion, IfOk-weaker}
 use Rattle.text_table.specs.Cells.{AreWidened}
 use Rattle.std.proofs.Common.{length}
-use Rattle.view_text.specs.Tables.{IsApart}
-use Rattle.view_text.proofs.Apart.{still_apart}
-use Rattle.view_text.proofs.tables.fitting.Goals as goal
+use Rattle.view_cells.specs.Tables.{IsApart}
+use Rattle.view_cells.proofs.Apart.{still_apart}
+use Rattle.view_cells.proofs.tables.fitting.Goals as goal
 
 pub returns-clause-apart : goal.returns-clause-apart
 returns-clause-apart c = IfOk-weaker c.widened.result (AreWidened c.args.columns.now c.args.rows.now (length c.args.columns.now)) (AllByRecursion IsApart)

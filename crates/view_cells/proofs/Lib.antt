@@ -1,0 +1,3 @@
+pub mod Appended
+pub mod Apart
+pub mod Lemmas

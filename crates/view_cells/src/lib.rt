@@ -1,0 +1,6 @@
+//! Cells of the tables that people read: numbers as they are printed there, names, and tables of cells.
+#![tactic(auto)]
+
+pub mod cells;
+pub mod names;
+pub mod tables;
