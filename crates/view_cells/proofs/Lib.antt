@@ -1,3 +1,4 @@
 pub mod Appended
 pub mod Apart
 pub mod Lemmas
+pub mod ModuleWords

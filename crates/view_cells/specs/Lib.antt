@@ -1,3 +1,4 @@
 pub mod Cells
+pub mod ModuleWords
 pub mod Tables
 pub mod Terms

@@ -2,5 +2,6 @@
 #![tactic(auto)]
 
 pub mod cells;
+pub mod modules;
 pub mod names;
 pub mod tables;

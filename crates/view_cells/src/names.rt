@@ -1,7 +1,7 @@
 ghost use Rattle.std.specs.Prelude.{◌≡◌};
-ghost use Rattle.plan_report.specs.Terms.{link_name, node_name, state_name};
+ghost use Rattle.plan_report.specs.Terms.{demand_name, link_name, node_name, state_name};
 
-use net_core::{Link, LinkId, Listed, Name, NodeId, StateId};
+use net_core::{Demand, Link, LinkId, Listed, Name, NodeId, StateId};
 
 /// The name of a node; nothing where there is no such node.
 pub fn node_name(nodes: &[Name], n: NodeId) -> &[u8]
@@ -32,6 +32,16 @@ pub fn state_name(listed: &[Listed], s: StateId) -> &[u8]
     }
     match listed.get(s.0 as usize - 1) {
         Some(state) => state.name.bytes(),
+        None => b"",
+    }
+}
+
+/// The name of the demand at a place; nothing where there is no such demand.
+pub fn demand_name(demands: &[Demand], k: u32) -> &[u8]
+    ensures { result.now ≡ demand_name demands.now k }
+{
+    match demands.get(k as usize) {
+        Some(demand) => demand.name.bytes(),
         None => b"",
     }
 }

@@ -1,4 +1,3 @@
 pub mod Few
-pub mod ModuleWords
 pub mod Plans
 pub mod Views

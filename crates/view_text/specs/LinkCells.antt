@@ -1,26 +1,16 @@
 -- the cells of a link's row: its numbers are those of the row
-use Rattle.std.specs.Prelude.{ℕ, ◌++◌, List, [], ◌∷◌, cond, codes, decimal, nat_eq, slice_get}
+use Rattle.std.specs.Prelude.{◌++◌, List, [], ◌∷◌, codes, slice_get, ℕ}
 use Rattle.std.specs.Option.{option_map_or}
 use Rattle.text_kit.specs.Terms.{money_word}
 use Rattle.plan_report.specs.Terms.{KnownNames, node_name, state_name}
-use Rattle.plan_terms.specs.Terms.{Link, Module, Places}
+use Rattle.plan_terms.specs.Terms.{Link, Places}
 use Rattle.plan_view.specs.declared.rows.LinkRow.{LinkRow}
 use Rattle.plan_view.specs.declared.rows.PlanSummary.{PlanSummary}
-use Rattle.view_cells.specs.Terms.{joined_words, per_cent}
+use Rattle.view_cells.specs.Terms.{joined_words, kinds_words, per_cent}
 
 -- the names of a link's ends
 abbrev pub ends_text : List (List ℕ) → Link → List ℕ
 ends_text nodes link = node_name nodes link.a ++ codes " - " ++ node_name nodes link.b
-
--- how many modules of a kind there are and what one of them carries, where there are some
-abbrev pub kind_words : Places → Module → ℕ → List (List ℕ)
-kind_words places kind count = cond (nat_eq count 0) [] ((decimal count ++ codes " x " ++ money_word places kind.capacity) ∷ [])
-
--- the same of each kind
-abbrev pub kinds_words : Places → List Module → List ℕ → List (List ℕ)
-kinds_words places [] counts = []
-kinds_words places (m ∷ ms) [] = []
-kinds_words places (m ∷ ms) (n ∷ ns) = kind_words places m n ++ kinds_words places ms ns
 
 -- the cells of a link: name, ends, modules, capacity, load without failures, greatest load, use, its state, and cost
 abbrev pub link_cells : KnownNames → Link → LinkRow → List (List ℕ)

@@ -2,18 +2,18 @@ ghost use Rattle.std.specs.Prelude.{◌≡◌, ◌≤◌, ◌++◌, ◌∷◌, [
 ghost use Rattle.std.specs.List.{AllByRecursion};
 ghost use Rattle.plan_report.specs.Terms.{known_of, state_name};
 ghost use Rattle.text_kit.specs.Terms.{money_word};
-ghost use Rattle.view_cells.specs.Terms.{joined_words, per_cent};
-ghost use Rattle.view_text.specs.LinkCells.{cells_of_link, ends_text, kind_words, kinds_words, link_cells, link_heads, total_cells};
+ghost use Rattle.view_cells.specs.Terms.{joined_words, kinds_words, per_cent};
+ghost use Rattle.view_text.specs.LinkCells.{cells_of_link, ends_text, link_cells, link_heads, total_cells};
 ghost use Rattle.view_cells.specs.Terms.{HasRowsAbove, IsApart};
 
-use net_core::{Bytes, Link, List, Module, Name, Network, NoMemory, Places, States};
+use net_core::{Bytes, Link, List, Name, Network, NoMemory, Places, States};
 use plan_view::{LinkRow, PlanSummary};
 use std::alloc::Global;
-use text_kit::write::{put_decimal, put_money_word};
 use text_table::{Column, Row};
 use view_cells::cells::{
     push_cell, push_joined, push_money, push_per_cent, push_three, push_words,
 };
+use view_cells::modules::push_modules;
 use view_cells::names::{node_name, state_name};
 use view_cells::tables::{above, fitting, left, right, table};
 
@@ -82,57 +82,6 @@ fn push_ends(row: &mut Row, alloc: Global, nodes: &[Name], link: &Link) -> Resul
     let mut text = List::new(alloc);
     put_ends(&mut text, nodes, link)?;
     push_cell(row, text)
-}
-
-/// Puts words last on how many modules of a kind there are and what one of them carries, if there are some.
-fn push_kind(
-    words: &mut Row,
-    alloc: Global,
-    places: Places,
-    kind: Module,
-    count: u64,
-) -> Result<(), NoMemory>
-    ensures { OnOk result (words.new ≡ words.old ++ kind_words places kind count) }
-{
-    if count == 0 {
-        return Ok(());
-    }
-    let mut text = List::new(alloc);
-    put_decimal(&mut text, count as u128)?;
-    text.append(b" x ")?;
-    put_money_word(&mut text, places, kind.capacity as u128)?;
-    push_cell(words, text)
-}
-
-/// Puts words on each kind of modules last.
-fn push_kinds(
-    words: &mut Row,
-    alloc: Global,
-    places: Places,
-    modules: &[Module],
-    counts: &[u64],
-) -> Result<(), NoMemory>
-    ensures { OnOk result (words.new ≡ words.old ++ kinds_words places modules.now counts.now) }
-{
-    for i in 0..modules.len().min(counts.len()) {
-        push_kind(words, alloc, places, modules[i], counts[i])?;
-    }
-    Ok(())
-}
-
-/// Puts a cell of the modules of a link last.
-fn push_modules(
-    row: &mut Row,
-    alloc: Global,
-    places: Places,
-    modules: &[Module],
-    counts: &[u64],
-) -> Result<(), NoMemory>
-    ensures { OnOk result (row.new ≡ row.old ++ joined_words (codes " + ") (kinds_words places modules.now counts.now) ∷ []) }
-{
-    let mut words = List::new(alloc);
-    push_kinds(&mut words, alloc, places, modules, counts)?;
-    push_joined(row, alloc, b" + ", words.items())
 }
 
 /// Puts the three cells of a link last that its network tells.

@@ -1,6 +1,6 @@
 use Rattle.std.proofs.Common.{◌≡◌, ◌++◌, take}
-use Rattle.view_text.specs.LinkCells.{kinds_words}
-use Rattle.view_text.proofs.links.push_kinds.Given as goal
+use Rattle.view_cells.specs.ModuleWords.{kinds_words}
+use Rattle.view_cells.proofs.modules.push_kinds.Given as goal
 
 -- the kinds so far
 abbrev pub invariant-loop-i : goal.invariant-loop-i

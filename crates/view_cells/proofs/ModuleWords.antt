@@ -2,7 +2,7 @@
 use Rattle.std.proofs.Common.{◌≡◌, ℕ, zero, suc, ◌+◌, ◌<◌, List, [], ◌∷◌, ◌++◌, append-nil, append_assoc, ap, arith, get_or, length, min, refl, sym, take, ◌∙◌}
 use Rattle.std.proofs.Common.{add-one}
 use Rattle.plan_terms.specs.Terms.{Module, Places}
-use Rattle.view_text.specs.LinkCells.{kind_words, kinds_words}
+use Rattle.view_cells.specs.ModuleWords.{kind_words, kinds_words}
 
 next_kind : (places : Places) (ms : List Module) (ns : List ℕ) (i : ℕ) (m : Module) (n : ℕ) → i < length ms → i < length ns
     → kinds_words places (take (suc i) ms) (take (suc i) ns) ≡ kinds_words places (take i ms) (take i ns) ++ kind_words places (get_or ms i m) (get_or ns i n)
