@@ -15,6 +15,7 @@ refused failures unused at 0
 const NO_MODEL: &str = "triangle:1:1: this is no model
     ?SNDlib native format; type: network; version: 1.0
     ^
+  here stands `?SNDlib`
   the first line of a model is: ?SNDlib native format; type: model; version: 1.0
 refused model header at 0
 ";
@@ -22,6 +23,7 @@ refused model header at 0
 const NO_LIST: &str = "triangle:1:1: this is no failure list
     ?SNDlib native format; type: network; version: 1.0
     ^
+  here stands `?SNDlib`
   the first line of a failure list is: ?planner failures; version: 1
 refused failures header at 0
 ";

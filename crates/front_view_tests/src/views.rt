@@ -59,6 +59,7 @@ const ROWS: [Row; 13] = [
         "report:2:11: another section is expected here, or its parenthesis, or the end of the report
     NOTES ( ) POOL ( )
               ^
+  here stands `POOL`
   the sections are NOTES, JOURNAL, POOL and OUTCOMES, in this order and each in parentheses
 refused report section at 38
 ",
@@ -111,6 +112,7 @@ rejected tree 8
         "report:16:11: this number is out of its range, or a length or a proof line is one too many or too few here
     # box-cut 1 0 12000 1 0 1
               ^
+  here stands `1`
   were the lines below the report changed by hand?
 refused report limit at 582
 ",
@@ -123,6 +125,7 @@ refused report limit at 582
         "report:29:3: another proof line is expected here, or another word in it
     # a note
       ^
+  here stands `a`
   were the lines below the report changed by hand?
 refused report token at 847
 ",
@@ -132,7 +135,7 @@ refused report token at 847
         TREE,
         ("# cheapest\n", ""),
         Status::BadReport,
-        "report:31:1: a proof line ends too early, or the lines end before they say what they show\n    \n    ^\n  are they cut off? the last one is cheapest or above\nrefused report ended at 870\n",
+        "report:31:1: a proof line ends too early, or the lines end before they say what they show\n    \n    ^\n  the file ends here\n  are they cut off? the last one is cheapest or above\nrefused report ended at 870\n",
     ),
 ];
 
