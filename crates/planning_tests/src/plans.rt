@@ -9,7 +9,9 @@ use plan_types::{Plan, Quality, Spot};
 use planner::{PlanAnswer, plan_snapshot};
 use separator::OneByOne;
 use std::alloc::Global;
-use worked_networks::{CHAIN, DemandRow, LinkRow, PARALLEL, TEN, demands};
+use worked_networks::{
+    CHAIN, DemandRow, LinkRow, ONE, PARALLEL, TEN, demands, network, single_failures,
+};
 
 /// What is looked at of a plan: its cost, its raw value, its bound, and whether it is tight.
 type Looked = (u128, (u128, u128), u128, bool);
@@ -68,6 +70,71 @@ const TIGHT: [Row; 4] = [
         &[],
         (0, 2, 12000),
         Some(((0, (0, 1), 0, true), Some((1, 0, [0, 0, 0, 0])))),
+    ),
+];
+
+/// A network of which each link fails alone: how many nodes there are, its links, a demand, and what is looked at of its plan and, in some
+/// rows, of the certificate.
+type SinglesRow = (
+    usize,
+    &'static [LinkRow<'static>],
+    DemandRow,
+    Option<(Looked, Option<Numerators>)>,
+);
+
+/// 24 parallel links, the fewest for which a round's certificate is found over lengths alone.
+const MANY_LINKS: [LinkRow; 24] = [(0, 1, 0, &ONE); 24];
+
+/// A link between A and B, B and C, and C and D, each eight times.
+const BUNDLES: [LinkRow; 24] = [
+    (0, 1, 0, &ONE),
+    (0, 1, 0, &ONE),
+    (0, 1, 0, &ONE),
+    (0, 1, 0, &ONE),
+    (0, 1, 0, &ONE),
+    (0, 1, 0, &ONE),
+    (0, 1, 0, &ONE),
+    (0, 1, 0, &ONE),
+    (1, 2, 0, &ONE),
+    (1, 2, 0, &ONE),
+    (1, 2, 0, &ONE),
+    (1, 2, 0, &ONE),
+    (1, 2, 0, &ONE),
+    (1, 2, 0, &ONE),
+    (1, 2, 0, &ONE),
+    (1, 2, 0, &ONE),
+    (2, 3, 0, &ONE),
+    (2, 3, 0, &ONE),
+    (2, 3, 0, &ONE),
+    (2, 3, 0, &ONE),
+    (2, 3, 0, &ONE),
+    (2, 3, 0, &ONE),
+    (2, 3, 0, &ONE),
+    (2, 3, 0, &ONE),
+];
+
+/// Any 23 of 24 parallel links carry 46.00 with 2.00 on each, so that each failure's cut has the multiplier 1 / 23. Any seven links of each
+/// of three bundles carry 14.00 with 2.00 on each. There the first round has one cut for each state, with the length 1 for each link that
+/// survives, and a share of 42.00 / 23 on each link; at it each failure finds the cut of its own bundle. These have the multiplier 1 / 7 in
+/// the second round, which begins with the basis of the first.
+const MANY: [SinglesRow; 2] = [
+    (
+        2,
+        &MANY_LINKS,
+        (0, 1, 46000),
+        Some((
+            (48000, (48000, 1), 48000, true),
+            Some((23, 24, [0, 1, 1, 1])),
+        )),
+    ),
+    (
+        4,
+        &BUNDLES,
+        (0, 3, 14000),
+        Some((
+            (48000, (48000, 1), 48000, true),
+            Some((7, 24, [0, 0, 0, 0])),
+        )),
     ),
 ];
 
@@ -141,6 +208,19 @@ fn answer_of(alloc: Global, row: &Row) -> Option<PlanAnswer> {
     planned_for(alloc, &place, row.4)
 }
 
+/// The network of these links, each of which fails alone.
+fn singles_of(alloc: Global, nodes: usize, links: &[LinkRow]) -> Option<Place> {
+    let net = network(alloc, nodes, links).ok()?;
+    let states = single_failures(alloc, &net).ok()?;
+    Some(Place { net, states })
+}
+
+/// What planning comes to for a row of which each link fails alone.
+fn singles_answer(alloc: Global, row: &SinglesRow) -> Option<PlanAnswer> {
+    let place = singles_of(alloc, row.0, row.1)?;
+    planned_for(alloc, &place, row.2)
+}
+
 /// Whether the plan looks like this.
 fn looks_like(plan: &Plan, want: &Option<(Looked, Option<Numerators>)>) -> bool {
     let Some((looked, nums)) = want else {
@@ -153,11 +233,11 @@ fn looks_like(plan: &Plan, want: &Option<(Looked, Option<Numerators>)>) -> bool 
         }
 }
 
-/// Whether the answer is what the row says.
-fn is_answered(answer: &Option<PlanAnswer>, row: &Row) -> bool {
+/// Whether the answer is what is wanted.
+fn is_answered(answer: &Option<PlanAnswer>, want: &Option<(Looked, Option<Numerators>)>) -> bool {
     match answer {
-        Some(PlanAnswer::Planned(plan)) => looks_like(plan, &row.5),
-        Some(PlanAnswer::NotSurvivable(..)) => row.5.is_none(),
+        Some(PlanAnswer::Planned(plan)) => looks_like(plan, want),
+        Some(PlanAnswer::NotSurvivable(..)) => want.is_none(),
         None => false,
     }
 }
@@ -165,7 +245,15 @@ fn is_answered(answer: &Option<PlanAnswer>, row: &Row) -> bool {
 /// Whether planning comes to what the row says.
 fn is_planned(alloc: Global, row: &Row) -> bool {
     let answer = answer_of(alloc, row);
-    let is_so = is_answered(&answer, row);
+    let is_so = is_answered(&answer, &row.5);
+    discard(answer);
+    is_so
+}
+
+/// Whether planning comes to what the row says where each link fails alone.
+fn is_planned_with_singles(alloc: Global, row: &SinglesRow) -> bool {
+    let answer = singles_answer(alloc, row);
+    let is_so = is_answered(&answer, &row.3);
     discard(answer);
     is_so
 }
@@ -188,6 +276,13 @@ fn small_networks_have_tight_plans(rt: HostRuntime) {
 #[test]
 fn a_certificate_names_the_pooled_cuts_of_the_failures(rt: HostRuntime) {
     assert!(rt; is_planned(rt.alloc(), &CERTIFIED));
+}
+
+#[test]
+fn many_links_that_fail_alone_have_tight_plans(rt: HostRuntime) {
+    for row in &MANY {
+        assert!(rt; is_planned_with_singles(rt.alloc(), row));
+    }
 }
 
 #[test]
