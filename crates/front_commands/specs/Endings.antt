@@ -10,7 +10,7 @@ use Rattle.check_answers.specs.Separations.{NamesFirstSeparation}
 use Rattle.failure_texts.specs.FailureTexts.{IsFailureList}
 use Rattle.failure_texts.specs.Fates.{with_states}
 use Rattle.input_files.specs.Inputs.{Fetched, SpellsNetwork, input_limit, report_limit}
-use Rattle.front_words.specs.Fronts.{FrontCommand, Help, Version, Failures, View, IsFrontCommand}
+use Rattle.front_words.specs.Fronts.{FrontCommand, Help, Version, Failures, View, Plan, IsFrontCommand}
 use Rattle.front_files.specs.FrontInputs.{CaseWords, EndsAfterCase}
 use Rattle.front_files.specs.Messages.{FailsAtFetch, FailsAtFile, ShowsNetworkFault}
 use Rattle.front_views.specs.Terms.{EndsReport}
@@ -98,6 +98,7 @@ EndsFrontCommand files Help status text message = (status ≡ Done) × (text ≡
 EndsFrontCommand files Version status text message = (status ≡ Done) × (text ≡ version_text) × (message ≡ [])
 EndsFrontCommand files (Failures network) status text message = EndsFailures files network status text message
 EndsFrontCommand files (View w report) status text message = EndsView files w report status text message
+EndsFrontCommand files (Plan asked) status text message = (status ≡ BadWords) × (text ≡ []) × (message ≡ usage_message)
 
 -- ---- a run
 

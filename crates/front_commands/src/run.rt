@@ -40,6 +40,7 @@ fn answer_command<S: Shelf>(alloc: Global, words: &FrontWords, shelf: &mut S) ->
         FrontWords::Version => Ok(text_of(alloc, VERSION)?),
         FrontWords::Failures(network) => failures_file(alloc, network, shelf),
         FrontWords::View(view) => view_files(alloc, &view, shelf),
+        FrontWords::Plan(_) => Err(bad_words(alloc)),
     }
 }
 
@@ -48,7 +49,7 @@ fn answer_words<S: Shelf>(alloc: Global, words: &[String], shelf: &mut S) -> Res
     ensures ends { HasFrontCause (EndsFront words.now (S.files shelf.old)) result }
     ensures shelf { KeepsShelf S.files S.faults (FailsReading result) shelf.old shelf.new }
 {
-    match command_of(words) {
+    match command_of(alloc, words)? {
         Some(command) => answer_command(alloc, &command, shelf),
         None => Err(bad_words(alloc)),
     }

@@ -2,7 +2,12 @@
 use Rattle.front_files.specs.FrontInputs.{named_case}
 use Rattle.front_words.specs.Fronts as fronts
 use Rattle.front_words.specs.declared.words.FrontWords.{FrontWords}
-use Rattle.front_words.specs.declared.words.FrontWords.TheVariants.{Help, Version, Failures, View}
+use Rattle.front_words.specs.declared.words.FrontWords.TheVariants.{Help, Version, Failures, View, Plan}
+use Rattle.front_words.specs.declared.words.PlanRequest.{PlanRequest}
+
+-- the plan that is asked for
+abbrev pub asked_plan : PlanRequest → fronts.AskedPlan
+asked_plan plan = record { case = named_case plan.case; splits = plan.splits; report = plan.report; quiet = plan.quiet }
 
 -- the command that is asked for
 abbrev pub asked_front : FrontWords → fronts.FrontCommand
@@ -10,3 +15,4 @@ asked_front Help = fronts.Help
 asked_front Version = fronts.Version
 asked_front (Failures network) = fronts.Failures network.now
 asked_front (View view) = fronts.View (named_case view.case) view.report.now
+asked_front (Plan plan) = fronts.Plan (asked_plan plan)

@@ -1,23 +1,35 @@
 -- commands for people, and the words that give them
-use Rattle.std.specs.Prelude.{◌≡◌, ◌≢◌, ℕ, ◌⊎◌, Bool, true, false, List, [], ◌∷◌, Option, None, Some, String, codes, map, string_bytes}
+use Rattle.std.specs.Prelude.{◌≡◌, ◌≢◌, ◌≤◌, ℕ, ◌⊎◌, Bool, true, false, List, [], ◌∷◌, Option, None, Some, String, codes, is_some, length, map, string_bytes}
 use Rattle.std.specs.Global.{Global}
+use Rattle.std.specs.Str.Parse.{IsNumeral, digits_value}
 use Rattle.input_files.specs.InputWords.{default}
 use Rattle.front_files.specs.FrontInputs.{CaseWords}
-use Rattle.front_words.specs.GivenWords.{GivenWords, nothing_given, with_words}
+use Rattle.front_words.specs.GivenWords.{AreRead, GivenOption, TakesOptions, value_given}
 
--- how the program is used, which version it is, the failure list of a network's file, or the view of the report in a file, of plans for
--- the case of other files
+-- what a plan is asked for: the case of these files, how many splits its branch tree has at most where somebody says, whether the report is to be
+-- printed and not its view, and whether nothing is to be told on the way
+pub record AskedPlan : Type 0 where
+  pub case : CaseWords
+  pub splits : Option ℕ
+  pub report : Bool
+  pub quiet : Bool
+
+-- how the program is used, which version it is, the failure list of a network's file, the view of the report in a file, of plans for
+-- the case of other files, or a plan
 pub data FrontCommand : Type 0 where
   Help : FrontCommand
   Version : FrontCommand
   Failures : List ℕ → FrontCommand
   View : CaseWords → List ℕ → FrontCommand
+  Plan : AskedPlan → FrontCommand
+
+-- ---- what words name
 
 -- the word names this file: a minus is standard input
 abbrev pub NamesFile : List ℕ → List ℕ → Type 0
 NamesFile word file = ((word ≡ codes "-") × (file ≡ codes "/dev/stdin")) ⊎ ((word ≢ codes "-") × (file ≡ word))
 
--- the word after an option names this file; without the option it is in no file
+-- the value of an option names this file; without the option it is in no file
 abbrev pub NamesOption : Option (List ℕ) → List ℕ → Type 0
 NamesOption None file = file ≡ default
 NamesOption (Some word) file = NamesFile word file
@@ -27,43 +39,77 @@ abbrev pub NamesSurvival : Option (List ℕ) → Option (List ℕ) → Bool → 
 NamesSurvival None failures survived file = (survived ≡ false) × NamesOption failures file
 NamesSurvival (Some word) failures survived file = (word ≡ codes "links") × (failures ≡ None) × (survived ≡ true) × (file ≡ default)
 
+-- a network's word and the options `--model`, `--failures` and `--survive` name the files of this case
+abbrev pub NamesCase : List ℕ → List GivenOption → CaseWords → Type 0
+NamesCase network options w =
+    NamesFile network w.files.network
+    × NamesOption (value_given options (codes "--model")) w.files.model
+    × NamesSurvival (value_given options (codes "--survive")) (value_given options (codes "--failures")) w.survive w.files.failures
+
+-- one to four digits, which write this number of splits
+pub record IsSplitsWord (word : List ℕ) (n : ℕ) : Type 0 where
+  pub numeral : IsNumeral 10 word
+  pub short : length word ≤ 4
+  pub value : digits_value 10 word ≡ n
+
+-- the value of `--splits` writes this number, and without the option nobody says one
+abbrev pub NamesSplits : Option (List ℕ) → Option ℕ → Type 0
+NamesSplits None splits = splits ≡ None
+NamesSplits (Some word) splits = (n : ℕ) × (splits ≡ Some n) × IsSplitsWord word n
+
+-- ---- commands
+
+-- the options of a view
+abbrev pub view_options : List (List ℕ)
+view_options = codes "--model" ∷ codes "--failures" ∷ codes "--survive" ∷ []
+
+-- the options of a plan
+abbrev pub plan_options : List (List ℕ)
+plan_options = codes "--model" ∷ codes "--failures" ∷ codes "--survive" ∷ codes "--splits" ∷ codes "--report" ∷ codes "--quiet" ∷ []
+
 -- one word is this command
 abbrev pub IsLoneWord : List ℕ → FrontCommand → Type 0
 IsLoneWord word Help = (word ≡ codes "help") ⊎ (word ≡ codes "--help")
 IsLoneWord word Version = word ≡ codes "--version"
 IsLoneWord word (Failures network) = ⊥
 IsLoneWord word (View w report) = ⊥
+IsLoneWord word (Plan asked) = ⊥
 
--- no option is given
-abbrev pub HasNoOption : GivenWords → Type 0
-HasNoOption g = (g.model ≡ None) × (g.failures ≡ None) × (g.survive ≡ None)
+-- a network's word and options ask for this plan
+abbrev pub AsksPlan : List ℕ → List GivenOption → AskedPlan → Type 0
+AsksPlan network options asked =
+    NamesCase network options asked.case
+    × NamesSplits (value_given options (codes "--splits")) asked.splits
+    × (asked.report ≡ is_some (value_given options (codes "--report")))
+    × (asked.quiet ≡ is_some (value_given options (codes "--quiet")))
 
--- a command's name and a network, without options, are this command
-abbrev pub IsOfNetwork : List ℕ → List ℕ → GivenWords → FrontCommand → Type 0
-IsOfNetwork name word g Help = ⊥
-IsOfNetwork name word g Version = ⊥
-IsOfNetwork name word g (Failures network) =
-    (name ≡ codes "failures") × HasNoOption g × NamesFile word network
-IsOfNetwork name word g (View w report) = ⊥
+-- a command's name, a network and options are this command
+abbrev pub IsOfNetwork : List ℕ → List ℕ → List GivenOption → FrontCommand → Type 0
+IsOfNetwork name word options Help = ⊥
+IsOfNetwork name word options Version = ⊥
+IsOfNetwork name word options (Failures network) = (name ≡ codes "failures") × TakesOptions [] options × NamesFile word network
+IsOfNetwork name word options (View w report) = ⊥
+IsOfNetwork name word options (Plan asked) = (name ≡ codes "plan") × TakesOptions plan_options options × AsksPlan word options asked
 
--- a command's name, a network and a report, which aren't both standard input, are this command
-abbrev pub IsOfReport : List ℕ → List ℕ → List ℕ → GivenWords → FrontCommand → Type 0
-IsOfReport name network word g Help = ⊥
-IsOfReport name network word g Version = ⊥
-IsOfReport name network word g (Failures file) = ⊥
-IsOfReport name network word g (View w report) =
-    (name ≡ codes "view") × ((network ≡ codes "-") × (word ≡ codes "-") → ⊥)
-    × NamesFile network w.files.network × NamesFile word report × NamesOption g.model w.files.model × NamesSurvival g.survive g.failures w.survive w.files.failures
+-- a command's name, a network and a report, which aren't both standard input, and options are this command
+abbrev pub IsOfReport : List ℕ → List ℕ → List ℕ → List GivenOption → FrontCommand → Type 0
+IsOfReport name network word options Help = ⊥
+IsOfReport name network word options Version = ⊥
+IsOfReport name network word options (Failures file) = ⊥
+IsOfReport name network word options (View w report) =
+    (name ≡ codes "view") × TakesOptions view_options options × ((network ≡ codes "-") × (word ≡ codes "-") → ⊥)
+    × NamesCase network options w × NamesFile word report
+IsOfReport name network word options (Plan asked) = ⊥
 
--- what words give is this command
-abbrev pub IsOfPlain : List (List ℕ) → GivenWords → FrontCommand → Type 0
-IsOfPlain (name ∷ network ∷ []) g c = IsOfNetwork name network g c
-IsOfPlain (name ∷ network ∷ report ∷ []) g c = IsOfReport name network report g c
-IsOfPlain _ g c = ⊥
+-- names and options are this command
+abbrev pub IsOfParts : List (List ℕ) → List GivenOption → FrontCommand → Type 0
+IsOfParts (name ∷ network ∷ []) options c = IsOfNetwork name network options c
+IsOfParts (name ∷ network ∷ report ∷ []) options c = IsOfReport name network report options c
+IsOfParts _ options c = ⊥
 
--- the words give this command
+-- the words are read as names and options that are this command
 abbrev pub IsGiven : List (List ℕ) → FrontCommand → Type 0
-IsGiven words c = (g : GivenWords) × (with_words (Some nothing_given) words ≡ Some g) × IsOfPlain g.plain g c
+IsGiven words c = (names : List (List ℕ)) × (options : List GivenOption) × AreRead None words names options × IsOfParts names options c
 
 -- the words are this command
 abbrev pub AreFrontWords : List (List ℕ) → FrontCommand → Type 0

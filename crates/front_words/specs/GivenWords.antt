@@ -1,63 +1,61 @@
 -- what the words of a command give: names in their order, and options in any place between them
-use Rattle.std.specs.Prelude.{ℕ, ◌==◌, ◌||◌, not, Bool, true, false, cond, List, [], ◌∷◌, ◌++◌, Option, None, Some, codes, is_some, length, nat_le, slice_index}
+use Rattle.std.specs.Prelude.{◌≡◌, ◌≤◌, ◌⊎◌, ℕ, ◌==◌, ◌||◌, not, Bool, true, false, cond, List, [], ◌∷◌, Option, None, Some, All, Contains, codes, count_by, length, nat_le, slice_index}
 use Rattle.std.specs.Str.{bytes_eq}
+use Rattle.front_words.specs.declared.kinds.WordKind.{WordKind}
+use Rattle.front_words.specs.declared.kinds.WordKind.TheVariants.{Name, End, Flag, Valued, Unknown}
 
--- the words that are no options, in their order; the word after each option; and whether no further word is an option
-pub record GivenWords : Type 0 where
-  pub plain : List (List ℕ)
-  pub model : Option (List ℕ)
-  pub failures : Option (List ℕ)
-  pub survive : Option (List ℕ)
-  pub ended : Bool
-
--- no word at all
-abbrev pub nothing_given : GivenWords
-nothing_given = record { plain = []; model = None; failures = None; survive = None; ended = false }
+-- ---- words
 
 -- a word that begins like no option: a minus alone, or one that doesn't begin with a minus
 abbrev pub is_plain_word : List ℕ → Bool
 is_plain_word word = nat_le (length word) 1 || not (slice_index word 0 == 45)
 
--- an option, which has the word after it
-abbrev pub is_option : GivenWords → List ℕ → Bool
-is_option g word = not (g.ended || is_plain_word word || bytes_eq word (codes "--"))
+-- the options that have no value
+abbrev pub is_flag : List ℕ → Bool
+is_flag word = bytes_eq word (codes "--report") || bytes_eq word (codes "--quiet")
 
--- with a word that is no option, of which a command has three at most
-abbrev pub with_plain : GivenWords → List ℕ → Option GivenWords
-with_plain g word =
-    cond (nat_le 3 (length g.plain)) None
-    (Some (record { plain = g.plain ++ word ∷ []; model = g.model; failures = g.failures; survive = g.survive; ended = g.ended }))
+-- the options of which the word after them is the value
+abbrev pub is_valued : List ℕ → Bool
+is_valued word =
+    bytes_eq word (codes "--model") || (bytes_eq word (codes "--failures") || (bytes_eq word (codes "--survive") || bytes_eq word (codes "--splits")))
 
--- with a plain word, or with the first `--`, after which no word is an option
-abbrev pub with_word : GivenWords → List ℕ → Option GivenWords
-with_word g word =
-    cond (g.ended || is_plain_word word) (with_plain g word)
-    (cond (bytes_eq word (codes "--")) (Some (record { plain = g.plain; model = g.model; failures = g.failures; survive = g.survive; ended = true })) None)
+-- what an option is to the word after it
+abbrev pub option_kind : List ℕ → WordKind
+option_kind word = cond (is_flag word) Flag (cond (is_valued word) Valued Unknown)
 
--- with the word after an option, which is given once at most
-abbrev pub with_model : GivenWords → List ℕ → Option GivenWords
-with_model g value =
-    cond (is_some g.model) None (Some (record { plain = g.plain; model = Some value; failures = g.failures; survive = g.survive; ended = g.ended }))
+-- what a word is to those after it
+abbrev pub word_kind : List ℕ → WordKind
+word_kind word = cond (is_plain_word word) Name (cond (bytes_eq word (codes "--")) End (option_kind word))
 
-abbrev pub with_failures : GivenWords → List ℕ → Option GivenWords
-with_failures g value =
-    cond (is_some g.failures) None (Some (record { plain = g.plain; model = g.model; failures = Some value; survive = g.survive; ended = g.ended }))
+-- ---- names and options
 
-abbrev pub with_survive : GivenWords → List ℕ → Option GivenWords
-with_survive g value =
-    cond (is_some g.survive) None (Some (record { plain = g.plain; model = g.model; failures = g.failures; survive = Some value; ended = g.ended }))
+-- an option that is given, and its value, which is empty where it has none
+pub record GivenOption : Type 0 where
+  pub name : List ℕ
+  pub value : List ℕ
 
--- with an option and the word after it; there is no other option
-abbrev pub with_option : GivenWords → List ℕ → List ℕ → Option GivenWords
-with_option g option value =
-    cond (bytes_eq option (codes "--model")) (with_model g value)
-    (cond (bytes_eq option (codes "--failures")) (with_failures g value)
-    (cond (bytes_eq option (codes "--survive")) (with_survive g value) None))
+-- Words are read as these names and these options, both in their order, where an option awaits its value or none does. After the first `--` all
+-- words are names.
+abbrev pub AreRead : Option (List ℕ) → List (List ℕ) → List (List ℕ) → List GivenOption → Type 0
+AreRead None [] names options = (names ≡ []) × (options ≡ [])
+AreRead None (word ∷ words) names options =
+    ((word_kind word ≡ Name) × ((others : List (List ℕ)) × (names ≡ word ∷ others) × AreRead None words others options))
+    ⊎ ((word_kind word ≡ End) × (names ≡ words) × (options ≡ []))
+    ⊎ ((word_kind word ≡ Flag) × ((others : List GivenOption) × (options ≡ record { name = word; value = [] } ∷ others) × AreRead None words names others))
+    ⊎ ((word_kind word ≡ Valued) × AreRead (Some word) words names options)
+AreRead (Some option) [] names options = ⊥
+AreRead (Some option) (value ∷ words) names options =
+    (others : List GivenOption) × (options ≡ record { name = option; value = value } ∷ others) × AreRead None words names others
 
--- with further words, from left to right; none where one of them is out of place
-abbrev pub with_words : Option GivenWords → List (List ℕ) → Option GivenWords
-with_words None words = None
-with_words (Some g) [] = Some g
-with_words (Some g) (word ∷ []) = with_word g word
-with_words (Some g) (word ∷ next ∷ words) =
-    cond (is_option g word) (with_words (with_option g word next) words) (with_words (with_word g word) (next ∷ words))
+-- how often an option is given
+abbrev pub times_given : List GivenOption → List ℕ → ℕ
+times_given options name = count_by (λ o. bytes_eq o.name name) options
+
+-- each of these options is given once at most, and no other
+abbrev pub TakesOptions : List (List ℕ) → List GivenOption → Type 0
+TakesOptions taken options = All (λ o. Contains taken o.name) options × All (λ name. times_given options name ≤ 1) taken
+
+-- the value that is given to an option, and none where it isn't given
+abbrev pub value_given : List GivenOption → List ℕ → Option (List ℕ)
+value_given [] name = None
+value_given (o ∷ options) name = cond (bytes_eq o.name name) (Some o.value) (value_given options name)

@@ -1,12 +1,30 @@
-ghost use Rattle.std.specs.Prelude.{◌≡◌, ◌↔◌, ℕ, Bool, List, None, IsTrue, MatchOption, map, option_map, string_bytes};
-ghost use Rattle.front_words.specs.Fronts.{FrontCommand, HasNoOption, IsFrontCommand, IsGiven, IsLoneWord, IsOfNetwork, IsOfPlain, IsOfReport, NamesFile, NamesOption, NamesSurvival};
-ghost use Rattle.front_words.specs.AskedFronts.{asked_front};
-ghost use Rattle.front_words.specs.inner.Causes.{given_words};
+ghost use Rattle.std.specs.Prelude.{◌≡◌, ◌≤◌, ◌<◌, ◌^◌, ◌↔◌, ◌∷◌, [], ℕ, Bool, List, Option, None, IfOk, IfSome, IsTrue, MatchOption, is_some, map, option_map, string_bytes};
+ghost use Rattle.front_files.specs.FrontInputs.{CaseWords, named_case};
+ghost use Rattle.front_words.specs.Fronts.{AskedPlan, AsksPlan, FrontCommand, IsFrontCommand, IsGiven, IsLoneWord, IsOfNetwork, IsOfParts, IsOfReport, IsSplitsWord, NamesCase, NamesFile, NamesOption, NamesSplits, NamesSurvival, plan_options, view_options};
+ghost use Rattle.front_words.specs.GivenWords.{TakesOptions};
+ghost use Rattle.front_words.specs.AskedFronts.{asked_front, asked_plan};
+ghost use Rattle.front_words.specs.inner.Causes.{given_names, given_option, given_options};
 
-use crate::given::{Given, Plain, given_by};
-use crate::words::{FrontWords, ViewWords};
+use crate::given::{Given, OptionValue, given_by};
+use crate::options::{takes_options, value_given};
+use crate::words::{FrontWords, PlanRequest, ViewWords};
 use front_files::CaseFiles;
 use input_files::{DEFAULT, PlanFiles};
+use net_core::NoMemory;
+use std::alloc::Global;
+
+/// The options of a view.
+const VIEW_OPTIONS: [&str; 3] = ["--model", "--failures", "--survive"];
+
+/// The options of a plan.
+const PLAN_OPTIONS: [&str; 6] = [
+    "--model",
+    "--failures",
+    "--survive",
+    "--splits",
+    "--report",
+    "--quiet",
+];
 
 /// Whether two words are the same.
 fn is_word(word: &str, other: &str) -> bool
@@ -55,6 +73,72 @@ fn survival_of<'w>(survive: Option<&'w str>, failures: Option<&'w str>) -> Optio
     }
 }
 
+/// The files of a case, by a network's word and options.
+fn case_of<'w>(network: &'w str, options: &[OptionValue<'w>]) -> Option<CaseFiles<'w>>
+    ensures { MatchOption result ((w : CaseWords) → NamesCase network.now (map given_option options.now) w → ⊥)
+        (λ w. NamesCase network.now (map given_option options.now) (named_case w)) }
+{
+    let (survive, failures) = survival_of(
+        value_given(options, "--survive"),
+        value_given(options, "--failures"),
+    )?;
+    let files = PlanFiles {
+        network: file_of_word(network),
+        model: file_of_option(value_given(options, "--model")),
+        failures,
+    };
+    Some(CaseFiles { files, survive })
+}
+
+/// Whether a word begins with a plus, which a number doesn't.
+fn begins_with_plus(word: &str) -> bool
+    ensures { IsTrue result ↔ ((rest : List ℕ) × (word.now ≡ 43 ∷ rest)) }
+{
+    match word.as_bytes() {
+        [] => false,
+        [first, ..] => *first == b'+',
+    }
+}
+
+/// The number of splits that a word of one to four digits writes.
+fn splits_word(word: &str) -> Option<u32>
+    ensures { MatchOption result ((n : ℕ) → IsSplitsWord word.now n → ⊥) (λ n. IsSplitsWord word.now n) }
+{
+    if word.len() > 4 || begins_with_plus(word) {
+        return None;
+    }
+    word.parse::<u32>().ok()
+}
+
+/// The number of splits that the value of an option writes, if it is given; none where the value is no such word.
+fn splits_of(option: Option<&str>) -> Option<Option<u32>>
+    ensures { MatchOption result ((n : Option ℕ) → NamesSplits (option_map (λ w. w.now) option.entry) n → ⊥)
+        (λ n. NamesSplits (option_map (λ w. w.now) option.entry) n) }
+{
+    match option {
+        None => Some(None),
+        Some(word) => {
+            let splits = splits_word(word)?;
+            Some(Some(splits))
+        }
+    }
+}
+
+/// The plan that a network's word and options ask for.
+fn asked_plan<'w>(network: &'w str, options: &[OptionValue<'w>]) -> Option<PlanRequest<'w>>
+    ensures { MatchOption result ((p : AskedPlan) → AsksPlan network.now (map given_option options.now) p → ⊥)
+        (λ p. AsksPlan network.now (map given_option options.now) (asked_plan p)) }
+{
+    let case = case_of(network, options)?;
+    let splits = splits_of(value_given(options, "--splits"))?;
+    Some(PlanRequest {
+        case,
+        splits,
+        report: value_given(options, "--report").is_some(),
+        quiet: value_given(options, "--quiet").is_some(),
+    })
+}
+
 /// The command that one word is.
 fn lone_command(word: &str) -> Option<FrontWords<'static>>
     ensures { MatchOption result ((c : FrontCommand) → IsLoneWord word.now c → ⊥) (λ c. IsLoneWord word.now (asked_front c)) }
@@ -68,80 +152,80 @@ fn lone_command(word: &str) -> Option<FrontWords<'static>>
     None
 }
 
-/// Whether no option is given.
-fn has_no_option(given: &Given) -> bool
-    ensures { IsTrue result ↔ HasNoOption (given_words given.now) }
+/// The command that a name, a network and options are.
+fn network_command<'w>(
+    name: &str,
+    network: &'w str,
+    options: &[OptionValue<'w>],
+) -> Option<FrontWords<'w>>
+    ensures { MatchOption result ((c : FrontCommand) → IsOfNetwork name.now network.now (map given_option options.now) c → ⊥)
+        (λ c. IsOfNetwork name.now network.now (map given_option options.now) (asked_front c)) }
 {
-    given.model.is_none() && given.failures.is_none() && given.survive.is_none()
-}
-
-/// The command that a name and a network are.
-fn network_command<'w>(name: &str, network: &'w str, given: &Given<'w>) -> Option<FrontWords<'w>>
-    ensures { MatchOption result ((c : FrontCommand) → IsOfNetwork name.now network.now (given_words given.now) c → ⊥)
-        (λ c. IsOfNetwork name.now network.now (given_words given.now) (asked_front c)) }
-{
-    if !is_word(name, "failures") || !has_no_option(given) {
-        return None;
+    if is_word(name, "failures") && takes_options(options, &[]) {
+        return Some(FrontWords::Failures(file_of_word(network)));
     }
-    Some(FrontWords::Failures(file_of_word(network)))
+    if is_word(name, "plan") && takes_options(options, &PLAN_OPTIONS) {
+        let plan = asked_plan(network, options)?;
+        return Some(FrontWords::Plan(plan));
+    }
+    None
 }
 
-/// The command that a name, a network and a report are.
+/// The command that a name, a network, a report and options are.
 fn report_command<'w>(
     name: &str,
     network: &'w str,
     report: &'w str,
-    given: &Given<'w>,
+    options: &[OptionValue<'w>],
 ) -> Option<FrontWords<'w>>
-    ensures { MatchOption result ((c : FrontCommand) → IsOfReport name.now network.now report.now (given_words given.now) c → ⊥)
-        (λ c. IsOfReport name.now network.now report.now (given_words given.now) (asked_front c)) }
+    ensures { MatchOption result ((c : FrontCommand) → IsOfReport name.now network.now report.now (map given_option options.now) c → ⊥)
+        (λ c. IsOfReport name.now network.now report.now (map given_option options.now) (asked_front c)) }
 {
-    if !is_word(name, "view") {
+    if !is_word(name, "view") || !takes_options(options, &VIEW_OPTIONS) {
         return None;
     }
     if is_word(network, "-") && is_word(report, "-") {
         return None;
     }
-    let (survive, failures) = survival_of(given.survive, given.failures)?;
-    let files = PlanFiles {
-        network: file_of_word(network),
-        model: file_of_option(given.model),
-        failures,
-    };
+    let case = case_of(network, options)?;
     Some(FrontWords::View(ViewWords {
-        case: CaseFiles { files, survive },
+        case,
         report: file_of_word(report),
     }))
 }
 
-/// The command that is given.
-fn given_command<'w>(given: &Given<'w>) -> Option<FrontWords<'w>>
-    ensures { MatchOption result ((c : FrontCommand) → IsOfPlain (given_words given.now).plain (given_words given.now) c → ⊥)
-        (λ c. IsOfPlain (given_words given.now).plain (given_words given.now) (asked_front c)) }
+/// The command that names and options are.
+fn parts_command<'w>(names: &[&'w str], options: &[OptionValue<'w>]) -> Option<FrontWords<'w>>
+    ensures { MatchOption result ((c : FrontCommand) → IsOfParts (map (λ w. w.now) names.now) (map given_option options.now) c → ⊥)
+        (λ c. IsOfParts (map (λ w. w.now) names.now) (map given_option options.now) (asked_front c)) }
 {
-    match given.plain {
-        Plain::Two(name, network) => network_command(name, network, given),
-        Plain::Three(name, network, report) => report_command(name, network, report, given),
-        Plain::Zero => None,
-        Plain::One(_) => None,
+    match names {
+        [name, network] => network_command(name, network, options),
+        [name, network, report] => report_command(name, network, report, options),
+        _ => None,
     }
 }
 
 /// The command that words give, of which there isn't one alone.
-fn words_command(words: &[String]) -> Option<FrontWords<'_>>
-    ensures { MatchOption result ((c : FrontCommand) → IsGiven (map string_bytes words.now) c → ⊥) (λ c. IsGiven (map string_bytes words.now) (asked_front c)) }
+fn words_command(alloc: Global, words: &[String]) -> Result<Option<FrontWords<'_>>, NoMemory>
+    ensures { IfOk result (λ r. MatchOption r ((c : FrontCommand) → IsGiven (map string_bytes words.now) c → ⊥)
+        (λ c. IsGiven (map string_bytes words.now) (asked_front c))) }
 {
-    let given = given_by(words)?;
-    given_command(&given)
+    match given_by(alloc, words) {
+        Ok(Some(given)) => Ok(parts_command(given.names.items(), given.options.items())),
+        Ok(None) => Ok(None),
+        Err(NoMemory) => Err(NoMemory),
+    }
 }
 
-/// The command that words are; none where they are no command. It takes time in the words.
-pub fn command_of(words: &[String]) -> Option<FrontWords<'_>>
-    ensures { MatchOption result ((c : FrontCommand) → IsFrontCommand words.now c → ⊥) (λ c. IsFrontCommand words.now (asked_front c)) }
+/// The command that words are; none where they are no command. It takes time and memory in the words.
+pub fn command_of(alloc: Global, words: &[String]) -> Result<Option<FrontWords<'_>>, NoMemory>
+    ensures { IfOk result (λ r. MatchOption r ((c : FrontCommand) → IsFrontCommand words.now c → ⊥)
+        (λ c. IsFrontCommand words.now (asked_front c))) }
 {
-    let (first, rest) = words.split_first()?;
-    if rest.is_empty() {
-        return lone_command(first.as_str());
+    match words {
+        [] => Ok(None),
+        [word] => Ok(lone_command(word.as_str())),
+        _ => words_command(alloc, words),
     }
-    words_command(words)
 }

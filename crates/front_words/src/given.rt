@@ -1,174 +1,107 @@
-ghost use Rattle.std.specs.Prelude.{◌≡◌, ◌≢◌, ◌<◌, ◌∷◌, [], None, Some, MatchOption, length, map, option_map, string_bytes};
-ghost use Rattle.std.specs.Str.{bytes_eq};
-ghost use Rattle.front_words.specs.GivenWords.{is_option, is_plain_word, nothing_given, with_failures, with_model, with_option, with_plain, with_survive, with_word, with_words};
-ghost use Rattle.front_words.specs.inner.Causes.{given_words};
+ghost use Rattle.std.specs.Prelude.{◌≡◌, ℕ, List, None, IfOk, MatchOption, map, string_bytes};
+ghost use Rattle.front_words.specs.GivenWords.{AreRead, GivenOption};
+ghost use Rattle.front_words.specs.inner.Causes.{IsRest, TakesWord, given_names, given_options};
 
-/// The words that are no options, in their order.
+use crate::kinds::{WordKind, kind_of};
+use net_core::{List as Items, NoMemory};
+use std::alloc::Global;
+
+/// An option, and its value, which is empty where it has none.
 #[derive(Clone, Copy)]
-pub(crate) enum Plain<'w> {
-    Zero,
-    One(&'w str),
-    Two(&'w str, &'w str),
-    Three(&'w str, &'w str, &'w str),
+pub(crate) struct OptionValue<'w> {
+    pub(crate) option: &'w str,
+    pub(crate) value: &'w str,
 }
 
-/// What words give.
-#[derive(Clone, Copy)]
+/// What words give: the names in their order, and the options in theirs.
+#[derive(Drop)]
 pub(crate) struct Given<'w> {
-    pub(crate) plain: Plain<'w>,
-    pub(crate) model: Option<&'w str>,
-    pub(crate) failures: Option<&'w str>,
-    pub(crate) survive: Option<&'w str>,
-    /// No further word is an option.
-    pub(crate) ended: bool,
+    pub(crate) names: Items<&'w str>,
+    pub(crate) options: Items<OptionValue<'w>>,
 }
 
-/// What no words give.
-fn nothing() -> Given<'static>
-    ensures { given_words result ≡ nothing_given }
+/// What is awaited after some words.
+#[derive(Clone, Copy)]
+pub(crate) enum Awaited<'w> {
+    /// A name or an option.
+    Word,
+    /// The value of this option.
+    Value(&'w str),
+    /// Names alone.
+    Names,
+}
+
+/// What is awaited after a word where a name or an option was, with what it gives; none where it is no option that there is.
+fn take_word<'w>(given: &mut Given<'w>, word: &'w str) -> Result<Option<Awaited<'w>>, NoMemory>
+    ensures { IfOk result (λ next. MatchOption next
+        ((rest names : List (List ℕ)) (options : List GivenOption) → IsRest Awaited.Word (word.now ∷ rest) names options → ⊥)
+        (λ n. TakesWord Awaited.Word word.now given.old n given.new)) }
 {
-    Given {
-        plain: Plain::Zero,
-        model: None,
-        failures: None,
-        survive: None,
-        ended: false,
+    match kind_of(word) {
+        WordKind::Name => {
+            given.names.push(word)?;
+            Ok(Some(Awaited::Word))
+        }
+        WordKind::End => Ok(Some(Awaited::Names)),
+        WordKind::Flag => {
+            given.options.push(OptionValue {
+                option: word,
+                value: "",
+            })?;
+            Ok(Some(Awaited::Word))
+        }
+        WordKind::Valued => Ok(Some(Awaited::Value(word))),
+        WordKind::Unknown => Ok(None),
     }
 }
 
-/// Whether two words are the same.
-fn same_words(word: &str, other: &str) -> bool
-    ensures { result ≡ bytes_eq word.now other.now }
+/// What is awaited after a word, with what it gives; none where the word is out of place.
+fn take<'w>(
+    given: &mut Given<'w>,
+    awaited: Awaited<'w>,
+    word: &'w str,
+) -> Result<Option<Awaited<'w>>, NoMemory>
+    ensures { IfOk result (λ next. MatchOption next
+        ((rest names : List (List ℕ)) (options : List GivenOption) → IsRest awaited.entry (word.now ∷ rest) names options → ⊥)
+        (λ n. TakesWord awaited.entry word.now given.old n given.new)) }
 {
-    word == other
+    match awaited {
+        Awaited::Word => take_word(given, word),
+        Awaited::Value(option) => {
+            given.options.push(OptionValue {
+                option,
+                value: word,
+            })?;
+            Ok(Some(Awaited::Word))
+        }
+        Awaited::Names => {
+            given.names.push(word)?;
+            Ok(Some(Awaited::Names))
+        }
+    }
 }
 
-/// Whether a word begins like no option: a minus alone, or one that doesn't begin with a minus.
-fn is_plain_word(word: &str) -> bool
-    ensures { result ≡ is_plain_word word.now }
+/// What all words give; none where one of them is out of place. It takes time and memory in the words.
+pub(crate) fn given_by(alloc: Global, words: &[String]) -> Result<Option<Given<'_>>, NoMemory>
+    ensures { IfOk result (λ r. MatchOption r
+        ((names : List (List ℕ)) (options : List GivenOption) → AreRead None (map string_bytes words.now) names options → ⊥)
+        (λ g. AreRead None (map string_bytes words.now) (given_names g) (given_options g)
+        × ((names : List (List ℕ)) (options : List GivenOption) → AreRead None (map string_bytes words.now) names options
+        → (names ≡ given_names g) × (options ≡ given_options g)))) }
 {
-    let bytes = word.as_bytes();
-    bytes.len() <= 1 || bytes[0] != b'-'
-}
-
-/// Whether a word is an option, which has the word after it.
-fn is_option(given: Given, word: &str) -> bool
-    ensures { result ≡ is_option (given_words given.entry) word.now }
-{
-    !(given.ended || is_plain_word(word) || same_words(word, "--"))
-}
-
-/// With a word that is no option; none where it is the fourth.
-fn with_plain<'w>(given: Given<'w>, word: &'w str) -> Option<Given<'w>>
-    ensures { option_map given_words result ≡ with_plain (given_words given.entry) word.now }
-{
-    let plain = match given.plain {
-        Plain::Zero => Plain::One(word),
-        Plain::One(first) => Plain::Two(first, word),
-        Plain::Two(first, second) => Plain::Three(first, second, word),
-        Plain::Three(..) => return None,
+    let mut given = Given {
+        names: Items::new(alloc),
+        options: Items::new(alloc),
     };
-    Some(Given { plain, ..given })
-}
-
-/// With a plain word, or with the first `--`; none where it is an option.
-fn with_word<'w>(given: Given<'w>, word: &'w str) -> Option<Given<'w>>
-    ensures { option_map given_words result ≡ with_word (given_words given.entry) word.now }
-{
-    if given.ended || is_plain_word(word) {
-        return with_plain(given, word);
+    let mut awaited = Awaited::Word;
+    for word in words {
+        match take(&mut given, awaited, word.as_str())? {
+            Some(next) => awaited = next,
+            None => return Ok(None),
+        }
     }
-    if same_words(word, "--") {
-        return Some(Given {
-            ended: true,
-            ..given
-        });
+    match awaited {
+        Awaited::Value(_) => Ok(None),
+        Awaited::Word | Awaited::Names => Ok(Some(given)),
     }
-    None
-}
-
-/// With the word after `--model`; none where it was given before.
-fn with_model<'w>(given: Given<'w>, value: &'w str) -> Option<Given<'w>>
-    ensures { option_map given_words result ≡ with_model (given_words given.entry) value.now }
-{
-    match given.model {
-        Some(_) => None,
-        None => Some(Given {
-            model: Some(value),
-            ..given
-        }),
-    }
-}
-
-/// With the word after `--failures`; none where it was given before.
-fn with_failures<'w>(given: Given<'w>, value: &'w str) -> Option<Given<'w>>
-    ensures { option_map given_words result ≡ with_failures (given_words given.entry) value.now }
-{
-    match given.failures {
-        Some(_) => None,
-        None => Some(Given {
-            failures: Some(value),
-            ..given
-        }),
-    }
-}
-
-/// With the word after `--survive`; none where it was given before.
-fn with_survive<'w>(given: Given<'w>, value: &'w str) -> Option<Given<'w>>
-    ensures { option_map given_words result ≡ with_survive (given_words given.entry) value.now }
-{
-    match given.survive {
-        Some(_) => None,
-        None => Some(Given {
-            survive: Some(value),
-            ..given
-        }),
-    }
-}
-
-/// With an option and the word after it; none where there is no such option, or it was given before.
-fn with_option<'w>(given: Given<'w>, option: &str, value: &'w str) -> Option<Given<'w>>
-    ensures { option_map given_words result ≡ with_option (given_words given.entry) option.now value.now }
-{
-    if same_words(option, "--model") {
-        return with_model(given, value);
-    }
-    if same_words(option, "--failures") {
-        return with_failures(given, value);
-    }
-    if same_words(option, "--survive") {
-        return with_survive(given, value);
-    }
-    None
-}
-
-/// With the first of further words, and where it is an option with the one after it, too; and the words that are left.
-fn take<'w>(given: Given<'w>, words: &'w [String]) -> Option<(Given<'w>, &'w [String])>
-    requires { words.now ≢ [] }
-    ensures { MatchOption result (with_words (Some (given_words given.entry)) (map string_bytes words.now) ≡ None)
-        (λ r. (length r.1.now < length words.now)
-        × (with_words (Some (given_words r.0)) (map string_bytes r.1.now) ≡ with_words (Some (given_words given.entry)) (map string_bytes words.now))) }
-{
-    let (word, rest) = words.split_first()?;
-    if !is_option(given, word.as_str()) {
-        let next = with_word(given, word.as_str())?;
-        return Some((next, rest));
-    }
-    let (value, left) = rest.split_first()?;
-    let next = with_option(given, word.as_str(), value.as_str())?;
-    Some((next, left))
-}
-
-/// What all words give; none where one of them is out of place. It takes time in the words.
-pub(crate) fn given_by(words: &[String]) -> Option<Given<'_>>
-    ensures { option_map given_words result ≡ with_words (Some nothing_given) (map string_bytes words.now) }
-{
-    let mut given = nothing();
-    let mut left = words;
-    while !left.is_empty() {
-        let (next, rest) = take(given, left)?;
-        given = next;
-        left = rest;
-    }
-    Some(given)
 }

@@ -11,6 +11,8 @@ pub enum FrontWords<'w> {
     Failures(&'w str),
     /// What people read of a report.
     View(ViewWords<'w>),
+    /// A plan.
+    Plan(PlanRequest<'w>),
 }
 
 /// The files of a view, by their names.
@@ -18,4 +20,16 @@ pub enum FrontWords<'w> {
 pub struct ViewWords<'w> {
     pub case: CaseFiles<'w>,
     pub report: &'w str,
+}
+
+/// A plan that is asked for.
+#[derive(Clone, Copy)]
+pub struct PlanRequest<'w> {
+    pub case: CaseFiles<'w>,
+    /// How many splits its branch tree has at most, if somebody says: at most 9,999.
+    pub splits: Option<u32>,
+    /// The report is printed, and not its view.
+    pub report: bool,
+    /// Nothing is told on the way.
+    pub quiet: bool,
 }
