@@ -55,7 +55,7 @@ pub record IsSplitsWord (word : List ℕ) (n : ℕ) : Type 0 where
 -- the value of `--splits` writes this number, and without the option nobody says one
 abbrev pub NamesSplits : Option (List ℕ) → Option ℕ → Type 0
 NamesSplits None splits = splits ≡ None
-NamesSplits (Some word) splits = (n : ℕ) × (splits ≡ Some n) × IsSplitsWord word n
+NamesSplits (Some word) splits = (n : ℕ) × (splits ≡ Some n) × IsSplitsWord word n × (n ≤ 9999)
 
 -- ---- commands
 

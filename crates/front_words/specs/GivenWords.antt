@@ -1,5 +1,5 @@
 -- what the words of a command give: names in their order, and options in any place between them
-use Rattle.std.specs.Prelude.{◌≡◌, ◌≤◌, ◌⊎◌, ℕ, ◌==◌, ◌||◌, not, Bool, true, false, cond, List, [], ◌∷◌, Option, None, Some, All, Contains, codes, count_by, length, nat_le, slice_index}
+use Rattle.std.specs.Prelude.{◌≡◌, ◌⊎◌, ℕ, ◌+◌, ◌==◌, ◌&&◌, ◌||◌, not, Bool, true, false, cond, List, [], ◌∷◌, Option, None, Some, codes, length, nat_le, slice_index}
 use Rattle.std.specs.Str.{bytes_eq}
 use Rattle.front_words.specs.declared.kinds.WordKind.{WordKind}
 use Rattle.front_words.specs.declared.kinds.WordKind.TheVariants.{Name, End, Flag, Valued, Unknown}
@@ -47,13 +47,29 @@ AreRead (Some option) [] names options = ⊥
 AreRead (Some option) (value ∷ words) names options =
     (others : List GivenOption) × (options ≡ record { name = option; value = value } ∷ others) × AreRead None words names others
 
+-- whether a name is among these
+abbrev pub is_among : List (List ℕ) → List ℕ → Bool
+is_among [] name = false
+is_among (word ∷ words) name = bytes_eq word name || is_among words name
+
+-- whether each option that is given is among these
+abbrev pub are_among : List (List ℕ) → List GivenOption → Bool
+are_among taken [] = true
+are_among taken (o ∷ options) = is_among taken o.name && are_among taken options
+
 -- how often an option is given
 abbrev pub times_given : List GivenOption → List ℕ → ℕ
-times_given options name = count_by (λ o. bytes_eq o.name name) options
+times_given [] name = 0
+times_given (o ∷ options) name = cond (bytes_eq o.name name) 1 0 + times_given options name
+
+-- whether each of these options is given once at most
+abbrev pub are_once : List (List ℕ) → List GivenOption → Bool
+are_once [] options = true
+are_once (name ∷ names) options = nat_le (times_given options name) 1 && are_once names options
 
 -- each of these options is given once at most, and no other
 abbrev pub TakesOptions : List (List ℕ) → List GivenOption → Type 0
-TakesOptions taken options = All (λ o. Contains taken o.name) options × All (λ name. times_given options name ≤ 1) taken
+TakesOptions taken options = (are_among taken options ≡ true) × (are_once taken options ≡ true)
 
 -- the value that is given to an option, and none where it isn't given
 abbrev pub value_given : List GivenOption → List ℕ → Option (List ℕ)

@@ -100,9 +100,9 @@ fn begins_with_plus(word: &str) -> bool
     }
 }
 
-/// The number of splits that a word of one to four digits writes.
-fn splits_word(word: &str) -> Option<u32>
-    ensures { MatchOption result ((n : ℕ) → IsSplitsWord word.now n → ⊥) (λ n. IsSplitsWord word.now n) }
+/// The number that a word of one to four digits writes.
+fn number_word(word: &str) -> Option<u32>
+    ensures { MatchOption result ((n : ℕ) → n < 2 ^ 32 → IsSplitsWord word.now n → ⊥) (λ n. IsSplitsWord word.now n) }
 {
     if word.len() > 4 || begins_with_plus(word) {
         return None;
@@ -110,10 +110,18 @@ fn splits_word(word: &str) -> Option<u32>
     word.parse::<u32>().ok()
 }
 
+/// The number of splits that a word writes.
+fn splits_word(word: &str) -> Option<u32>
+    ensures { MatchOption result ((n : ℕ) → IsSplitsWord word.now n × (n ≤ 9999) → ⊥) (λ n. IsSplitsWord word.now n × (n ≤ 9999)) }
+{
+    let splits = number_word(word)?;
+    if splits <= 9999 { Some(splits) } else { None }
+}
+
 /// The number of splits that the value of an option writes, if it is given; none where the value is no such word.
 fn splits_of(option: Option<&str>) -> Option<Option<u32>>
     ensures { MatchOption result ((n : Option ℕ) → NamesSplits (option_map (λ w. w.now) option.entry) n → ⊥)
-        (λ n. NamesSplits (option_map (λ w. w.now) option.entry) n) }
+        (λ n. NamesSplits (option_map (λ w. w.now) option.entry) n × IfSome n (λ k. k ≤ 9999)) }
 {
     match option {
         None => Some(None),
@@ -218,14 +226,23 @@ fn words_command(alloc: Global, words: &[String]) -> Result<Option<FrontWords<'_
     }
 }
 
+/// The only word, where there is one alone.
+fn lone_word(words: &[String]) -> Option<&str>
+    ensures { MatchOption result ((word : List ℕ) → map string_bytes words.now ≡ word ∷ [] → ⊥) (λ word. map string_bytes words.now ≡ word.now ∷ []) }
+{
+    match words {
+        [word] => Some(word.as_str()),
+        _ => None,
+    }
+}
+
 /// The command that words are; none where they are no command. It takes time and memory in the words.
 pub fn command_of(alloc: Global, words: &[String]) -> Result<Option<FrontWords<'_>>, NoMemory>
     ensures { IfOk result (λ r. MatchOption r ((c : FrontCommand) → IsFrontCommand words.now c → ⊥)
         (λ c. IsFrontCommand words.now (asked_front c))) }
 {
-    match words {
-        [] => Ok(None),
-        [word] => Ok(lone_command(word.as_str())),
-        _ => words_command(alloc, words),
+    match lone_word(words) {
+        Some(word) => Ok(lone_command(word)),
+        None => words_command(alloc, words),
     }
 }

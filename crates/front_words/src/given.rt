@@ -1,4 +1,4 @@
-ghost use Rattle.std.specs.Prelude.{◌≡◌, ℕ, List, None, IfOk, MatchOption, map, string_bytes};
+ghost use Rattle.std.specs.Prelude.{◌≡◌, ◌∷◌, ℕ, List, None, IfOk, MatchOption, map, string_bytes};
 ghost use Rattle.front_words.specs.GivenWords.{AreRead, GivenOption};
 ghost use Rattle.front_words.specs.inner.Causes.{IsRest, TakesWord, given_names, given_options};
 

@@ -1,5 +1,5 @@
-ghost use Rattle.std.specs.Prelude.{◌≡◌, ◌↔◌, All, Contains, IsTrue, is_some, map, option_map};
-ghost use Rattle.front_words.specs.GivenWords.{TakesOptions, times_given, value_given};
+ghost use Rattle.std.specs.Prelude.{◌≡◌, ◌↔◌, IsTrue, map, option_map};
+ghost use Rattle.front_words.specs.GivenWords.{TakesOptions, are_among, are_once, is_among, times_given, value_given};
 ghost use Rattle.front_words.specs.inner.Causes.{given_option};
 
 use crate::given::OptionValue;
@@ -7,7 +7,7 @@ use crate::kinds::same_words;
 
 /// Whether an option is among these.
 fn is_among(taken: &[&str], name: &str) -> bool
-    ensures { IsTrue result ↔ Contains (map (λ w. w.now) taken.now) name.now }
+    ensures { result ≡ is_among (map (λ w. w.now) taken.now) name.now }
 {
     for word in taken {
         if same_words(word, name) {
@@ -19,10 +19,10 @@ fn is_among(taken: &[&str], name: &str) -> bool
 
 /// Whether each option that is given is among these.
 fn are_among(options: &[OptionValue], taken: &[&str]) -> bool
-    ensures { IsTrue result ↔ All (λ o. Contains (map (λ w. w.now) taken.now) o.name) (map given_option options.now) }
+    ensures { result ≡ are_among (map (λ w. w.now) taken.now) (map given_option options.now) }
 {
-    for option in options {
-        if !is_among(taken, option.option) {
+    for given in options {
+        if !is_among(taken, given.option) {
             return false;
         }
     }
@@ -34,8 +34,8 @@ fn times_given(options: &[OptionValue], name: &str) -> usize
     ensures { result ≡ times_given (map given_option options.now) name.now }
 {
     let mut times = 0;
-    for option in options {
-        if same_words(option.option, name) {
+    for given in options {
+        if same_words(given.option, name) {
             times += 1;
         }
     }
@@ -44,7 +44,7 @@ fn times_given(options: &[OptionValue], name: &str) -> usize
 
 /// Whether each of these options is given once at most.
 fn are_once(options: &[OptionValue], taken: &[&str]) -> bool
-    ensures { IsTrue result ↔ All (λ name. times_given (map given_option options.now) name ≤ 1) (map (λ w. w.now) taken.now) }
+    ensures { result ≡ are_once (map (λ w. w.now) taken.now) (map given_option options.now) }
 {
     for word in taken {
         if times_given(options, word) > 1 {
@@ -65,9 +65,9 @@ pub(crate) fn takes_options(options: &[OptionValue], taken: &[&str]) -> bool
 pub(crate) fn value_given<'w>(options: &[OptionValue<'w>], name: &str) -> Option<&'w str>
     ensures { option_map (λ w. w.now) result ≡ value_given (map given_option options.now) name.now }
 {
-    for option in options {
-        if same_words(option.option, name) {
-            return Some(option.value);
+    for given in options {
+        if same_words(given.option, name) {
+            return Some(given.value);
         }
     }
     None

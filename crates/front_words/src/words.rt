@@ -1,3 +1,6 @@
+ghost use Rattle.std.specs.Prelude.{◌≤◌};
+ghost use Rattle.std.specs.Option.{option_map_or};
+
 use front_files::CaseFiles;
 
 /// What a run is asked for.
@@ -26,10 +29,11 @@ pub struct ViewWords<'w> {
 #[derive(Clone, Copy)]
 pub struct PlanRequest<'w> {
     pub case: CaseFiles<'w>,
-    /// How many splits its branch tree has at most, if somebody says: at most 9,999.
+    /// How many splits its branch tree has at most, if somebody says.
     pub splits: Option<u32>,
     /// The report is printed, and not its view.
     pub report: bool,
     /// Nothing is told on the way.
     pub quiet: bool,
+    pub ghost few: { option_map_or (λ n. n) splits 0 ≤ 9999 },
 }
