@@ -1,7 +1,7 @@
 -- words that give a command
 use Rattle.std.proofs.Common.{◌≡◌, ℕ, List, [], ◌∷◌, Option, None, Some, MatchOption, refl, subst}
 use Rattle.front_words.specs.AskedFronts.{asked_front}
-use Rattle.front_words.specs.Fronts.{AreFrontWords, FrontCommand, IsGiven, IsLoneWord, IsOfParts}
+use Rattle.front_words.specs.Fronts.{AreFrontWords, FrontCommand, IsGiven, IsOfParts}
 use Rattle.front_words.specs.GivenWords.{AreRead, GivenOption}
 use Rattle.front_words.specs.declared.words.FrontWords.{FrontWords}
 
@@ -16,12 +16,6 @@ parts_given words names options None read alone held = λ c given.
 parts_given words names options (Some c) read alone held = (names, options, read, held)
 
 module _ (r : Option FrontWords) where
-  -- one word alone
-  pub one_given : (words : List (List ℕ)) (word : List ℕ) → words ≡ word ∷ [] → MatchOption r ((c : FrontCommand) → IsLoneWord word c → ⊥) (λ c. IsLoneWord word (asked_front c))
-      → MatchOption r ((c : FrontCommand) → AreFrontWords words c → ⊥) (λ c. AreFrontWords words (asked_front c))
-  one_given words word is held =
-      rw is held
-
   -- none or more of them
   pub more_given : (words : List (List ℕ)) → ((word : List ℕ) → words ≡ word ∷ [] → ⊥)
       → MatchOption r ((c : FrontCommand) → IsGiven words c → ⊥) (λ c. IsGiven words (asked_front c))

@@ -1,10 +1,10 @@
 -- words, one after another
-use Rattle.std.proofs.Common.{◌≡◌, ◌∙◌, ℕ, List, [], ◌∷◌, ◌++◌, None, Some, inl, inr, refl, ap, append_assoc, subst, sym}
-use Rattle.std.proofs.lemmas.List.{append-nil}
+use Rattle.std.proofs.Common.{◌≡◌, ◌∙◌, ℕ, List, [], ◌∷◌, ◌++◌, None, Some, inl, inr, refl, ap, append_assoc, map, subst, sym}
+use Rattle.std.proofs.lemmas.List.{append-nil, map_push}
 use Rattle.front_words.specs.GivenWords.{AreRead, GivenOption, word_kind}
 use Rattle.front_words.specs.declared.kinds.WordKind.TheVariants.{Name, End, Flag, Valued, Unknown}
 use Rattle.front_words.specs.declared.given.Awaited.{Awaited}
-use Rattle.front_words.specs.declared.given.Awaited.TheVariants.{Word, Value, Names}
+use Rattle.front_words.specs.declared.given.Awaited.TheVariants.{Word, Names}
 use Rattle.front_words.specs.declared.given.Given.{Given}
 use Rattle.front_words.specs.inner.Causes.{IsRest, ReadsOn, TakesWord, given_names, given_options}
 
@@ -32,7 +32,7 @@ module _ (word : List ℕ) (rest names : List (List ℕ)) (options : List GivenO
   flag_back is (inr (inr (inl (k, (others, given, read))))) = (names, others, refl, given, read)
   flag_back is (inr (inr (inr (k, read)))) = absurd (cc (sym is ∙ k))
 
-  valued_back : word_kind word ≡ Valued → AreRead None (word ∷ rest) names options
+  pub valued_back : word_kind word ≡ Valued → AreRead None (word ∷ rest) names options
       → (n : List (List ℕ)) × (o : List GivenOption) × (names ≡ [] ++ n) × (options ≡ [] ++ o) × AreRead (Some word) rest n o
   valued_back is (inl (k, (others, named, read))) = absurd (cc (sym is ∙ k))
   valued_back is (inr (inl (k, named, none))) = absurd (cc (sym is ∙ k))
@@ -83,10 +83,13 @@ leads_on a w b r c q ns ms os ps first second = record {
       (first.forth (ms ++ names) (ps ++ options) (second.forth names options read)));
   back = λ names options read.
       let f = first.back names options read in
-      let s = second.back f.0 f.1 f.4 in
-      (s.0, s.1,
-      f.2 ∙ ap (λ (x : List (List ℕ)). ns ++ x) s.2 ∙ sym (append_assoc ns ms s.0),
-      f.3 ∙ ap (λ (y : List GivenOption). os ++ y) s.3 ∙ sym (append_assoc os ps s.1), s.4);
+      let s = second.back f.0 f.1 f.4 in (
+        s.0,
+        s.1,
+        f.2 ∙ ap (λ (x : List (List ℕ)). ns ++ x) s.2 ∙ sym (append_assoc ns ms s.0),
+        f.3 ∙ ap (λ (y : List GivenOption). os ++ y) s.3 ∙ sym (append_assoc os ps s.1),
+        s.4,
+      );
 }
 
 -- nothing read so far
@@ -106,15 +109,22 @@ leads_word a b all word rest old new so t =
 
 -- ---- the end of the words
 
-module _ (all ns : List (List ℕ)) (os : List GivenOption) (end : Awaited) (so : ReadsOn Word all end [] ns os) where
+module _ (all left ns : List (List ℕ)) (os : List GivenOption) (a end : Awaited) (none : left ≡ []) (is : a ≡ end) (so : ReadsOn Word all a left ns os) where
+  at_end : ReadsOn Word all end [] ns os
+  at_end = subst (λ (x : Awaited). ReadsOn Word all x [] ns os) is (subst (λ (ws : List (List ℕ)). ReadsOn Word all a ws ns os) none so)
+
   -- these names and options are all
   pub are_all : IsRest end [] [] []
       → ((n : List (List ℕ)) (o : List GivenOption) → IsRest end [] n o → (n ≡ []) × (o ≡ []))
       → AreRead None all ns os × ((names : List (List ℕ)) (options : List GivenOption) → AreRead None all names options → (names ≡ ns) × (options ≡ os))
   are_all done alone = (
-    subst (λ (x : List (List ℕ)). AreRead None all x os) (append-nil ns) (subst (λ (y : List GivenOption). AreRead None all (ns ++ []) y) (append-nil os) (so.forth [] [] done)),
+    subst (λ (x : List (List ℕ)). AreRead None all x os) (append-nil ns) (subst (λ (y : List GivenOption). AreRead None all (ns ++ []) y) (append-nil os) (at_end.forth [] [] done)),
     λ names options read.
-        let b = so.back names options read in
+        let b = at_end.back names options read in
         let e = alone b.0 b.1 b.4 in
         (b.2 ∙ ap (λ (x : List (List ℕ)). ns ++ x) e.0 ∙ append-nil ns, b.3 ∙ ap (λ (y : List GivenOption). os ++ y) e.1 ∙ append-nil os),
   )
+
+-- one more last
+pub one_more : {X Y : Type 0} (old new : List X) (x : X) → new ≡ old ++ x ∷ [] → (f : X → Y) → map f new ≡ map f old ++ f x ∷ []
+one_more old new x is f = ap (map f) is ∙ map_push f old x

@@ -66,7 +66,10 @@ fn take<'w>(
         (λ n. TakesWord awaited.entry word.now given.old n given.new)) }
 {
     match awaited {
-        Awaited::Word => take_word(given, word),
+        Awaited::Word => {
+            let next = take_word(given, word)?;
+            Ok(next)
+        }
         Awaited::Value(option) => {
             given.options.push(OptionValue {
                 option,
@@ -101,7 +104,8 @@ pub(crate) fn given_by(alloc: Global, words: &[String]) -> Result<Option<Given<'
         }
     }
     match awaited {
+        Awaited::Word => Ok(Some(given)),
+        Awaited::Names => Ok(Some(given)),
         Awaited::Value(_) => Ok(None),
-        Awaited::Word | Awaited::Names => Ok(Some(given)),
     }
 }
