@@ -1,5 +1,10 @@
 pub mod FailuresMessages
 pub mod FindingMessages
+pub mod ForeignReports
+pub mod Headers
+pub mod Limits
 pub mod ModelMessages
+pub mod NearNames
 pub mod NetworkMessages
+pub mod Notes
 pub mod ReportMessages

@@ -1,9 +1,10 @@
 -- what is said of each fault of a model file
-use Rattle.std.specs.Prelude.{ℕ, List, codes}
+use Rattle.std.specs.Prelude.{ℕ, List, ◌++◌, codes}
 use Rattle.model_reader.specs.declared.model.ModelKey.{ModelKey}
 use Rattle.model_reader.specs.declared.model.ModelKey.TheVariants as keys
 use Rattle.model_reader.specs.declared.model.ModelKind.{ModelKind}
 use Rattle.model_reader.specs.declared.model.ModelKind.TheVariants as kinds
+use Rattle.model_reader.specs.Models.{model_header}
 
 -- what stands for a key that is missing
 abbrev pub missing_help : ModelKey → List ℕ
@@ -31,7 +32,7 @@ value_help keys.Survivability = codes "its value is NO_SURVIVABILITY or UNRESTRI
 abbrev pub model_message : ModelKind → List ℕ × List ℕ
 model_message (kinds.Unsupported key) = (codes "this value can't be planned with", value_help key)
 model_message (kinds.Missing key) = (codes "the file ends, and a key is missing", missing_help key)
-model_message kinds.Header = (codes "this is no model", codes "the first line of a model is: ?SNDlib native format; type: model; version: 1.0")
+model_message kinds.Header = (codes "this is no model", codes "the first line of a model is: " ++ model_header)
 model_message kinds.Token = (codes "an aspect is a key, an equals sign and a value", codes "with spaces between them, and without parentheses")
 model_message kinds.Ended = (codes "the file ends within an aspect", codes "is it cut off?")
 model_message kinds.Key = (

@@ -1,22 +1,27 @@
 -- what is said of each fault of a network file
-use Rattle.std.specs.Prelude.{ℕ, List, codes}
+use Rattle.std.specs.Prelude.{ℕ, ◌^◌, List, ◌++◌, codes, decimal}
+use Rattle.net_core.specs.declared.places.Places.TheVariants.{Six, Three}
 use Rattle.snd_tokens.specs.declared.amounts.NumberFault.{NumberFault}
 use Rattle.snd_tokens.specs.declared.amounts.NumberFault.TheVariants as numbers
 use Rattle.sndlib_reader.specs.declared.fault.Limited.{Limited}
 use Rattle.sndlib_reader.specs.declared.fault.Limited.TheVariants as limits
 use Rattle.sndlib_reader.specs.declared.fault.ReadKind.{ReadKind}
 use Rattle.sndlib_reader.specs.declared.fault.ReadKind.TheVariants as kinds
+use Rattle.sndlib_reader.specs.Spelling.{header}
+use Rattle.text_kit.specs.Terms.{money_word}
+use Rattle.fault_messages.specs.Limits.{most_demands, most_links, most_modules, most_nodes, name_bytes, need_power, total_power}
 
 -- of what a network has too many or too much of
 abbrev pub limit_message : Limited → List ℕ × List ℕ
-limit_message limits.Name = (codes "this name is too long", codes "a name has at most 255 bytes")
-limit_message limits.Nodes = (codes "this node is one too many", codes "a network has at most 128 nodes")
-limit_message limits.Links = (codes "this link is one too many", codes "a network has at most 256 links")
-limit_message limits.Modules = (codes "this module is one too many", codes "a link has at most 16 modules")
-limit_message limits.Demands = (codes "this demand is one too many", codes "a network has at most 2048 demands")
+limit_message limits.Name = (codes "this name is too long", codes "a name has at most " ++ decimal name_bytes ++ codes " bytes")
+limit_message limits.Nodes = (codes "this node is one too many", codes "a network has at most " ++ decimal most_nodes ++ codes " nodes")
+limit_message limits.Links = (codes "this link is one too many", codes "a network has at most " ++ decimal most_links ++ codes " links")
+limit_message limits.Modules = (codes "this module is one too many", codes "a link has at most " ++ decimal most_modules ++ codes " modules")
+limit_message limits.Demands = (codes "this demand is one too many", codes "a network has at most " ++ decimal most_demands ++ codes " demands")
 limit_message limits.Total = (
   codes "with this demand all needs together are too large",
-  codes "they sum to less than 17592186044.416, or than 17592186.044416 in a file with a finer number than thousandths",
+  codes "they sum to less than " ++ money_word Three (2 ^ total_power) ++ codes ", or than " ++ money_word Six (2 ^ total_power)
+      ++ codes " in a file with a finer number than thousandths",
 )
 
 -- of a number
@@ -31,14 +36,15 @@ number_message numbers.TooFine = (
 )
 number_message numbers.TooLarge = (
   codes "this number is too large",
-  codes "an amount, and a demand's unit times its value, is below 1099511627.776, or below 1099511.627776 in a file with a finer number than thousandths",
+  codes "an amount, and a demand's unit times its value, is below " ++ money_word Three (2 ^ need_power) ++ codes ", or below " ++ money_word Six (2 ^ need_power)
+      ++ codes " in a file with a finer number than thousandths",
 )
 
 -- of any fault: what is wrong, and what helps
 abbrev pub network_message : ReadKind → List ℕ × List ℕ
 network_message (kinds.Limit limited) = limit_message limited
 network_message (kinds.Number fault) = number_message fault
-network_message kinds.Header = (codes "this is no network", codes "the first line of a network is: ?SNDlib native format; type: network; version: 1.0")
+network_message kinds.Header = (codes "this is no network", codes "the first line of a network is: " ++ header)
 network_message kinds.Section = (
   codes "another section is expected here, or its parenthesis, or the end of the file",
   codes "the sections are NODES, LINKS and DEMANDS, in this order and each in parentheses; META may stand before them, and ADMISSIBLE_PATHS after them",

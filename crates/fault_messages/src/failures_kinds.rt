@@ -5,6 +5,7 @@ use fault_texts::Sentence;
 use model_reader::FailuresKind;
 
 /// What is wrong with a failure list, by the kind of its first fault.
+#[tactic(auto, using(crate::proofs::Decimals::of_255, crate::proofs::Decimals::of_256))]
 pub fn failures_sentence(kind: FailuresKind) -> Sentence
     ensures { HasWords result (failures_message kind) }
 {

@@ -6,6 +6,7 @@ use snd_tokens::NumberFault;
 use sndlib_reader::{Limited, ReadKind};
 
 /// What is wrong with something that a network has too many or too much of.
+#[tactic(auto, using(crate::proofs::Decimals::of_16, crate::proofs::Decimals::of_128, crate::proofs::Decimals::of_255, crate::proofs::Decimals::of_256, crate::proofs::Decimals::of_2048, crate::proofs::Decimals::of_17592186, crate::proofs::Decimals::of_17592186044))]
 fn limit_sentence(limited: Limited) -> Sentence
     ensures { HasWords result (limit_message limited) }
 {
@@ -38,6 +39,7 @@ fn limit_sentence(limited: Limited) -> Sentence
 }
 
 /// What is wrong with a number.
+#[tactic(auto, using(crate::proofs::Decimals::of_1099511, crate::proofs::Decimals::of_1099511627))]
 fn number_sentence(fault: NumberFault) -> Sentence
     ensures { HasWords result (number_message fault) }
 {
@@ -57,7 +59,7 @@ fn number_sentence(fault: NumberFault) -> Sentence
     }
 }
 
-/// What is wrong with a network file, by the kind of its first fault. It takes no memory, as all functions of this crate.
+/// What is wrong with a network file, by the kind of its first fault.
 pub fn network_sentence(kind: ReadKind) -> Sentence
     ensures { HasWords result (network_message kind) }
 {

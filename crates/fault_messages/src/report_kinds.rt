@@ -7,6 +7,7 @@ use report_words::fault::ReportKind;
 use snd_tokens::NumberFault;
 
 /// What is wrong with a number of a report.
+#[tactic(auto, using(crate::proofs::Decimals::of_40, crate::proofs::Decimals::of_126))]
 fn number_sentence(fault: NumberFault) -> Sentence
     ensures { HasWords result (report_number_message fault) }
 {
@@ -43,6 +44,7 @@ fn header_sentence(places: Places) -> Sentence
 }
 
 /// What is wrong with a report for a network of these places, by the kind of its first fault.
+#[tactic(auto, using(crate::proofs::Decimals::of_255))]
 pub fn report_sentence(places: Places, kind: ReportKind) -> Sentence
     ensures { HasWords result (report_message places kind) }
 {
@@ -63,7 +65,7 @@ pub fn report_sentence(places: Places, kind: ReportKind) -> Sentence
         },
         ReportKind::UnknownName => Sentence {
             wrong: "no link, node or demand has this name, or another name is expected here",
-            help: "is the report of another network, or of another failure list?",
+            help: "nodes, links and failures are called as in these files, and listed in their order",
         },
         ReportKind::DoubleName => Sentence {
             wrong: "an earlier demand of the plan has this name",
@@ -81,6 +83,7 @@ pub fn report_sentence(places: Places, kind: ReportKind) -> Sentence
 }
 
 /// What is wrong with the proof lines below a report, by the kind of their first fault.
+#[tactic(auto, using(crate::proofs::Decimals::of_255))]
 pub fn proof_sentence(kind: ReportKind) -> Sentence
     ensures { HasWords result (proof_message kind) }
 {

@@ -1,4 +1,4 @@
-//! Tests of lines and columns, of tables, of messages with a caret, and of failure lists as text.
+//! Tests of lines and columns, of tables, of messages with a caret, words in quotes and near names, and of failure lists as text.
 #![tactic(auto)]
 
 #[cfg(test)]
@@ -8,7 +8,11 @@ mod faults;
 #[cfg(test)]
 mod headers;
 #[cfg(test)]
+mod near_names;
+#[cfg(test)]
 mod places;
+#[cfg(test)]
+mod quotes;
 #[cfg(test)]
 mod tables;
 #[cfg(test)]

@@ -1,0 +1,4 @@
+pub mod Beginnings
+pub mod Decimals
+pub mod NearNames
+pub mod Questions

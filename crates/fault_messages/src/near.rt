@@ -1,0 +1,178 @@
+ghost use Rattle.std.specs.Prelude.{◌≡◌, ◌+◌, ◌≤◌, ◌++◌, ℕ, List, IfOk, MatchOption, OnOk, [], codes, get_or, length};
+ghost use Rattle.net_core.specs.Terms.{are_same};
+ghost use Rattle.snd_tokens.specs.Tokens.{token_bytes, tokens_from};
+ghost use Rattle.fault_texts.specs.Quotes.{IsQuote, note_text};
+ghost use Rattle.fault_messages.specs.NearNames.{HasNoneNear, IsNearNote, IsNearestName, IsNearestNote, IsWordNote, edits, is_word, other_word, other_words};
+
+use fault_texts::{put_quote, token_here};
+use net_core::{Bytes, List as Items, NoMemory};
+use snd_tokens::{Token, TokenKind, next_token};
+use std::alloc::Global;
+use strsim::generic_levenshtein;
+
+/// How many bytes have to be put in, left out or changed to come from one name to another.
+fn edits(alloc: Global, name: &[u8], other: &[u8]) -> Result<usize, NoMemory>
+    ensures { IfOk result (λ d. d ≡ edits name.now other.now) }
+{
+    Ok(generic_levenshtein(alloc, name, other)?)
+}
+
+/// The name at a place, and none past the last.
+fn name_at(names: &[Bytes], i: usize) -> &[u8]
+    ensures { result.now ≡ get_or names.now i [] }
+{
+    match names.get(i) {
+        Some(name) => name.items(),
+        None => b"",
+    }
+}
+
+/// The place of the nearest name so far, and the edits that a nearer one has fewer of.
+#[derive(Clone, Copy)]
+struct Nearest {
+    place: usize,
+    edits: usize,
+}
+
+/// The place of the name that is nearest to another, and the first of those that are as near, if the edits are at most a third of the
+/// length: bytes to be put in, left out or changed. It takes time in the length times the bytes of all names, and memory for the longest.
+pub fn nearest_name(alloc: Global, name: &[u8], names: &[Bytes]) -> Result<Option<usize>, NoMemory>
+    ensures { IfOk result (λ found. MatchOption found (HasNoneNear name.now names.now) (λ i. IsNearestName name.now names.now i)) }
+{
+    let mut nearest = Nearest {
+        place: names.len(),
+        edits: name.len() / 3 + 1,
+    };
+    for i in 0..names.len() {
+        let edits = edits(alloc, name, name_at(names, i))?;
+        if edits < nearest.edits {
+            nearest = Nearest { place: i, edits };
+        }
+    }
+    Ok((nearest.place < names.len()).then_some(nearest.place))
+}
+
+/// Puts a line last that asks for a name.
+fn put_question(text: &mut Bytes, name: &[u8]) -> Result<(), NoMemory>
+    ensures { OnOk result ((quote : List ℕ) × IsQuote name.now quote × (text.new ≡ text.old ++ note_text (codes "did you mean " ++ quote ++ codes "?"))) }
+{
+    text.append(b"  did you mean ")?;
+    put_quote(text, name)?;
+    text.append(b"?\n")
+}
+
+/// Puts a line last that asks for the nearest of these names, if one is near: as `nearest_name` says, which it costs.
+pub fn put_nearest_note(
+    text: &mut Bytes,
+    alloc: Global,
+    name: &[u8],
+    names: &[Bytes],
+) -> Result<(), NoMemory>
+    ensures { OnOk result ((note : List ℕ) × IsNearestNote name.now names.now note × (text.new ≡ text.old ++ note)) }
+{
+    let found = nearest_name(alloc, name, names)?;
+    match found {
+        Some(i) => {
+            let near = name_at(names, i);
+            put_question(text, near)
+        }
+        None => Ok(()),
+    }
+}
+
+/// Puts a line last that asks for one of these names instead of the word that begins at a place of a text, if one is near: as `nearest_name`
+/// says, which it costs.
+pub fn put_word_note(
+    text: &mut Bytes,
+    alloc: Global,
+    names: &[Bytes],
+    bytes: &[u8],
+    at: usize,
+) -> Result<(), NoMemory>
+    requires { at ≤ length bytes.now }
+    ensures { OnOk result ((note : List ℕ) × IsWordNote names.now bytes.now at note × (text.new ≡ text.old ++ note)) }
+{
+    match token_here(bytes, at) {
+        Some(word) => put_nearest_note(text, alloc, word, names),
+        None => Ok(()),
+    }
+}
+
+/// Whether a token is a word.
+fn is_word(kind: TokenKind) -> bool
+    ensures { result ≡ is_word kind }
+{
+    match kind {
+        TokenKind::Word => true,
+        TokenKind::Open => false,
+        TokenKind::Close => false,
+    }
+}
+
+/// Whether two words are the same.
+pub(crate) fn are_same(a: &[u8], b: &[u8]) -> bool
+    ensures { result ≡ are_same a.now b.now }
+{
+    a == b
+}
+
+/// The bytes of a token.
+fn token_bytes(text: &[u8], token: Token) -> &[u8]
+    requires { token.at + token.len ≤ length text.now }
+    ensures { result.now ≡ token_bytes text.now token }
+{
+    &text[token.at as usize..(token.at + token.len) as usize]
+}
+
+/// Puts a token's bytes last, if it is a word that begins before a place and isn't this name.
+fn push_other(
+    words: &mut Items<Bytes>,
+    alloc: Global,
+    text: &[u8],
+    at: u64,
+    name: &[u8],
+    token: Token,
+) -> Result<(), NoMemory>
+    requires { token.at + token.len ≤ length text.now }
+    ensures { OnOk result (words.new ≡ words.old ++ other_word text.now at name.now token) }
+{
+    let word = token_bytes(text, token);
+    if is_word(token.kind) && token.at < at && !are_same(word, name) {
+        words.push(Items::from_slice(alloc, word)?)?;
+    }
+    Ok(())
+}
+
+/// The words of a text that begin before a place and aren't this name.
+fn other_words(alloc: Global, text: &[u8], at: u64, name: &[u8]) -> Result<Items<Bytes>, NoMemory>
+    ensures { IfOk result (λ words. words ≡ other_words text.now at name.now (tokens_from 0 text.now)) }
+{
+    let mut words = Items::new(alloc);
+    let mut from = 0;
+    while let Some(token) = next_token(text, from) {
+        push_other(&mut words, alloc, text, at, name, token)?;
+        from = token.at + token.len;
+    }
+    Ok(words)
+}
+
+/// Puts a line last that asks for another word of a text instead of the one that begins at a place: the nearest of those before it, if one
+/// is near. It goes over the whole text, copies the words before the place, and compares each of them with the one at the place, in time of
+/// the product of their lengths.
+pub fn put_near_note(
+    text: &mut Bytes,
+    alloc: Global,
+    bytes: &[u8],
+    at: usize,
+) -> Result<(), NoMemory>
+    requires { at ≤ length bytes.now }
+    ensures { OnOk result ((note : List ℕ) × IsNearNote bytes.now at note × (text.new ≡ text.old ++ note)) }
+{
+    match token_here(bytes, at) {
+        Some(name) => {
+            let words = other_words(alloc, bytes, at as u64, name)?;
+            put_nearest_note(text, alloc, name, words.items())
+        }
+        None => Ok(()),
+    }
+}

@@ -1,0 +1,91 @@
+use fault_messages::{nearest_name, put_near_note};
+use net_core::{Bytes, List, NoMemory};
+use std::alloc::Global;
+
+/// A name, others, and the place of the nearest of them.
+type NameRow = (&'static [u8], &'static [&'static [u8]], Option<usize>);
+
+/// Names with letters exchanged, with a character of two bytes for one, and too short to have a near one; the first of two that are as near,
+/// and the nearest of all.
+const NAMES: [NameRow; 8] = [
+    (b"Hambrug", &[b"Berlin", b"Hamburg"], Some(1)),
+    (b"Munchen", &[b"M\xc3\xbcnchen"], Some(0)),
+    (b"AB", &[b"AC"], None),
+    (b"ABC", &[b"ABD", b"ABE"], Some(0)),
+    (b"ABC", &[b"XBD", b"ABE"], Some(1)),
+    (b"ABCDEF", &[b"AXCDYF", b"ABCDE"], Some(1)),
+    (b"N10", &[b"N11", b"N10"], Some(1)),
+    (b"N10", &[], None),
+];
+
+/// The names of a row.
+fn names_of(alloc: Global, row: &NameRow) -> Result<List<Bytes>, NoMemory> {
+    let mut names = List::new(alloc);
+    for i in 0..row.1.len() {
+        names.push(List::from_slice(alloc, row.1[i])?)?;
+    }
+    Ok(names)
+}
+
+/// Whether the nearest name of a row is as wanted.
+fn is_right(alloc: Global, row: &NameRow) -> Result<bool, NoMemory> {
+    let names = names_of(alloc, row)?;
+    Ok(nearest_name(alloc, row.0, names.items())? == row.2)
+}
+
+/// The first row whose nearest name is another one.
+fn first_wrong(alloc: Global) -> Option<usize> {
+    for i in 0..NAMES.len() {
+        if is_right(alloc, &NAMES[i]) != Ok(true) {
+            return Some(i);
+        }
+    }
+    None
+}
+
+#[test]
+fn near_names_are_found(rt: HostRuntime) {
+    let wrong = first_wrong(rt.alloc());
+    assert!(rt; wrong.is_none(), "row {}", wrong.unwrap_or(0));
+}
+
+/// A text, the place of a name that nothing has, and the line that asks for a near one.
+type NoteRow = (&'static [u8], usize, &'static [u8]);
+
+/// A near word before the name; none but the name itself, and one after it; and a place where no word begins.
+const NOTES: [NoteRow; 4] = [
+    (
+        b"NODES ( Hamburg Berlin )\nLINKS ( L ( Hambrug",
+        37,
+        b"  did you mean `Hamburg`?\n",
+    ),
+    (b"( LONG ( LONG", 9, b""),
+    (b"( Berlni Berlin", 2, b""),
+    (b"Berlin # Berlni", 7, b""),
+];
+
+/// Whether the line of a row is as wanted.
+fn is_note(alloc: Global, row: &NoteRow) -> Result<bool, NoMemory> {
+    if row.1 > row.0.len() {
+        return Ok(false);
+    }
+    let mut text = List::new(alloc);
+    put_near_note(&mut text, alloc, row.0, row.1)?;
+    Ok(text.items() == row.2)
+}
+
+/// The first row whose line is another one.
+fn first_wrong_note(alloc: Global) -> Option<usize> {
+    for i in 0..NOTES.len() {
+        if is_note(alloc, &NOTES[i]) != Ok(true) {
+            return Some(i);
+        }
+    }
+    None
+}
+
+#[test]
+fn lines_ask_for_words_before(rt: HostRuntime) {
+    let wrong = first_wrong_note(rt.alloc());
+    assert!(rt; wrong.is_none(), "row {}", wrong.unwrap_or(0));
+}
