@@ -1,5 +1,5 @@
 -- what is said of a file that ends a run
-use Rattle.std.specs.Prelude.{◌≡◌, ℕ, ◌⊎◌, min, List, ◌++◌, Option, Err, codes, length}
+use Rattle.std.specs.Prelude.{◌≡◌, ℕ, ◌⊎◌, min, List, [], ◌++◌, Option, Err, codes, length}
 use Rattle.plan_terms.specs.Terms.{Link}
 use Rattle.outside_io.specs.Outside.{Files}
 use Rattle.sndlib_reader.specs.Kinds.{kind_word}
@@ -14,6 +14,7 @@ use Rattle.check_answers.specs.declared.status.Status.TheVariants.{NoFile, TooLo
 use Rattle.fault_messages.specs.FailuresMessages.{failures_message}
 use Rattle.fault_messages.specs.ModelMessages.{model_message}
 use Rattle.fault_messages.specs.NetworkMessages.{network_message}
+use Rattle.fault_messages.specs.Notes.{AreFailuresNotes, AreModelNotes, AreNetworkNotes}
 use Rattle.fault_texts.specs.FaultTexts.{IsFaultText}
 use Rattle.input_files.specs.Inputs.{Fetched, SpellsNetwork, StopsAtFetch}
 use Rattle.input_files.specs.Refusals.{Refuses}
@@ -29,19 +30,25 @@ abbrev pub FailsAtFetch : Option Files → ℕ → List ℕ → Status → List 
 FailsAtFetch files limit name status message =
     (line : List ℕ) × StopsAtFetch files limit name status line × (message ≡ unfetched_words name status ++ line)
 
--- The message shows a byte of a file with its line, by these words what is wrong there and what helps, and ends in this line. Where the place
--- is beyond the bytes, it shows their end.
-pub record ShowsPlace (name bytes : List ℕ) (at : ℕ) (words : List ℕ × List ℕ) (line message : List ℕ) : Type 0 where
+-- The message shows a byte of a file with its line, by these words what is wrong there and what helps, and ends in these notes and this line.
+-- Where the place is beyond the bytes, it shows their end.
+pub record ShowsPlace (name bytes : List ℕ) (at : ℕ) (words : List ℕ × List ℕ) (notes line message : List ℕ) : Type 0 where
   pub fault : List ℕ
   pub shown : IsFaultText name bytes (min at (length bytes)) words.0 words.1 fault
-  pub printed : message ≡ fault ++ line
+  pub printed : message ≡ fault ++ notes ++ line
 
--- The bytes spell nothing in their format, and the message shows the place of their first fault, with the words of its kind, and ends in the
--- planner's line of it.
+-- The bytes spell nothing in their format, and the message shows the place of their first fault, with the words of its kind and what is known
+-- besides, and ends in the planner's line of it.
 abbrev pub ShowsFault : {X K : Type 0} → (List ℕ → X → Type 0) → (List ℕ → ℕ → K → Type 0)
-    → List ℕ → (K → List ℕ) → (K → List ℕ × List ℕ) → List ℕ → List ℕ → List ℕ → Type 0
-ShowsFault Spells IsFirst file word words name bytes message =
-    (line : List ℕ) × (refused : Refuses Spells IsFirst file word bytes line) × ShowsPlace name bytes refused.at (words refused.kind) line message
+    → List ℕ → (K → List ℕ) → (K → List ℕ × List ℕ) → (List ℕ → ℕ → K → List ℕ → Type 0) → List ℕ → List ℕ → List ℕ → Type 0
+ShowsFault Spells IsFirst file word words AreNotes name bytes message =
+    (line : List ℕ) × (refused : Refuses Spells IsFirst file word bytes line)
+    × (notes : List ℕ) × AreNotes bytes (min refused.at (length bytes)) refused.kind notes
+    × ShowsPlace name bytes refused.at (words refused.kind) notes line message
+
+-- nothing is known besides
+abbrev pub HasNoNotes : {K : Type 0} → List ℕ → ℕ → K → List ℕ → Type 0
+HasNoNotes bytes at kind notes = notes ≡ []
 
 -- A file ends the run with a message: it can't be fetched, or its bytes are refused.
 abbrev pub FailsAtFile : Option Files → ℕ → List ℕ → Status → (List ℕ → List ℕ → Type 0) → Status → List ℕ → Type 0
@@ -50,16 +57,17 @@ FailsAtFile files limit name bad Shown status message =
 
 -- the bytes of a network's file are refused
 abbrev pub ShowsNetworkFault : List ℕ → List ℕ → List ℕ → Type 0
-ShowsNetworkFault = ShowsFault SpellsNetwork IsFirstFault (codes "network") kind_word network_message
+ShowsNetworkFault = ShowsFault SpellsNetwork IsFirstFault (codes "network") kind_word network_message AreNetworkNotes
 
 -- the bytes of a model's file are refused
 abbrev pub ShowsModelFault : List ℕ → List ℕ → List ℕ → Type 0
-ShowsModelFault = ShowsFault SpellsModel (λ bytes at kind. model_of bytes ≡ Err (at, kind)) (codes "model") model_word model_message
+ShowsModelFault = ShowsFault SpellsModel (λ bytes at kind. model_of bytes ≡ Err (at, kind)) (codes "model") model_word model_message AreModelNotes
 
 -- the bytes of a failure list of these links are refused
 abbrev pub ShowsFailuresFault : List Link → List ℕ → List ℕ → List ℕ → Type 0
 ShowsFailuresFault links =
     ShowsFault (SpellsFailures links) (λ bytes at kind. failures_of links bytes ≡ Err (at, kind)) (codes "failures") failures_word failures_message
+    (AreFailuresNotes links)
 
 -- what is said of a failure list beside a model without survivability, before the planner's line of it
 abbrev pub unused_words : List ℕ → List ℕ

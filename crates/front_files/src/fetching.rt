@@ -6,10 +6,10 @@ ghost use Rattle.input_files.specs.Shelves.{KeepsShelf};
 ghost use Rattle.front_files.specs.Endings.{FailsReading, Halts, halt_status};
 ghost use Rattle.front_files.specs.Messages.{FailsAtFetch, FailsAtFile, ShowsNetworkFault};
 
-use crate::refusal::{FaultyFile, not_fetched, refused, unread};
+use crate::refusal::{FaultyFile, not_fetched, place_in, refused, unread};
 use crate::stop::Halt;
 use check_answers::Status;
-use fault_messages::network_sentence;
+use fault_messages::{network_notes, network_sentence};
 use input_files::{INPUT_LIMIT, REPORT_LIMIT};
 use net_core::{Bytes, Demands, List as Items, Network};
 use outside_io::{Fetch, Shelf};
@@ -64,6 +64,7 @@ fn network_of(alloc: Global, name: &str, bytes: &[u8]) -> Result<(Network, Deman
     match read_network(alloc, bytes) {
         Ok(read) => Ok(read),
         Err(ReadRefusal::Bad { at, kind }) => {
+            let notes = network_notes(alloc, bytes, place_in(bytes, at), kind)?;
             let file = FaultyFile {
                 status: Status::BadNetwork,
                 file: b"network",
@@ -71,7 +72,7 @@ fn network_of(alloc: Global, name: &str, bytes: &[u8]) -> Result<(Network, Deman
                 bytes,
                 at,
             };
-            Err(refused(alloc, &file, &kind, network_sentence(kind)))
+            Err(refused(alloc, &file, &kind, network_sentence(kind), notes.items()))
         }
         Err(ReadRefusal::NoMemory) => Err(Halt::NoMemory),
     }

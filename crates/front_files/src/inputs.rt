@@ -10,11 +10,11 @@ ghost use Rattle.front_files.specs.FrontInputs.{FailsAtFailures, FailsAtInputs, 
 ghost use Rattle.front_files.specs.Messages.{FailsAtFile, ShowsFailuresFault, ShowsModelFault};
 
 use crate::fetching::{fetch_file, load_network};
-use crate::refusal::{FaultyFile, refused, unused};
+use crate::refusal::{FaultyFile, place_in, refused, unused};
 use crate::stop::Halt;
 use crate::words::CaseFiles;
 use check_answers::Status;
-use fault_messages::{failures_sentence, model_sentence};
+use fault_messages::{failures_notes, failures_sentence, model_notes, model_sentence};
 use input_files::{DEFAULT, INPUT_LIMIT, PlanFiles, default_states};
 use model_reader::{FailuresRefusal, Model, ModelRefusal, read_failures, read_model, single_links};
 use net_core::{Network, Problem, States};
@@ -30,6 +30,7 @@ fn model_of(alloc: Global, name: &str, bytes: &[u8]) -> Result<Model, Halt>
     match read_model(alloc, bytes) {
         Ok(model) => Ok(model),
         Err(ModelRefusal::Bad { at, kind }) => {
+            let notes = model_notes(alloc, bytes, place_in(bytes, at), kind)?;
             let file = FaultyFile {
                 status: Status::BadModel,
                 file: b"model",
@@ -37,7 +38,7 @@ fn model_of(alloc: Global, name: &str, bytes: &[u8]) -> Result<Model, Halt>
                 bytes,
                 at,
             };
-            Err(refused(alloc, &file, &kind, model_sentence(kind)))
+            Err(refused(alloc, &file, &kind, model_sentence(kind), notes.items()))
         }
         Err(ModelRefusal::NoMemory) => Err(Halt::NoMemory),
     }
@@ -52,6 +53,13 @@ fn states_of(alloc: Global, net: &Network, name: &str, bytes: &[u8]) -> Result<S
     match read_failures(alloc, net, bytes) {
         Ok(states) => Ok(states),
         Err(FailuresRefusal::Bad { at, kind }) => {
+            let notes = failures_notes(
+                alloc,
+                net.links().items(),
+                bytes,
+                place_in(bytes, at),
+                kind,
+            )?;
             let file = FaultyFile {
                 status: Status::BadFailures,
                 file: b"failures",
@@ -59,7 +67,7 @@ fn states_of(alloc: Global, net: &Network, name: &str, bytes: &[u8]) -> Result<S
                 bytes,
                 at,
             };
-            Err(refused(alloc, &file, &kind, failures_sentence(kind)))
+            Err(refused(alloc, &file, &kind, failures_sentence(kind), notes.items()))
         }
         Err(FailuresRefusal::NoMemory) => Err(Halt::NoMemory),
     }

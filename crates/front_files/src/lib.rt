@@ -16,6 +16,6 @@ mod words;
 
 pub use fetching::{fetch_report, load_network};
 pub use inputs::load_case;
-pub use refusal::{FaultyFile, refused, told};
+pub use refusal::{FaultyFile, place_in, refused, told};
 pub use stop::{Halt, Told};
 pub use words::CaseFiles;

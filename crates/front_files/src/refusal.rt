@@ -1,4 +1,4 @@
-ghost use Rattle.std.specs.Prelude.{◌≡◌, ◌++◌, ◌∷◌, [], IfOk, MatchResult, OnOk, length, min};
+ghost use Rattle.std.specs.Prelude.{◌≡◌, ◌≤◌, ◌++◌, ◌∷◌, [], IfOk, MatchResult, OnOk, length, min};
 ghost use Rattle.fault_texts.specs.FaultTexts.{IsFaultText};
 ghost use Rattle.input_files.specs.Refusals.{refusal_line, unused_line};
 ghost use Rattle.front_files.specs.Endings.{Halts};
@@ -52,13 +52,21 @@ fn put_refusal<W: FaultWord>(
     text.append(b"\n")
 }
 
+/// A place of a file, and its end where the place is beyond.
+pub fn place_in(bytes: &[u8], at: u64) -> usize
+    ensures value { result ≡ min at (length bytes.now) }
+    ensures within { result ≤ length bytes.now }
+{
+    (at as usize).min(bytes.len())
+}
+
 /// What is said of a place of a file, without a line of the planner.
 fn place_text(alloc: Global, refused: &FaultyFile, sentence: Sentence) -> Result<Bytes, NoMemory>
     ensures { IfOk result (IsFaultText refused.now.name.now refused.now.bytes.now (min refused.now.at (length refused.now.bytes.now))
         sentence.wrong.now sentence.help.now) }
 {
     let mut text = List::new(alloc);
-    let at = (refused.at as usize).min(refused.bytes.len());
+    let at = place_in(refused.bytes, refused.at);
     put_fault(
         &mut text,
         refused.name.as_bytes(),
@@ -75,21 +83,32 @@ fn refused_text<W: FaultWord>(
     refused: &FaultyFile,
     kind: &W,
     sentence: Sentence,
+    notes: &[u8],
 ) -> Result<Bytes, NoMemory>
     ensures { IfOk result (ShowsPlace refused.now.name.now refused.now.bytes.now refused.now.at
-        (sentence.wrong.now, sentence.help.now) (refusal_line refused.now.file.now (W.word kind.now) refused.now.at)) }
+        (sentence.wrong.now, sentence.help.now) notes.now (refusal_line refused.now.file.now (W.word kind.now) refused.now.at)) }
 {
     let mut text = place_text(alloc, refused, sentence)?;
+    text.append(notes)?;
     put_refusal(&mut text, refused.file, kind, refused.at)?;
     Ok(text)
 }
 
-/// The end of a run at a refused file.
-pub fn refused<W: FaultWord>(alloc: Global, file: &FaultyFile, kind: &W, sentence: Sentence) -> Halt
+/// The end of a run at a refused file, of which this is known besides the sentence of its first fault.
+pub fn refused<W: FaultWord>(
+    alloc: Global,
+    file: &FaultyFile,
+    kind: &W,
+    sentence: Sentence,
+    notes: &[u8],
+) -> Halt
     ensures { Halts (λ s message. (s ≡ file.now.status) × ShowsPlace file.now.name.now file.now.bytes.now file.now.at
-        (sentence.wrong.now, sentence.help.now) (refusal_line file.now.file.now (W.word kind.now) file.now.at) message) result }
+        (sentence.wrong.now, sentence.help.now) notes.now (refusal_line file.now.file.now (W.word kind.now) file.now.at) message) result }
 {
-    told(file.status, refused_text(alloc, file, kind, sentence))
+    told(
+        file.status,
+        refused_text(alloc, file, kind, sentence, notes),
+    )
 }
 
 /// What is said of a file that isn't fetched: its name and why, and then the planner's own line, which begins so.
