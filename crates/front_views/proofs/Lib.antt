@@ -1,7 +1,6 @@
 mod SameDemands
 mod KeptDemands
 pub mod SoundOutcomes
-mod FaultsTold
 mod TreesHeld
 mod TreesRead
 mod Findings

@@ -24,7 +24,7 @@ use Rattle.fault_messages.specs.ReportMessages.{proof_message}
 use Rattle.view_text.specs.Terms.{case_of_plan}
 use Rattle.view_text.specs.declared.proof.CostProof.{CostProof}
 use Rattle.view_text.specs.declared.proof.CostProof.TheVariants.{Nothing, Cheapest, Above}
-use Rattle.front_files.specs.Messages.{ShowsFault}
+use Rattle.front_files.specs.Messages.{HasNoNotes, ShowsFault}
 
 -- where the report ends, below which its comment lines stand
 abbrev pub lines_begin : List ℕ → ℕ
@@ -71,7 +71,7 @@ ReadsProof p (outcome ∷ other ∷ outcomes) bytes proof = proof ≡ Nothing
 abbrev pub ShowsNoTree : List ℕ → Case → Plan → List ℕ → List ℕ → Type 0
 ShowsNoTree name p plan =
     ShowsFault (SpellsPlanTree p plan) (λ bytes at kind. tree_at (known_to p) plan.demands (lines_begin bytes) bytes ≡ Err (at, kind))
-    (codes "report") report_kind_word proof_message name
+    (codes "report") report_kind_word proof_message HasNoNotes name
 
 -- what is wrong past the nodes of a tree: one is missing, or the last line doesn't follow
 abbrev pub end_wrong : ℕ → ℕ → List ℕ

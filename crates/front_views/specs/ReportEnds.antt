@@ -1,7 +1,7 @@
 -- what the bytes of a report come to: its view, or a message
 use Rattle.std.specs.Prelude.{◌≡◌, ℕ, ◌⊎◌, List, [], ◌++◌, Err, codes}
 use Rattle.plan_terms.specs.Terms.{Case, Notes}
-use Rattle.plan_report.specs.Terms.{KnownNames, SpellsReport, known_to}
+use Rattle.plan_report.specs.Terms.{SpellsReport, known_to}
 use Rattle.plan_types.specs.declared.report.Report.{Report}
 use Rattle.plan_checker.specs.declared.finding.Finding.{Finding}
 use Rattle.report_words.specs.Terms.{report_kind_word}
@@ -10,8 +10,9 @@ use Rattle.report_checker.specs.ReportFindings.{IsFirstOfReport}
 use Rattle.check_answers.specs.Checks.{IsJudged}
 use Rattle.check_answers.specs.declared.status.Status.{Status}
 use Rattle.check_answers.specs.declared.status.Status.TheVariants.{BadReport, Done, Rejected}
-use Rattle.fault_texts.specs.FaultTexts.{note_text}
+use Rattle.fault_texts.specs.Quotes.{note_text}
 use Rattle.fault_messages.specs.FindingMessages.{finding_message}
+use Rattle.fault_messages.specs.Notes.{AreReportNotes}
 use Rattle.fault_messages.specs.ReportMessages.{report_message}
 use Rattle.view_text.specs.Terms.{IsReportView}
 use Rattle.view_text.specs.declared.proof.CostProof.{CostProof}
@@ -19,10 +20,11 @@ use Rattle.front_files.specs.Messages.{ShowsFault}
 use Rattle.front_views.specs.AcceptedReports.{IsAcceptedReport}
 use Rattle.front_views.specs.ProofLines.{FailsAtLines, ReadsProof}
 
--- the bytes spell no report of these names, and the message shows the place of their first fault
-abbrev pub ShowsReportFault : KnownNames → List ℕ → List ℕ → List ℕ → Type 0
-ShowsReportFault names name =
-    ShowsFault (SpellsReport names) (λ bytes at kind. report_of names bytes ≡ Err (at, kind)) (codes "report") report_kind_word (report_message names.places) name
+-- the bytes spell no report of a case, and the message shows the place of their first fault
+abbrev pub ShowsReportFault : Case → List ℕ → List ℕ → List ℕ → Type 0
+ShowsReportFault p name =
+    ShowsFault (SpellsReport (known_to p)) (λ bytes at kind. report_of (known_to p) bytes ≡ Err (at, kind)) (codes "report") report_kind_word (report_message p.places)
+    (AreReportNotes p) name
 
 -- what is said of a file: what is wrong, and what that means
 abbrev pub said_text : List ℕ → List ℕ × List ℕ → List ℕ
@@ -52,5 +54,5 @@ ViewsReport network name p notes r bytes status text message =
 -- network's file of the first name, and a message of the report's file of the second.
 abbrev pub EndsReport : List ℕ → List ℕ → Case → Notes → List ℕ → Status → List ℕ → List ℕ → Type 0
 EndsReport network name p notes bytes status text message =
-    ((status ≡ BadReport) × (text ≡ []) × ShowsReportFault (known_to p) name bytes message)
+    ((status ≡ BadReport) × (text ≡ []) × ShowsReportFault p name bytes message)
     ⊎ ((r : Report) × SpellsReport (known_to p) bytes r × ViewsReport network name p notes r bytes status text message)

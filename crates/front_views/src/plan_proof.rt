@@ -49,7 +49,7 @@ fn spelled_tree(
                 bytes,
                 at,
             };
-            Err(refused(alloc, &file, &kind, proof_sentence(kind)))
+            Err(refused(alloc, &file, &kind, proof_sentence(kind), b""))
         }
         Err(ReportRefusal::NoMemory) => Err(Halt::NoMemory),
     }

@@ -1,4 +1,4 @@
-use Rattle.std.proofs.Common.{◌≡◌, ℕ, Err, Result, codes, subst, sym}
+use Rattle.std.proofs.Common.{◌≡◌, ℕ, [], Err, Result, codes, refl, subst, sym}
 use Rattle.text_kit.specs.Terms.{AnswersAs}
 use Rattle.text_kit.specs.declared.refusal.Refusal.{Refusal}
 use Rattle.plan_report.specs.Terms.{known_to}
@@ -11,7 +11,8 @@ use Rattle.check_answers.specs.declared.status.Status.TheVariants.{BadReport}
 use Rattle.fault_messages.specs.ReportMessages.{proof_message}
 use Rattle.view_text.specs.Terms.{problem_case}
 use Rattle.front_views.specs.ProofLines.{SpellsPlanTree, lines_begin}
-use Rattle.front_views.proofs.FaultsTold.{fault_told}
+use Rattle.front_files.proofs.Showing.{fault_shown}
+use Rattle.front_files.specs.Messages.{HasNoNotes}
 use Rattle.front_views.proofs.plan_proof.spelled_tree.Goals as goal
 
 -- reading a tree comes to a refusal
@@ -28,10 +29,10 @@ returns-in-Err-Bad-clause-refused c =
     let p = problem_case c.args.problem.now in
     let demands = c.args.plan.now.demands in
     let bytes = c.args.bytes.now in
-    fault_told (SpellsPlanTree p c.args.plan.now) (λ b at kind. tree_at (known_to p) demands (lines_begin b) b ≡ Err (at, kind)) (codes "report") report_kind_word proof_message BadReport
-    c.args.name.now bytes c.in-Err-Bad.at c.in-Err-Bad.kind c.proof_sentence.result.wrong.now c.proof_sentence.result.help.now c.refused.result
+    fault_shown (SpellsPlanTree p c.args.plan.now) (λ b at kind. tree_at (known_to p) demands (lines_begin b) b ≡ Err (at, kind)) (codes "report") report_kind_word proof_message HasNoNotes BadReport
+    c.args.name.now bytes c.in-Err-Bad.at c.in-Err-Bad.kind c.proof_sentence.result.wrong.now c.proof_sentence.result.help.now [] c.refused.result
     (λ t spelled. subst (λ (q : Refusal ReportKind). AnswersAs (λ (x : ReadTree). x) (refused q) t) c.in-Err-Bad.field-0-is
     (c.in-Err-Bad.ensures.only t (subst (λ (k : ℕ). SpellsTree (known_to p) demands k bytes t) (sym c.requires.from) spelled)))
     (subst (λ (k : ℕ). tree_at (known_to p) demands k bytes ≡ Err (c.in-Err-Bad.at, c.in-Err-Bad.kind)) c.requires.from
     (subst (λ (q : Refusal ReportKind). Gives (refused q) (tree_at (known_to p) demands c.args.from bytes)) c.in-Err-Bad.field-0-is c.in-Err-Bad.ensures.exact))
-    c.proof_sentence.ensures c.refused.ensures
+    c.proof_sentence.ensures refl c.refused.ensures

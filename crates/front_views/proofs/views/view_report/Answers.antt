@@ -1,6 +1,5 @@
 use Rattle.std.proofs.Common.{◌≡◌, [], inl, inr, refl}
 use Rattle.net_core.proofs.Library.{err_from_is_err_and}
-use Rattle.plan_report.specs.Terms.{known_of}
 use Rattle.check_answers.specs.declared.status.Status.TheVariants.{BadReport}
 use Rattle.view_text.specs.Terms.{problem_case}
 use Rattle.front_files.proofs.Causing.{front_map, halt_map}
@@ -19,6 +18,6 @@ pub returns-in_err-report : goal.returns-in_err-report
 returns-in_err-report c =
     let e = err_from_is_err_and c.from_residual.result c.from_residual.ensures.1 in
     let problem = c.args.problem.now in
-    rw (e.1, e.2) (halt_map (λ s message. (s ≡ BadReport) × ShowsReportFault (known_of problem.net problem.states) c.args.name.now c.args.bytes.now message)
+    rw (e.1, e.2) (halt_map (λ s message. (s ≡ BadReport) × ShowsReportFault (problem_case problem) c.args.name.now c.args.bytes.now message)
     (λ s message. EndsReport c.args.network.now c.args.name.now (problem_case problem) problem.net.notes c.args.bytes.now s [] message) c.in_err-report.field-0.0
     (λ s message shows. inl (shows.0, refl, shows.1)) c.in_err-report.ensures.refused)
