@@ -17,6 +17,7 @@ const NO_MODEL: &str = "triangle:1:1: this is no model
     ^
   here stands `?SNDlib`
   the first line of a model is: ?SNDlib native format; type: model; version: 1.0
+  the file seems to be a network
 refused model header at 0
 ";
 
@@ -25,6 +26,7 @@ const NO_LIST: &str = "triangle:1:1: this is no failure list
     ^
   here stands `?SNDlib`
   the first line of a failure list is: ?planner failures; version: 1
+  the file seems to be a network
 refused failures header at 0
 ";
 

@@ -15,7 +15,7 @@ type Row = (
     &'static str,
 );
 
-const ROWS: [Row; 13] = [
+const ROWS: [Row; 17] = [
     (
         REPORT,
         "",
@@ -137,6 +137,61 @@ refused report token at 847
         Status::BadReport,
         "report:31:1: a proof line ends too early, or the lines end before they say what they show\n    \n    ^\n  the file ends here\n  are they cut off? the last one is cheapest or above\nrefused report ended at 870\n",
     ),
+    (
+        "",
+        REPORT,
+        ("?planner report; version: 1", "?planner report; version: 2"),
+        Status::BadReport,
+        "report:1:1: this is no report of this network
+    ?planner report; version: 2
+    ^
+  here stands `?planner`
+  the first line of its reports is: ?planner report; version: 1
+  the report is of another network: one with a number finer than thousandths, which this one hasn't
+refused report header at 0
+",
+    ),
+    (
+        "",
+        REPORT,
+        ("?planner report; version: 1", "?planner script; version: 1"),
+        Status::BadReport,
+        "report:1:1: this is no report of this network
+    ?planner script; version: 1
+    ^
+  here stands `?planner`
+  the first line of its reports is: ?planner report; version: 1
+  the file seems to be a script
+refused report header at 0
+",
+    ),
+    (
+        "",
+        REPORT,
+        ("MODULES ( AB", "MODULES ( XY"),
+        Status::BadReport,
+        "report:6:13: no link, node or demand has this name, or another name is expected here
+      MODULES ( XY ( 2 ) BC ( 2 ) AC ( 2 ) )
+                ^
+  here stands `XY`
+  nodes, links and failures are called as in these files, and listed in their order
+  nothing in these files has this name: the report is of another network or failure list, or was changed by hand
+refused report unknown-name at 292
+",
+    ),
+    (
+        "",
+        REPORT,
+        ("MODULES ( AB", "MODULES ( AC"),
+        Status::BadReport,
+        "report:6:13: no link, node or demand has this name, or another name is expected here
+      MODULES ( AC ( 2 ) BC ( 2 ) AC ( 2 ) )
+                ^
+  here stands `AC`
+  nodes, links and failures are called as in these files, and listed in their order
+refused report unknown-name at 292
+",
+    ),
 ];
 
 /// The triangle of links AB, BC and AC with modules of 10.00 for 5.00, a demand of 12.00 from A to C, and the failure of each link alone.
@@ -193,5 +248,5 @@ fn first_wrong(alloc: Global) -> usize {
 
 #[test]
 fn reports_come_to_their_rows(rt: HostRuntime) {
-    assert_eq!(rt; first_wrong(rt.alloc()), 13);
+    assert_eq!(rt; first_wrong(rt.alloc()), 17);
 }
