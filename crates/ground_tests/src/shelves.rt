@@ -1,6 +1,6 @@
 use net_core::{Bytes, List, Name};
 use outside_io::files::read_whole;
-use outside_io::{Fetch, FileShelf, MemFile, MemShelf, Shelf, have_different_names};
+use outside_io::{Fetch, FileShelf, MemFile, MemShelf, ReadFault, Shelf, have_different_names};
 use std::alloc::Global;
 use std::io::{ErrorKind, Read};
 use std::rt::Files;
@@ -63,7 +63,7 @@ const FETCHES: [FetchRow; 6] = [
     ("net", 4, Fetch::TooLong, b"", 0),
     ("model", 0, Fetch::Found, b"", 0),
     ("mode", 5, Fetch::Missing, b"", 0),
-    ("net", 5, Fetch::Failed, b"", 1),
+    ("net", 5, Fetch::Failed(ReadFault::Other), b"", 1),
     ("net", 5, Fetch::Found, b"five!", 1),
 ];
 
@@ -91,7 +91,7 @@ fn first_difference_of_files<F: Files>(alloc: Global, files: &F, bytes: &[u8]) -
         ("outside_io_in", 10_000, Fetch::Found, bytes, 0),
         ("outside_io_in", 9_999, Fetch::TooLong, b"", 0),
         ("outside_io_none", 10_000, Fetch::Missing, b"", 0),
-        (".", 10_000, Fetch::Failed, b"", 1),
+        (".", 10_000, Fetch::Failed(ReadFault::Folder), b"", 1),
     ];
     first_difference(alloc, &mut FileShelf::new(files), &rows)
 }
@@ -159,7 +159,7 @@ const READS: [ReadRow; 5] = [
     (12, false, Fetch::Found, 13),
     (9, false, Fetch::TooLong, 10),
     (0, false, Fetch::TooLong, 1),
-    (12, true, Fetch::Failed, 13),
+    (12, true, Fetch::Failed(ReadFault::Other), 13),
 ];
 
 fn is_read(alloc: Global, row: ReadRow) -> bool {
@@ -175,5 +175,39 @@ fn is_read(alloc: Global, row: ReadRow) -> bool {
 fn a_file_is_read_to_its_limit_and_a_byte(rt: HostRuntime) {
     for row in READS {
         assert!(rt; is_read(rt.alloc(), row), "{row:?}");
+    }
+}
+
+/// Gives nothing, and fails with an error of one kind.
+#[derive(Drop)]
+struct FailingReader {
+    kind: ErrorKind,
+}
+
+impl Read for FailingReader {
+    fn read(&mut self, _buf: &mut [u8]) -> io::Result<usize> {
+        Err(self.kind.into())
+    }
+}
+
+/// A kind of error, and what is said of a file that fails with it.
+type CauseRow = (ErrorKind, ReadFault);
+
+const CAUSES: [CauseRow; 3] = [
+    (ErrorKind::IsADirectory, ReadFault::Folder),
+    (ErrorKind::PermissionDenied, ReadFault::NoRight),
+    (ErrorKind::Other, ReadFault::Other),
+];
+
+fn is_told(alloc: Global, row: CauseRow) -> bool {
+    let (kind, fault) = row;
+    let mut into = List::new(alloc);
+    read_whole(&mut FailingReader { kind }, 10, &mut into) == Fetch::Failed(fault)
+}
+
+#[test]
+fn a_file_that_fails_is_told_with_its_cause(rt: HostRuntime) {
+    for row in CAUSES {
+        assert!(rt; is_told(rt.alloc(), row), "{row:?}");
     }
 }

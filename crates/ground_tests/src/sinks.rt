@@ -1,5 +1,5 @@
 use net_core::List;
-use outside_io::{MemSink, Sink, StreamSink};
+use outside_io::{Failed, MemSink, Sink, StreamSink};
 use std::alloc::Global;
 use std::io::{ErrorKind, Write};
 use std::rt::Files;
@@ -132,4 +132,42 @@ fn is_flush_counted(alloc: Global) -> bool {
 fn a_sink_over_a_stream_writes_on_and_counts_faults(rt: HostRuntime) {
     assert!(rt; is_room_filled(rt.alloc()));
     assert!(rt; is_flush_counted(rt.alloc()));
+}
+
+/// Takes nothing, and fails with an error of one kind.
+#[derive(Drop)]
+struct FailingWriter {
+    kind: ErrorKind,
+}
+
+impl Write for FailingWriter {
+    fn write(&mut self, _buf: &[u8]) -> io::Result<usize> {
+        Err(self.kind.into())
+    }
+
+    fn flush(&mut self) -> io::Result<()> {
+        Ok(())
+    }
+}
+
+/// A kind of error, and what a sink says of it.
+type CauseRow = (ErrorKind, Failed);
+
+const CAUSES: [CauseRow; 4] = [
+    (ErrorKind::StorageFull, Failed::DiskFull),
+    (ErrorKind::QuotaExceeded, Failed::DiskFull),
+    (ErrorKind::BrokenPipe, Failed::Other),
+    (ErrorKind::Other, Failed::Other),
+];
+
+fn is_told(row: CauseRow) -> bool {
+    let (kind, failed) = row;
+    StreamSink::new(FailingWriter { kind }).put(b"abc") == Err(failed)
+}
+
+#[test]
+fn a_sink_over_a_stream_tells_a_full_disk(rt: HostRuntime) {
+    for row in CAUSES {
+        assert!(rt; is_told(row), "{row:?}");
+    }
 }

@@ -39,7 +39,7 @@ pub fn fetch_file<S: Shelf>(
         Fetch::Found => Ok(bytes),
         Fetch::Missing => Err(not_fetched(alloc, Status::NoFile, b"no file ", name)),
         Fetch::TooLong => Err(not_fetched(alloc, Status::TooLong, b"too long ", name)),
-        Fetch::Failed => Err(Stop::ReadFault),
+        Fetch::Failed(_) => Err(Stop::ReadFault),
         Fetch::NoMemory => Err(Stop::NoMemory),
     }
 }

@@ -14,7 +14,7 @@ ConsumesUpTo-once a b c limit left Found before after sum first next =
 ConsumesUpTo-once a b c limit left Missing before after sum first next = absurd next
 ConsumesUpTo-once a b c limit left TooLong before after sum first next =
     (before ++ next.0, omega (arith, length-append before next.0), Consumes-trans a b c before next.0 first next.2)
-ConsumesUpTo-once a b c limit left Failed before after sum first next =
+ConsumesUpTo-once a b c limit left (Failed fault) before after sum first next =
     (before ++ next.0, omega (arith, length-append before next.0), Consumes-trans a b c before next.0 first next.2)
 ConsumesUpTo-once a b c limit left NoMemory before after sum first next =
     (before ++ next.0, omega (arith, length-append before next.0), Consumes-trans a b c before next.0 first next.2)

@@ -30,7 +30,7 @@ pub record HeldOutput : Type 0 where
 
 -- a count of faults after a fetch
 abbrev pub faults_after : Fetch → ℕ → ℕ
-faults_after Failed faults = one_more faults
+faults_after (Failed fault) faults = one_more faults
 faults_after _ faults = faults
 
 -- the shelf after a fetch

@@ -1,5 +1,5 @@
 -- what shelves and sinks answer
-use Rattle.std.specs.Prelude.{◌≡◌, ℕ, ◌+◌, ◌-◌, ◌^◌, ◌≤◌, ◌<◌, min, List, [], ◌∷◌, ◌++◌, length, take, Option, None, Some, IfSome, IsSomeAnd, Result, MatchResult, cond, ◌==◌}
+use Rattle.std.specs.Prelude.{◌≡◌, ℕ, ◌+◌, ◌-◌, ◌^◌, ◌≤◌, ◌<◌, min, List, [], ◌∷◌, ◌++◌, length, take, Option, None, Some, IfSome, IsSomeAnd, Result, MatchResult, ⊤, cond, ◌==◌}
 use Rattle.std.specs.Cmp.Lexicographic.{pointwise}
 use Rattle.outside_io.specs.declared.shelf.Fetch.{Fetch}
 use Rattle.outside_io.specs.declared.shelf.Fetch.TheVariants.{Found, Missing, TooLong, Failed, NoMemory}
@@ -11,6 +11,11 @@ one_more count = min (count + 1) (2 ^ 64 - 1)
 -- a count of faults has risen, or stands at its end
 abbrev pub Rose : ℕ → ℕ → Type 0
 Rose before now = one_more before ≤ now
+
+-- a shelf has failed
+abbrev pub HasFailed : Fetch → Type 0
+HasFailed (Failed fault) = ⊤
+HasFailed _ = ⊥
 
 -- files, each by its name and its bytes
 abbrev pub Files : Type 0
@@ -27,7 +32,7 @@ abbrev pub Fetches : Option Files → List ℕ → ℕ → Fetch → List ℕ �
 Fetches told name limit Found into = IfSome told (λ files. content files name ≡ Some into) × (length into ≤ limit)
 Fetches told name limit Missing into = IfSome told (λ files. content files name ≡ None) × (into ≡ [])
 Fetches told name limit TooLong into = IfSome told (λ files. IsSomeAnd (content files name) (λ bytes. limit < length bytes)) × (into ≡ [])
-Fetches told name limit Failed into = into ≡ []
+Fetches told name limit (Failed fault) into = into ≡ []
 Fetches told name limit NoMemory into = into ≡ []
 
 -- a sink takes these bytes, where it tells what it has taken

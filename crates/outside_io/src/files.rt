@@ -1,22 +1,35 @@
 ghost use Rattle.std.specs.Prelude.{◌≡◌, ◌≤◌, ◌+◌, ◌<◌, [], None, MatchResult, length};
-ghost use Rattle.outside_io.specs.Outside.{Fetches, Rose};
+ghost use Rattle.outside_io.specs.Outside.{Fetches, HasFailed, Rose};
 ghost use Rattle.outside_io.specs.Machine.{shelf_faults};
-ghost use Rattle.outside_io.specs.inner.Steps.{AnswersUnopened, Reads, ReadsOnce, ConsumesUpTo};
+ghost use Rattle.outside_io.specs.inner.Steps.{AnswersUnopened, IsFaultOf, Reads, ReadsOnce, ConsumesUpTo};
 ghost use Rattle.outside_io.specs.Held.{faults_after};
 
-use crate::shelf::{Fetch, Shelf};
+use crate::shelf::{Fetch, ReadFault, Shelf};
 use net_core::Bytes;
 use std::io::{ErrorKind, Read};
 use std::rt::Files;
 use std::{fs, io};
 
 /// The machine's files, of which it tells nothing. The content of a file is what reading it to its end gives. A name that
-/// doesn't exist is `Missing`; a folder, or anything else that can't be opened or read, is `Failed`. A fetch reads at most one
+/// doesn't exist is `Missing`; a folder, or anything else that can't be opened or read, is `Failed` with what the machine says of it. A fetch reads at most one
 /// byte past its limit, in steps of 4,096 bytes.
 #[derive(Drop)]
 pub struct FileShelf<'f, F> {
     files: &'f F,
     faults: u64,
+}
+
+/// What the machine's kind of an error says of a file.
+fn fault_of(kind: ErrorKind) -> ReadFault
+    ensures { IsFaultOf kind result }
+{
+    if kind == ErrorKind::IsADirectory {
+        ReadFault::Folder
+    } else if kind == ErrorKind::PermissionDenied {
+        ReadFault::NoRight
+    } else {
+        ReadFault::Other
+    }
 }
 
 /// Reads once, at most one byte more than is left of the limit. With no answer there may be more to read.
@@ -33,7 +46,7 @@ fn read_once<R: Read>(file: &mut R, buffer: &mut [u8], left: u64, into: &mut Byt
             Err(_) => Some(Fetch::NoMemory),
         },
         Err(e) if e.kind() == ErrorKind::Interrupted => None,
-        Err(_) => Some(Fetch::Failed),
+        Err(e) => Some(Fetch::Failed(fault_of(e.kind()))),
     }
 }
 
@@ -52,7 +65,7 @@ pub fn read_whole<R: Read>(file: &mut R, limit: u64, into: &mut Bytes) -> Fetch
             return answer;
         }
     }
-    Fetch::Failed
+    Fetch::Failed(ReadFault::Other)
 }
 
 /// Reads the file where it could be opened.
@@ -65,7 +78,7 @@ fn read_opened<R: Read + Drop>(opened: io::Result<R>, limit: u64, into: &mut Byt
     match opened {
         Ok(mut file) => read_whole(&mut file, limit, into),
         Err(e) if e.kind() == ErrorKind::NotFound => Fetch::Missing,
-        Err(_) => Fetch::Failed,
+        Err(e) => Fetch::Failed(fault_of(e.kind())),
     }
 }
 
@@ -90,8 +103,7 @@ impl<'f, F: Files> Shelf for FileShelf<'f, F> {
     fn fetch(&mut self, name: &str, limit: u64, into: &mut Bytes) -> Fetch
         ensures answer { Fetches None name.now limit result into.new }
         ensures later { shelf_faults self.old ≤ shelf_faults self.new }
-        ensures failed { result ≡ Fetch.Failed
-            → Rose (shelf_faults self.old) (shelf_faults self.new) }
+        ensures failed { HasFailed result → Rose (shelf_faults self.old) (shelf_faults self.new) }
         ensures counted { shelf_faults self.new ≡ faults_after result (shelf_faults self.old) }
     {
         into.clear();
@@ -99,7 +111,7 @@ impl<'f, F: Files> Shelf for FileShelf<'f, F> {
         if answer != Fetch::Found {
             into.clear();
         }
-        if answer == Fetch::Failed {
+        if let Fetch::Failed(_) = answer {
             self.faults = self.faults.saturating_add(1);
         }
         answer

@@ -18,6 +18,6 @@ pub use figures::{RoundFigures, TreeFigures};
 pub use files::FileShelf;
 pub use gate::{Gate, OpenGate};
 pub use memory::{MemFile, MemShelf, MemSink, have_different_names};
-pub use shelf::{Fetch, Shelf};
+pub use shelf::{Fetch, ReadFault, Shelf};
 pub use sink::{Failed, Sink};
 pub use stream::StreamSink;

@@ -1,8 +1,8 @@
 ghost use Rattle.std.specs.Prelude.{◌≡◌, ◌≤◌, ◌<◌, ◌+◌, ◌++◌, [], ℕ, List, IfOk, MatchOption, None, Some, Contains, ◌↔◌, IsTrue, OnErr, length, vec_len, vec_capacity};
-ghost use Rattle.outside_io.specs.Outside.{Fetches, content, Rose};
+ghost use Rattle.outside_io.specs.Outside.{Fetches, HasFailed, content, Rose};
 ghost use Rattle.outside_io.specs.Held.{HaveDifferentNames, files_of, after_fetch, PutsHeld};
 
-use crate::shelf::{Fetch, Shelf};
+use crate::shelf::{Fetch, ReadFault, Shelf};
 use crate::sink::{Failed, Sink};
 use net_core::{Bytes, Copied, List, Name, NoMemory};
 use std::alloc::Global;
@@ -119,8 +119,8 @@ impl Shelf for MemShelf {
     fn fetch(&mut self, name: &str, limit: u64, into: &mut Bytes) -> Fetch
         ensures answer { Fetches (Some self.old.files) name.now limit result into.new }
         ensures later { self.old.faults ≤ self.new.faults }
-        ensures failed { result ≡ Fetch.Failed → Rose self.old.faults self.new.faults }
-        ensures numbered { (result ≡ Fetch.Failed) ↔ Contains self.old.failing self.old.calls }
+        ensures failed { HasFailed result → Rose self.old.faults self.new.faults }
+        ensures numbered { HasFailed result ↔ Contains self.old.failing self.old.calls }
         ensures counted { self.new ≡ after_fetch result self.old }
     {
         into.clear();
@@ -128,7 +128,7 @@ impl Shelf for MemShelf {
         self.calls = call.saturating_add(1);
         if is_failing(self.failing.items(), call) {
             self.faults = self.faults.saturating_add(1);
-            return Fetch::Failed;
+            return Fetch::Failed(ReadFault::Other);
         }
         let Some(file) = find(self.files.items(), name.as_bytes()) else {
             return Fetch::Missing;
@@ -229,12 +229,12 @@ impl Sink for MemSink {
         self.calls = self.calls.saturating_add(1);
         if piece.len() as u64 > self.room - self.taken.len() as u64 {
             self.faults = self.faults.saturating_add(1);
-            return Err(Failed);
+            return Err(Failed::DiskFull);
         }
         if fails {
             append_within(&mut self.taken, &piece[..piece.len() / 2]);
             self.faults = self.faults.saturating_add(1);
-            return Err(Failed);
+            return Err(Failed::Other);
         }
         append_within(&mut self.taken, piece);
         Ok(())

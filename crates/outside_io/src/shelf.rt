@@ -1,7 +1,18 @@
 ghost use Rattle.std.specs.Prelude.{◌≡◌, ℕ, ◌≤◌, Option};
-ghost use Rattle.outside_io.specs.Outside.{Fetches, Files, Rose};
+ghost use Rattle.outside_io.specs.Outside.{Fetches, Files, HasFailed, Rose};
 
 use net_core::Bytes;
+
+/// Why a shelf failed, as far as it can tell.
+#[derive(Clone, Copy, Debug, PartialEq, Eq)]
+pub enum ReadFault {
+    /// The name is that of a folder.
+    Folder,
+    /// There is no right to read the file.
+    NoRight,
+    /// Any other cause, such as a damaged disk.
+    Other,
+}
 
 /// What a fetch answers.
 #[derive(Clone, Copy, Debug, PartialEq, Eq)]
@@ -13,7 +24,7 @@ pub enum Fetch {
     /// The content is longer than the limit.
     TooLong,
     /// The shelf failed, and has counted it.
-    Failed,
+    Failed(ReadFault),
     /// The fetch ran out of memory. The shelf may have counted a fault before.
     NoMemory,
 }
@@ -40,5 +51,5 @@ pub trait Shelf {
         ensures answer { Fetches (files self.old) name.now limit result into.new }
         ensures files { files self.new ≡ files self.old }
         ensures later { faults self.old ≤ faults self.new }
-        ensures failed { result ≡ Fetch.Failed → Rose (faults self.old) (faults self.new) };
+        ensures failed { HasFailed result → Rose (faults self.old) (faults self.new) };
 }

@@ -5,8 +5,14 @@ use thiserror::Error;
 
 /// A piece of the output was not taken whole.
 #[derive(Clone, Copy, Debug, PartialEq, Eq, Error)]
-#[error("a piece of the output was not written")]
-pub struct Failed;
+pub enum Failed {
+    /// There is no room left on the disk.
+    #[error("a piece of the output was not written: the disk is full")]
+    DiskFull,
+    /// Any other cause, such as a reader that has gone.
+    #[error("a piece of the output was not written")]
+    Other,
+}
 
 /// Where output goes.
 pub trait Sink {

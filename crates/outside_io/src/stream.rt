@@ -1,7 +1,7 @@
-ghost use Rattle.std.specs.Prelude.{◌≡◌, ◌≤◌, None, OnErr, OnOk};
+ghost use Rattle.std.specs.Prelude.{◌≡◌, ◌≤◌, ◌↔◌, None, OnErr, OnOk};
 ghost use Rattle.outside_io.specs.Outside.{Rose, one_more};
 ghost use Rattle.outside_io.specs.Machine.{Writes, sink_faults, stream_of};
-ghost use Rattle.outside_io.specs.inner.Steps.{WritesOnce};
+ghost use Rattle.outside_io.specs.inner.Steps.{IsFullDisk, WritesOnce};
 
 use crate::sink::{Failed, Sink};
 use std::io::{ErrorKind, Write};
@@ -24,15 +24,26 @@ impl<W: Write> StreamSink<W> {
     }
 }
 
+/// What the machine's kind of an error says of a disk.
+fn failed_of(kind: ErrorKind) -> Failed
+    ensures { (result ≡ Failed.DiskFull) ↔ IsFullDisk kind }
+{
+    if kind == ErrorKind::StorageFull || kind == ErrorKind::QuotaExceeded {
+        Failed::DiskFull
+    } else {
+        Failed::Other
+    }
+}
+
 /// Writes once, and says how many bytes were taken. A write that takes nothing is a fault.
 fn write_once<W: Write>(out: &mut W, piece: &[u8]) -> Result<usize, Failed>
     ensures { WritesOnce (W.contents out.old) (W.contents out.new) result piece.now }
 {
     match out.write(piece) {
-        Ok(0) => Err(Failed),
+        Ok(0) => Err(Failed::Other),
         Ok(n) => Ok(n),
         Err(e) if e.kind() == ErrorKind::Interrupted => Ok(0),
-        Err(_) => Err(Failed),
+        Err(e) => Err(failed_of(e.kind())),
     }
 }
 
@@ -43,11 +54,11 @@ fn write_whole<W: Write>(out: &mut W, piece: &[u8]) -> Result<(), Failed>
     let mut done = 0;
     for _ in 0..u64::MAX {
         if done == piece.len() {
-            return out.flush().map_err(|_| Failed);
+            return out.flush().map_err(|e| failed_of(e.kind()));
         }
         done += write_once(out, &piece[done..])?;
     }
-    Err(Failed)
+    Err(Failed::Other)
 }
 
 impl<W: Write> Sink for StreamSink<W> {

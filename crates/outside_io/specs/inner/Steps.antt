@@ -1,10 +1,13 @@
 -- the steps in which a file is read and a piece is written
-use Rattle.std.specs.Prelude.{◌≡◌, ◌≢◌, ℕ, ◌+◌, ◌≤◌, ◌<◌, List, [], ◌++◌, length, take, Option, Some, None, IfSome, ⊤, Result, MatchResult}
+use Rattle.std.specs.Prelude.{◌≡◌, ◌≢◌, ℕ, ◌+◌, ◌≤◌, ◌<◌, ◌⊎◌, List, [], ◌++◌, length, take, Option, Some, None, IfSome, ⊤, Result, MatchResult}
 use Rattle.std.specs.IoError.{error_kind}
 use Rattle.std.specs.declared.io.Error.{Error}
-use Rattle.std.specs.declared.io.ErrorKind.TheVariants.{NotFound}
+use Rattle.std.specs.declared.io.ErrorKind.{ErrorKind}
+use Rattle.std.specs.declared.io.ErrorKind.TheVariants.{IsADirectory, NotFound, PermissionDenied, QuotaExceeded, StorageFull}
 use Rattle.std.specs.Io.KnownBytes.{Consumes, Appends, IsAtEnd}
 use Rattle.outside_io.specs.declared.shelf.Fetch.{Fetch}
+use Rattle.outside_io.specs.declared.shelf.ReadFault.{ReadFault}
+use Rattle.outside_io.specs.declared.shelf.ReadFault.TheVariants.{Folder, NoRight, Other}
 use Rattle.outside_io.specs.declared.shelf.Fetch.TheVariants.{Found, Missing, TooLong, Failed, NoMemory}
 
 -- what reading an open file to its end answers, and what it leaves in an empty buffer, where the bytes of the file are known
@@ -12,13 +15,19 @@ abbrev pub Reads : Option (List ℕ) → ℕ → Fetch → List ℕ → Type 0
 Reads known limit Found into = IfSome known (λ bytes. into ≡ bytes) × (length into ≤ limit)
 Reads known limit Missing into = ⊥
 Reads known limit TooLong into = IfSome known (λ bytes. limit < length bytes)
-Reads known limit Failed into = ⊤
+Reads known limit (Failed fault) into = ⊤
 Reads known limit NoMemory into = ⊤
+
+-- what the machine's kind of an error says of a file
+abbrev pub IsFaultOf : ErrorKind → ReadFault → Type 0
+IsFaultOf kind Folder = kind ≡ IsADirectory
+IsFaultOf kind NoRight = kind ≡ PermissionDenied
+IsFaultOf kind Other = (kind ≢ IsADirectory) × (kind ≢ PermissionDenied)
 
 -- what a file that can't be opened answers: only one that doesn't exist is missing
 abbrev pub AnswersUnopened : Error → Fetch → Type 0
 AnswersUnopened e Missing = error_kind e ≡ NotFound
-AnswersUnopened e Failed = error_kind e ≢ NotFound
+AnswersUnopened e (Failed fault) = (error_kind e ≢ NotFound) × IsFaultOf (error_kind e) fault
 AnswersUnopened e _ = ⊥
 
 -- at most so many bytes were read, where the bytes of the file are known
@@ -33,8 +42,12 @@ ReadsOnce old new left (Some Found) before after = Consumes old new [] × IsAtEn
 ReadsOnce old new left (Some Missing) before after = ⊥
 ReadsOnce old new left (Some TooLong) before after =
     (bytes : List ℕ) × (length bytes ≡ left + 1) × Consumes old new bytes
-ReadsOnce old new left (Some Failed) before after = ConsumesUpTo (left + 1) old new
+ReadsOnce old new left (Some (Failed fault)) before after = ConsumesUpTo (left + 1) old new
 ReadsOnce old new left (Some NoMemory) before after = ConsumesUpTo (left + 1) old new
+
+-- the machine's kind of an error says that the disk has no room
+abbrev pub IsFullDisk : ErrorKind → Type 0
+IsFullDisk kind = (kind ≡ StorageFull) ⊎ (kind ≡ QuotaExceeded)
 
 -- one write took a prefix of the piece, or at a fault nothing
 abbrev pub WritesOnce : {E : Type 0} → Option (List ℕ) → Option (List ℕ) → Result ℕ E → List ℕ → Type 0
