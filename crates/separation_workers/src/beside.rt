@@ -4,6 +4,7 @@ ghost use Rattle.separation_workers.specs.inner.Rounds.{AreFound, IsFoundOf, IsS
 
 use crate::discard::discard;
 use crate::hints::hinted_cut;
+use crate::lending::lend;
 use crate::round::{Round, StateFound, Work};
 use flow_router::RouteAnswer;
 use net_core::{List, NoMemory, StateId};
@@ -154,7 +155,8 @@ fn by_state(round: &Round, found: Vec<StateFound>) -> Result<List<Option<StateFo
     Ok(List::from_vec(places))
 }
 
-/// What the workers of a round find of the states from one on to before another, each at the place of its state. The gate is a hold, which
+/// What the workers of a round find of the states from one on to before another, each at the place of its state. Those that have no basis
+/// begin with the first one that there is. The gate is a hold, which
 /// hears of a state on the thread that works on it; the caller's own gate hears of it elsewhere.
 pub fn find_states<R: Threads, G: Gate + Sync>(
     rt: &R,
@@ -167,6 +169,7 @@ pub fn find_states<R: Threads, G: Gate + Sync>(
     requires to { to ≤ length round.now.instance.states.now.listed + 1 }
     ensures { IfOk result (AreFound round.now) }
 {
+    lend(round, from, to)?;
     let work = Work::of(from, to);
     let helpers = HELPERS.min(to - from - 1);
     by_state(round, find_beside(rt, gate, round, &work, helpers)?)

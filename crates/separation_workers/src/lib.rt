@@ -13,6 +13,7 @@ mod depths;
 mod discard;
 mod hints;
 mod hold;
+mod lending;
 mod round;
 mod some_states;
 mod spot;

@@ -26,6 +26,20 @@ impl KnownState {
         }
     }
 
+    /// Whether there is a basis that a question has left.
+    pub fn has_basis(&self) -> bool {
+        self.warm.has_basis()
+    }
+
+    /// A state of which nothing is known but this basis, from which an answer is fewer turns away than from none. It takes time and memory
+    /// in the square of the links.
+    pub fn begun(&self, alloc: Global) -> Result<KnownState, NoMemory> {
+        Ok(KnownState {
+            columns: List::new(alloc),
+            warm: self.warm.copy()?,
+        })
+    }
+
     /// Answers the state as `separate_from` does. Where memory runs out, the columns are as they were.
     pub fn separate(
         &mut self,
