@@ -1,4 +1,5 @@
 pub mod Beginnings
 pub mod Decimals
+pub mod EditBounds
 pub mod NearNames
 pub mod Questions

@@ -1,4 +1,4 @@
-ghost use Rattle.std.specs.Prelude.{◌≡◌, ◌+◌, ◌≤◌, ◌++◌, ℕ, List, IfOk, MatchOption, OnOk, [], codes, get_or, length};
+ghost use Rattle.std.specs.Prelude.{◌≡◌, ◌+◌, ◌≤◌, ◌<◌, ◌++◌, ℕ, List, IfOk, MatchOption, OnOk, [], codes, get_or, length};
 ghost use Rattle.net_core.specs.Terms.{are_same};
 ghost use Rattle.snd_tokens.specs.Tokens.{token_bytes, tokens_from};
 ghost use Rattle.fault_texts.specs.Quotes.{IsQuote, note_text};
@@ -10,11 +10,22 @@ use snd_tokens::{Token, TokenKind, next_token};
 use std::alloc::Global;
 use strsim::generic_levenshtein;
 
-/// How many bytes have to be put in, left out or changed to come from one name to another.
-fn edits(alloc: Global, name: &[u8], other: &[u8]) -> Result<usize, NoMemory>
-    ensures { IfOk result (λ d. d ≡ edits name.now other.now) }
+/// How many bytes have to be put in, left out or changed to come from one name to another, if they are fewer than a limit. Where the lengths
+/// differ by as many, it takes no time.
+#[tactic(auto, using(crate::proofs::EditBounds::edits_bound))]
+fn edits_below(
+    alloc: Global,
+    name: &[u8],
+    other: &[u8],
+    limit: usize,
+) -> Result<Option<usize>, NoMemory>
+    ensures { IfOk result (λ found. MatchOption found (limit ≤ edits name.now other.now) (λ d. (d ≡ edits name.now other.now) × (d < limit))) }
 {
-    Ok(generic_levenshtein(alloc, name, other)?)
+    if name.len().abs_diff(other.len()) >= limit {
+        return Ok(None);
+    }
+    let edits = generic_levenshtein(alloc, name, other)?;
+    Ok((edits < limit).then_some(edits))
 }
 
 /// The name at a place, and none past the last.
@@ -35,7 +46,8 @@ struct Nearest {
 }
 
 /// The place of the name that is nearest to another, and the first of those that are as near, if the edits are at most a third of the
-/// length: bytes to be put in, left out or changed. It takes time in the length times the bytes of all names, and memory for the longest.
+/// length: bytes to be put in, left out or changed. A name whose length differs by more than that is passed over in constant time; for the
+/// others it takes time in the length times their bytes, and memory for the longest.
 pub fn nearest_name(alloc: Global, name: &[u8], names: &[Bytes]) -> Result<Option<usize>, NoMemory>
     ensures { IfOk result (λ found. MatchOption found (HasNoneNear name.now names.now) (λ i. IsNearestName name.now names.now i)) }
 {
@@ -44,8 +56,7 @@ pub fn nearest_name(alloc: Global, name: &[u8], names: &[Bytes]) -> Result<Optio
         edits: name.len() / 3 + 1,
     };
     for i in 0..names.len() {
-        let edits = edits(alloc, name, name_at(names, i))?;
-        if edits < nearest.edits {
+        if let Some(edits) = edits_below(alloc, name, name_at(names, i), nearest.edits)? {
             nearest = Nearest { place: i, edits };
         }
     }

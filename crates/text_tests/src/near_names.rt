@@ -6,8 +6,8 @@ use std::alloc::Global;
 type NameRow = (&'static [u8], &'static [&'static [u8]], Option<usize>);
 
 /// Names with letters exchanged, with a character of two bytes for one, and too short to have a near one; the first of two that are as near,
-/// and the nearest of all.
-const NAMES: [NameRow; 8] = [
+/// and the nearest of all; longer and shorter ones that are near, and one that is too long.
+const NAMES: [NameRow; 10] = [
     (b"Hambrug", &[b"Berlin", b"Hamburg"], Some(1)),
     (b"Munchen", &[b"M\xc3\xbcnchen"], Some(0)),
     (b"AB", &[b"AC"], None),
@@ -15,6 +15,8 @@ const NAMES: [NameRow; 8] = [
     (b"ABC", &[b"XBD", b"ABE"], Some(1)),
     (b"ABCDEF", &[b"AXCDYF", b"ABCDE"], Some(1)),
     (b"N10", &[b"N11", b"N10"], Some(1)),
+    (b"ABCDEF", &[b"ABCDEFGHI", b"ABCDEFGH"], Some(1)),
+    (b"ABCDEFGHI", &[b"ABCDE", b"DEFGHI"], Some(1)),
     (b"N10", &[], None),
 ];
 
