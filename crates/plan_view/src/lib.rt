@@ -15,6 +15,7 @@ mod summary;
 
 pub use links::link_rows;
 pub use parts::gap_of;
+pub use rerouting::goes_again;
 pub use rows::{LinkRow, LoadRow, PlanSummary, StateRow};
 pub use state_loads::load_rows;
 pub use states::state_rows;
