@@ -1,0 +1,11 @@
+//! Rows as lines of comma-separated values, which spreadsheets read.
+//!
+//! ```text
+//! put_csv(&mut text, alloc, &rows)?;   // of a row with the fields a and 1,5
+//! // the line a,"1,5"
+//! ```
+#![tactic(auto)]
+
+mod rows;
+
+pub use rows::put_csv;

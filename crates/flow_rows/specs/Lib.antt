@@ -1,0 +1,3 @@
+pub mod FlowRows
+pub mod Terms
+pub mod inner
