@@ -1,0 +1,73 @@
+ghost use Rattle.std.specs.Prelude.{◌≡◌, IfOk, length};
+
+use crate::circle::circle_spots;
+use crate::frame::{Frame, frame_of, map_spots};
+use crate::strokes::strokes_of;
+use net_core::{Link, List, NoMemory};
+use node_places::Place;
+use std::alloc::Global;
+
+/// A spot of the picture, in its units from the upper left corner.
+#[derive(Clone, Copy, Debug, PartialEq, Eq)]
+pub struct Spot {
+    pub x: u32,
+    pub y: u32,
+}
+
+/// How a link is drawn: a curve between two spots that bends towards a third, the spot of what is written beside it, and the width of the curve.
+#[derive(Clone, Copy, Debug, PartialEq, Eq)]
+pub struct Stroke {
+    pub from: Spot,
+    pub bend: Spot,
+    pub to: Spot,
+    pub label: Spot,
+    pub width: u32,
+}
+
+/// Where everything is drawn.
+#[derive(Drop)]
+pub struct Layout {
+    /// The spots of the nodes.
+    pub nodes: List<Spot>,
+    /// The strokes of the links.
+    pub links: List<Stroke>,
+    /// Whether the nodes stand where the file says; else they stand on a circle.
+    pub is_map: bool,
+}
+
+/// The spots of nodes in the frame of their places, if there is one.
+fn spots_of(
+    alloc: Global,
+    places: &[Option<Place>],
+    frame: Option<Frame>,
+    nodes: usize,
+) -> Result<List<Spot>, NoMemory>
+    ensures { IfOk result (λ spots. length spots ≡ nodes) }
+{
+    match frame {
+        Some(frame) => map_spots(alloc, places, &frame, nodes),
+        None => circle_spots(alloc, nodes),
+    }
+}
+
+/// Where so many nodes with these places are drawn, and links with these capacities. Where a node has no place, or all have the same, they
+/// stand on a circle. It takes time in the square of the links, and memory for the spots and strokes.
+pub fn layout_of(
+    alloc: Global,
+    places: &[Option<Place>],
+    nodes: usize,
+    links: &[Link],
+    capacities: &[u128],
+) -> Result<Layout, NoMemory>
+    ensures nodes { IfOk result (λ layout. length layout.nodes ≡ nodes) }
+    ensures links { IfOk result (λ layout. length layout.links ≡ length links.now) }
+{
+    let frame = frame_of(places, nodes);
+    let spots = spots_of(alloc, places, frame, nodes)?;
+    let strokes = strokes_of(alloc, spots.items(), links, capacities)?;
+    Ok(Layout {
+        nodes: spots,
+        links: strokes,
+        is_map: frame.is_some(),
+    })
+}
