@@ -2,6 +2,8 @@
 use Rattle.std.specs.Prelude.{◌≡◌, ℕ, ◌⊎◌, min, List, [], ◌++◌, Option, Err, codes, length}
 use Rattle.plan_terms.specs.Terms.{Link}
 use Rattle.outside_io.specs.Outside.{Files}
+use Rattle.outside_io.specs.declared.shelf.ReadFault.{ReadFault}
+use Rattle.outside_io.specs.declared.shelf.ReadFault.TheVariants.{Folder, NoRight, Other}
 use Rattle.sndlib_reader.specs.Kinds.{kind_word}
 use Rattle.sndlib_reader.specs.NetworkFiles.{IsFirstFault}
 use Rattle.model_reader.specs.Failures.{SpellsFailures}
@@ -19,16 +21,22 @@ use Rattle.fault_texts.specs.FaultTexts.{IsFaultText}
 use Rattle.input_files.specs.Inputs.{Fetched, SpellsNetwork, StopsAtFetch}
 use Rattle.input_files.specs.Refusals.{Refuses}
 
+-- what is said of a file that can't be read, by what the shelf knows of it
+abbrev pub fault_words : ReadFault → List ℕ
+fault_words Folder = codes ": it is a folder, not a file\n"
+fault_words NoRight = codes ": there is no right to read it\n"
+fault_words Other = codes ": reading failed; the disk may be damaged\n"
+
 -- what is said of a file that can't be fetched, before the planner's line of it
-abbrev pub unfetched_words : List ℕ → Status → List ℕ
-unfetched_words name NoFile = name ++ codes ": there is no such file\n"
-unfetched_words name TooLong = name ++ codes ": the file is too long; a report has at most 256 MiB, and any other file 16 MiB\n"
-unfetched_words name _ = name ++ codes ": reading failed: it is a folder, or there is no right to read it, or the disk is damaged\n"
+abbrev pub unfetched_words : List ℕ → ReadFault → Status → List ℕ
+unfetched_words name fault NoFile = name ++ codes ": there is no such file\n"
+unfetched_words name fault TooLong = name ++ codes ": the file is too long; a report has at most 256 MiB, and any other file 16 MiB\n"
+unfetched_words name fault _ = name ++ fault_words fault
 
 -- the file can't be fetched, and the message says so and ends in the planner's line of it
 abbrev pub FailsAtFetch : Option Files → ℕ → List ℕ → Status → List ℕ → Type 0
 FailsAtFetch files limit name status message =
-    (line : List ℕ) × StopsAtFetch files limit name status line × (message ≡ unfetched_words name status ++ line)
+    (line : List ℕ) × StopsAtFetch files limit name status line × (fault : ReadFault) × (message ≡ unfetched_words name fault status ++ line)
 
 -- The message shows a byte of a file with its line, by these words what is wrong there and what helps, and ends in these notes and this line.
 -- Where the place is beyond the bytes, it shows their end.

@@ -4,6 +4,7 @@ ghost use Rattle.outside_io.specs.Outside.{Fetches};
 ghost use Rattle.input_files.specs.Inputs.{Fetched, SpellsNetwork, input_limit, report_limit};
 ghost use Rattle.input_files.specs.Shelves.{KeepsShelf};
 ghost use Rattle.front_files.specs.Endings.{FailsReading, Halts, halt_status};
+ghost use Rattle.front_files.specs.Messages as words;
 ghost use Rattle.front_files.specs.Messages.{FailsAtFetch, FailsAtFile, ShowsNetworkFault};
 
 use crate::refusal::{FaultyFile, not_fetched, place_in, refused, unread};
@@ -12,7 +13,8 @@ use check_answers::Status;
 use fault_messages::{network_notes, network_sentence};
 use input_files::{INPUT_LIMIT, REPORT_LIMIT};
 use net_core::{Bytes, Demands, List as Items, Network};
-use outside_io::{Fetch, Shelf};
+use node_places::{Place, node_places};
+use outside_io::{Fetch, ReadFault, Shelf};
 use sndlib_reader::{ReadRefusal, read_network};
 use std::alloc::Global;
 
@@ -21,8 +23,16 @@ const MISSING: &[u8] = b": there is no such file\n";
 const TOO_LONG: &[u8] =
     b": the file is too long; a report has at most 256 MiB, and any other file 16 MiB\n";
 
-const FAILED: &[u8] =
-    b": reading failed: it is a folder, or there is no right to read it, or the disk is damaged\n";
+/// What is said of a file that can't be read.
+fn fault_words(fault: ReadFault) -> &'static [u8]
+    ensures { result.now ≡ words.fault_words fault }
+{
+    match fault {
+        ReadFault::Folder => b": it is a folder, not a file\n",
+        ReadFault::NoRight => b": there is no right to read it\n",
+        ReadFault::Other => b": reading failed; the disk may be damaged\n",
+    }
+}
 
 /// The content of a file of at most so many bytes.
 pub(crate) fn fetch_file<S: Shelf>(
@@ -40,7 +50,7 @@ pub(crate) fn fetch_file<S: Shelf>(
         Fetch::Found => Ok(bytes),
         Fetch::Missing => Err(not_fetched(alloc, Status::NoFile, name, MISSING, b"no file ")),
         Fetch::TooLong => Err(not_fetched(alloc, Status::TooLong, name, TOO_LONG, b"too long ")),
-        Fetch::Failed => Err(unread(alloc, name, FAILED)),
+        Fetch::Failed(fault) => Err(unread(alloc, name, fault_words(fault))),
         Fetch::NoMemory => Err(Halt::NoMemory),
     }
 }
@@ -91,4 +101,20 @@ pub fn load_network<S: Shelf>(
 {
     let bytes = fetch_file(alloc, INPUT_LIMIT, name, shelf)?;
     network_of(alloc, name, bytes.items())
+}
+
+/// The network and the demands of a file, and where the nodes stand, as far as it says. It takes the time of both readers.
+pub(crate) fn load_placed_network<S: Shelf>(
+    alloc: Global,
+    name: &str,
+    shelf: &mut S,
+) -> Result<(Network, Demands, Items<Option<Place>>), Halt>
+    ensures has { IfOk result (λ r. Fetched (S.files shelf.old) input_limit name.now SpellsNetwork (r.0, r.1)) }
+    ensures ends { IfErr result (Halts (FailsAtFile (S.files shelf.old) input_limit name.now Status.BadNetwork (ShowsNetworkFault name.now))) }
+    ensures shelf { KeepsShelf S.files S.faults (FailsReading result) shelf.old shelf.new }
+{
+    let bytes = fetch_file(alloc, INPUT_LIMIT, name, shelf)?;
+    let (net, demands) = network_of(alloc, name, bytes.items())?;
+    let places = node_places(alloc, bytes.items())?;
+    Ok((net, demands, places))
 }

@@ -2,14 +2,14 @@ ghost use Rattle.std.specs.Prelude.{◌≡◌, ◌≢◌, IfErr, IfOk};
 ghost use Rattle.model_reader.specs.Failures.{SpellsFailures};
 ghost use Rattle.model_reader.specs.Models.{SpellsModel};
 ghost use Rattle.input_files.specs.InputWords.{default};
-ghost use Rattle.input_files.specs.Inputs.{Fetched, HasModel, input_limit};
+ghost use Rattle.input_files.specs.Inputs.{Fetched, HasModel, SpellsNetwork, input_limit};
 ghost use Rattle.input_files.specs.Shelves.{KeepsShelf};
 ghost use Rattle.input_files.specs.Stops.{named};
 ghost use Rattle.front_files.specs.Endings.{FailsReading, Halts, halt_status};
 ghost use Rattle.front_files.specs.FrontInputs.{FailsAtFailures, FailsAtInputs, HasCase, HasListed, named_case};
 ghost use Rattle.front_files.specs.Messages.{FailsAtFile, ShowsFailuresFault, ShowsModelFault};
 
-use crate::fetching::{fetch_file, load_network};
+use crate::fetching::{fetch_file, load_network, load_placed_network};
 use crate::refusal::{FaultyFile, place_in, refused, unused};
 use crate::stop::Halt;
 use crate::words::CaseFiles;
@@ -17,7 +17,8 @@ use check_answers::Status;
 use fault_messages::{failures_notes, failures_sentence, model_notes, model_sentence};
 use input_files::{DEFAULT, INPUT_LIMIT, PlanFiles, default_states};
 use model_reader::{FailuresRefusal, Model, ModelRefusal, read_failures, read_model, single_links};
-use net_core::{Network, Problem, States};
+use net_core::{Demands, List, Network, Problem, States};
+use node_places::Place;
 use outside_io::Shelf;
 use std::alloc::Global;
 
@@ -131,6 +132,28 @@ fn load_states<S: Shelf>(
     load_failures(alloc, name, net, shelf)
 }
 
+/// What the files spell of which the network's is read, with the setup costs of its links charged or dropped as the model says.
+fn settled_case<S: Shelf>(
+    alloc: Global,
+    words: &CaseFiles,
+    net: Network,
+    demands: Demands,
+    shelf: &mut S,
+) -> Result<Problem, Halt>
+    requires { Fetched (S.files shelf.old) input_limit words.now.files.network.now SpellsNetwork (net, demands) }
+    ensures has { IfOk result (λ p. HasCase (S.files shelf.old) (named_case words.now) p.net p.demands p.states.listed) }
+    ensures ends { IfErr result (Halts (FailsAtInputs (S.files shelf.old) (named_case words.now))) }
+    ensures shelf { KeepsShelf S.files S.faults (FailsReading result) shelf.old shelf.new }
+{
+    let model = load_model(alloc, &words.files, shelf)?;
+    let states = load_states(alloc, words, &net, model.reconfigure, shelf)?;
+    Ok(Problem {
+        net: net.settle(model.charge),
+        states,
+        demands,
+    })
+}
+
 /// What the files spell, with the setup costs of the network's links charged or dropped as the model says. They are read one after another,
 /// and the first that isn't read ends the run. It takes the time and the memory of the readers, and a file may have 16 MiB.
 pub fn load_case<S: Shelf>(alloc: Global, words: &CaseFiles, shelf: &mut S) -> Result<Problem, Halt>
@@ -139,11 +162,20 @@ pub fn load_case<S: Shelf>(alloc: Global, words: &CaseFiles, shelf: &mut S) -> R
     ensures shelf { KeepsShelf S.files S.faults (FailsReading result) shelf.old shelf.new }
 {
     let (net, demands) = load_network(alloc, words.files.network, shelf)?;
-    let model = load_model(alloc, &words.files, shelf)?;
-    let states = load_states(alloc, words, &net, model.reconfigure, shelf)?;
-    Ok(Problem {
-        net: net.settle(model.charge),
-        states,
-        demands,
-    })
+    settled_case(alloc, words, net, demands, shelf)
+}
+
+/// The same, and where the nodes stand, as far as the network's file says.
+pub fn load_placed_case<S: Shelf>(
+    alloc: Global,
+    words: &CaseFiles,
+    shelf: &mut S,
+) -> Result<(Problem, List<Option<Place>>), Halt>
+    ensures has { IfOk result (λ r. HasCase (S.files shelf.old) (named_case words.now) r.0.net r.0.demands r.0.states.listed) }
+    ensures ends { IfErr result (Halts (FailsAtInputs (S.files shelf.old) (named_case words.now))) }
+    ensures shelf { KeepsShelf S.files S.faults (FailsReading result) shelf.old shelf.new }
+{
+    let (net, demands, places) = load_placed_network(alloc, words.files.network, shelf)?;
+    let problem = settled_case(alloc, words, net, demands, shelf)?;
+    Ok((problem, places))
 }

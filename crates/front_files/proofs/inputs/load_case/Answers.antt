@@ -1,6 +1,6 @@
 use Rattle.net_core.proofs.Library.{err_from_is_err_and}
 use Rattle.front_files.specs.FrontInputs.{named_case}
-use Rattle.front_files.proofs.Loading.{failures_fail, model_fails, network_fails}
+use Rattle.front_files.proofs.Loading.{network_fails}
 use Rattle.front_files.proofs.inputs.load_case.Goals as goal
 
 pub returns-in_err-net-clause-ends : goal.returns-in_err-net-clause-ends
@@ -8,25 +8,5 @@ returns-in_err-net-clause-ends g c =
     let p = err_from_is_err_and c.from_residual.result c.from_residual.ensures.1 in
     rw (p.1, p.2) (network_fails (g.S.Shelf.files c.args.shelf.now) (named_case c.args.words.now) c.in_err-net.field-0.0 c.in_err-net.ensures.ends)
 
-pub returns-in_err-model-clause-ends : goal.returns-in_err-model-clause-ends
-returns-in_err-model-clause-ends g c =
-    let p = err_from_is_err_and c.from_residual-in_err-model.result c.from_residual-in_err-model.ensures.1 in
-    rw (p.1, p.2) (model_fails (g.S.Shelf.files c.args.shelf.now) (named_case c.args.words.now) c.in_ok-net.net c.in_ok-net.demands c.in_err-model.field-0.0
-    c.in_ok-net.ensures.has (rw c.in_ok-net.ensures.shelf.same at c.in_err-model.ensures.ends))
-
-pub returns-in_err-states-clause-ends : goal.returns-in_err-states-clause-ends
-returns-in_err-states-clause-ends g c =
-    let p = err_from_is_err_and c.from_residual-in_err-states.result c.from_residual-in_err-states.ensures.1 in
-    rw (p.1, p.2) (failures_fail (g.S.Shelf.files c.args.shelf.now) (named_case c.args.words.now) c.in_ok-net.net c.in_ok-net.demands c.in_ok-model.model c.in_err-states.field-0.0
-    c.in_ok-net.ensures.has (rw c.in_ok-net.ensures.shelf.same at c.in_ok-model.ensures.has)
-    (rw (c.in_ok-model.ensures.shelf.same, c.in_ok-net.ensures.shelf.same) at c.in_err-states.ensures.ends))
-
 pub returns-clause-has : goal.returns-clause-has
-returns-clause-has g c = (
-  c.in_ok-net.net,
-  c.in_ok-model.model,
-  c.in_ok-net.ensures.has,
-  rw c.in_ok-net.ensures.shelf.same at c.in_ok-model.ensures.has,
-  rw (c.in_ok-model.ensures.shelf.same, c.in_ok-net.ensures.shelf.same) at c.in_ok-states.ensures.has,
-  record { nodes = c.settle.ensures.nodes; links = c.settle.ensures.links; notes = c.settle.ensures.notes; places = c.settle.ensures.places },
-)
+returns-clause-has g c = rw c.in_ok-net.ensures.shelf.same at c.settled_case.ensures.has
