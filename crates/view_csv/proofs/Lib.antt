@@ -1,0 +1,2 @@
+pub mod PlanRows
+pub mod StateFlows

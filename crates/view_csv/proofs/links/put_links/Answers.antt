@@ -1,0 +1,18 @@
+use Rattle.std.proofs.Common.{◌++◌, ap, map, refl, ◌∙◌}
+use Rattle.plan_report.specs.Terms.{known_to}
+use Rattle.plan_terms.specs.Terms.{case_of}
+use Rattle.plan_view.specs.declared.rows.LinkRow.{LinkRow}
+use Rattle.std.specs.Prelude.{ℕ, List}
+use Rattle.text_kit.proofs.Lemmas.{on_ok}
+use Rattle.view_csv.specs.Fields.{link_fields, with_plan}
+use Rattle.view_csv.proofs.links.put_links.Goals as goal
+
+pub returns : goal.returns
+returns c =
+    let known = known_to (case_of c.args.instance.now) in
+    let fields : LinkRow → List (List ℕ) = λ row. with_plan c.args.number.caller c.args.number.serial (link_fields known row) in
+    on_ok c.put_link_rows.result (λ q. (
+      map fields c.in_ok-rows.rows,
+      record { rows = c.in_ok-rows.rows; are = c.in_ok-rows.ensures; shown = refl },
+      q ∙ ap (λ (rows : List LinkRow). c.args.all.now ++ map fields rows) c.items.ensures,
+    )) c.put_link_rows.ensures
