@@ -1,0 +1,5 @@
+pub mod NamedStates
+pub mod StateHeadings
+pub mod StateTables
+pub mod StateViews
+pub mod Terms
