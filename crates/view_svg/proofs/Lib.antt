@@ -1,0 +1,2 @@
+pub mod FirstPlans
+pub mod NodeTexts

@@ -1,0 +1,4 @@
+pub mod Markup
+pub mod Pictures
+pub mod ReportPictures
+pub mod Terms

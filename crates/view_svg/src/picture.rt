@@ -1,0 +1,182 @@
+ghost use Rattle.std.specs.Prelude.{◌≡◌, ◌++◌, IfOk, OnOk, flat_map, length};
+ghost use Rattle.plan_terms.specs.Terms.{case_of};
+ghost use Rattle.plan_report.specs.Terms.{known_of, state_name};
+ghost use Rattle.plan_view.specs.Terms.{IsSoundPlan, failed_links, routing_in};
+ghost use Rattle.view_cells.specs.Terms.{AddsText};
+ghost use Rattle.view_svg.specs.Pictures.{IsPicture, beginning, drawn_change, drawn_nodes, drawn_row, picture_text};
+
+use crate::legend::{put_beginning, put_ending};
+use crate::links::put_links;
+use crate::nodes::put_nodes;
+use crate::paths::put_changes;
+use net_core::{
+    Bytes, Flow, Instance, LinkId, List, Listed, Network, NoMemory, Routing, StateId, States,
+};
+use node_places::Place;
+use picture_layout::{Layout, layout_of};
+use plan_types::Plan;
+use plan_view::{LinkRow, link_rows};
+use std::alloc::Global;
+use view_cells::names::state_name;
+
+/// The links that a state fails; none where there is no such state.
+fn failed_links(listed: &[Listed], state: u32) -> &[LinkId]
+    ensures { result.now ≡ failed_links listed.now state }
+{
+    if state == 0 {
+        return &[];
+    }
+    match listed.get(state as usize - 1) {
+        Some(failure) => failure.links.items(),
+        None => &[],
+    }
+}
+
+/// The flows in a state; none where there is no such state.
+fn flows_in(routings: &[Routing], state: u32) -> &[Flow]
+    ensures { result.now ≡ (routing_in routings.now state).flows }
+{
+    match routings.get(state as usize) {
+        Some(routing) => routing.flows.items(),
+        None => &[],
+    }
+}
+
+/// The capacities of links.
+fn capacities(alloc: Global, rows: &[LinkRow]) -> Result<List<u128>, NoMemory> {
+    let mut capacities = List::new(alloc);
+    for row in rows {
+        capacities.push(row.capacity)?;
+    }
+    Ok(capacities)
+}
+
+/// Where the nodes and links of a network are drawn, by the places of its nodes and the rows of its links.
+fn layout(
+    alloc: Global,
+    places: &[Option<Place>],
+    instance: &Instance,
+    rows: &List<LinkRow>,
+) -> Result<Layout, NoMemory>
+    ensures nodes { IfOk result (λ layout. length layout.nodes ≡ length instance.now.net.now.nodes) }
+    ensures links { IfOk result (λ layout. length layout.links ≡ length instance.now.net.now.links) }
+{
+    let capacities = capacities(alloc, rows.items())?;
+    let net = instance.net;
+    layout_of(
+        alloc,
+        places,
+        net.nodes().len(),
+        net.links().items(),
+        capacities.items(),
+    )
+}
+
+/// Puts the beginning of a picture in a state last.
+fn put_state_beginning(
+    text: &mut Bytes,
+    alloc: Global,
+    network: &[u8],
+    states: &States,
+    state: u32,
+) -> Result<(), NoMemory>
+    ensures { OnOk result (text.new ≡ text.old ++ beginning network.now (state_name states.now.listed state)) }
+{
+    let name = state_name(states.listed().items(), StateId(state));
+    put_beginning(text, alloc, network, name)
+}
+
+/// Puts the paths that a state has taken instead of others last.
+fn put_plan_changes(
+    text: &mut Bytes,
+    layout: &Layout,
+    plan: &Plan,
+    state: u32,
+) -> Result<(), NoMemory>
+    ensures { OnOk result (text.new ≡ text.old
+        ++ flat_map (drawn_change layout.now.links (routing_in plan.now.routings 0).flows) (routing_in plan.now.routings state).flows) }
+{
+    let routings = plan.routings.items();
+    let normal = flows_in(routings, 0);
+    let flows = flows_in(routings, state);
+    put_changes(text, layout.links.items(), normal, flows)
+}
+
+/// Puts the links in a state last.
+fn put_state_links(
+    text: &mut Bytes,
+    alloc: Global,
+    instance: &Instance,
+    layout: &Layout,
+    state: u32,
+    rows: &List<LinkRow>,
+) -> Result<(), NoMemory>
+    ensures { OnOk result (text.new ≡ text.old ++ flat_map (drawn_row (known_of instance.now.net.now instance.now.states.now) layout.now.links
+        (failed_links instance.now.states.now.listed state)) rows.now) }
+{
+    let strokes = layout.links.items();
+    let failed = failed_links(instance.states.listed().items(), state);
+    put_links(
+        text,
+        alloc,
+        instance.net,
+        instance.states,
+        strokes,
+        failed,
+        rows.items(),
+    )
+}
+
+/// Puts the nodes of a network last.
+fn put_network_nodes(
+    text: &mut Bytes,
+    alloc: Global,
+    net: &Network,
+    layout: &Layout,
+) -> Result<(), NoMemory>
+    ensures { OnOk result (text.new ≡ text.old ++ drawn_nodes net.now.nodes layout.now.nodes) }
+{
+    put_nodes(text, alloc, net.nodes().items(), layout.nodes.items())
+}
+
+/// Puts what is drawn by a layout last.
+fn put_drawn(
+    text: &mut Bytes,
+    alloc: Global,
+    network: &[u8],
+    instance: &Instance,
+    plan: &Plan,
+    state: u32,
+    rows: &List<LinkRow>,
+    layout: &Layout,
+) -> Result<(), NoMemory>
+    ensures { OnOk result (text.new ≡ text.old
+        ++ picture_text network.now (known_of instance.now.net.now instance.now.states.now) plan.now state rows.now layout.now) }
+{
+    put_state_beginning(text, alloc, network, instance.states, state)?;
+    put_plan_changes(text, layout, plan, state)?;
+    put_state_links(text, alloc, instance, layout, state, rows)?;
+    put_network_nodes(text, alloc, instance.net, layout)?;
+    put_ending(text, layout.is_map, state > 0)
+}
+
+/// Puts the picture of a plan last, in one state, of which 0 is the one without failures. The plan is one that a check accepted, the network is
+/// called by this name, and its nodes stand at these places; where one has none, all of them stand on a circle.
+///
+/// It takes time in the links of all paths times the number of links and in the square of these, and memory for the picture and a row of each link.
+pub fn put_picture(
+    text: &mut Bytes,
+    alloc: Global,
+    network: &[u8],
+    places: &[Option<Place>],
+    instance: &Instance,
+    plan: &Plan,
+    state: u32,
+) -> Result<(), NoMemory>
+    requires { IsSoundPlan (case_of instance.now) plan.now }
+    ensures { OnOk result (AddsText (IsPicture network.now (case_of instance.now) plan.now state) text.old text.new) }
+{
+    let rows = link_rows(alloc, instance, plan)?;
+    let layout = layout(alloc, places, instance, &rows)?;
+    put_drawn(text, alloc, network, instance, plan, state, &rows, &layout)
+}
