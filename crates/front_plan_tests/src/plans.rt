@@ -1,0 +1,177 @@
+use check_answers::Status;
+use front_plans::{PlanAnswer, plan_for_people};
+use front_views::view_report;
+use net_core::{Bytes, Module, Problem};
+use outside_io::OpenGate;
+use std::alloc::Global;
+use std::sync::Wait;
+use std::thread::Threads;
+use view_forms::ViewForm;
+use worked_networks::{DemandRow, LinkRow, TEN, network, problem};
+
+/// A module that costs nothing.
+const FREE: [Module; 1] = [Module {
+    capacity: 10000,
+    cost: 0,
+}];
+
+/// A module of 10.00 for 5.00.
+const FIVE: [Module; 1] = [Module {
+    capacity: 10000,
+    cost: 5000,
+}];
+
+/// A number of nodes, links, each of which may fail, demands, how many splits somebody says, and what is answered with a report for programs:
+/// a status, how its text begins, and the message.
+type AnswerRow = (
+    usize,
+    &'static [LinkRow<'static>],
+    &'static [DemandRow],
+    Option<u32>,
+    Status,
+    &'static [u8],
+    &'static [u8],
+);
+
+/// How a report begins.
+const HEAD: &[u8] = b"?planner report; version: 1\n";
+
+/// The first block of the view of the triangle's plan.
+const BLOCK: &[u8] = b"n.txt   3 nodes, 3 links, 1 demand of 12.000; 3 failures, all survived
+
+  cost        30.000   cheapest (branch tree of 1 box)
+  at least    20.000   by one certificate of cuts; gap 33.3 %
+  fractional  18.000   no certificate of cuts gives more
+";
+
+/// What is said of the bridge.
+const SEPARATED: &[u8] = b"n.txt: there is no plan, since some demands can't be carried
+  where d fails, no path joins the ends of demand A
+  where d fails, no path joins the ends of demand C
+not survivable: state 4 d demand A
+";
+
+/// What is said of the free module.
+const COSTS_NOTHING: &[u8] = b"n.txt: a module of link b costs nothing
+  a plan is shown to be cheap only where each module costs something; give it a cost, as 0.001
+refused network free-module at 0
+";
+
+/// A bridge that two of three demands cross; a link whose module costs nothing; and the triangle, of which each link needs two modules: those of
+/// a and b where c fails, and those of c where a fails. Its certificate has half of the cut of two links that asks for 24.00 in the last state,
+/// and half of one that asks for 12.00. The root of its tree alone shows that each link needs two modules.
+const ANSWERS: [AnswerRow; 4] = [
+    (
+        4,
+        &[
+            (0, 1, 0, &TEN),
+            (1, 2, 0, &TEN),
+            (0, 2, 0, &TEN),
+            (2, 3, 0, &TEN),
+        ],
+        &[(0, 3, 12000), (0, 1, 5000), (3, 1, 2000)],
+        None,
+        Status::NotSurvivable,
+        b"",
+        SEPARATED,
+    ),
+    (
+        2,
+        &[(0, 1, 0, &FIVE), (0, 1, 0, &FREE)],
+        &[(0, 1, 12000)],
+        None,
+        Status::BadNetwork,
+        b"",
+        COSTS_NOTHING,
+    ),
+    (
+        3,
+        &[(0, 1, 0, &FIVE), (1, 2, 0, &FIVE), (0, 2, 0, &FIVE)],
+        &[(0, 2, 12000)],
+        None,
+        Status::Done,
+        HEAD,
+        BLOCK,
+    ),
+    (
+        3,
+        &[(0, 1, 0, &FIVE), (1, 2, 0, &FIVE), (0, 2, 0, &FIVE)],
+        &[(0, 2, 12000)],
+        Some(0),
+        Status::Done,
+        HEAD,
+        BLOCK,
+    ),
+];
+
+/// The problem of a row.
+fn problem_of(alloc: Global, row: &AnswerRow) -> Option<Problem> {
+    let net = network(alloc, row.0, row.1).ok()?;
+    problem(alloc, net, row.2).ok()
+}
+
+/// What is answered to a row, as a report or as a view.
+fn answer<R: Threads + Wait + Sync>(
+    rt: &R,
+    alloc: Global,
+    problem: &Problem,
+    splits: u32,
+    wanted: bool,
+) -> Option<PlanAnswer> {
+    let splits = if splits <= 9999 { Some(splits) } else { None };
+    plan_for_people(rt, alloc, b"n.txt", problem, splits, wanted, &OpenGate).ok()
+}
+
+/// Whether an answer has the status and the message of a row, and a text that begins as its does, and has one only there.
+fn is_as_in(answer: &PlanAnswer, row: &AnswerRow) -> bool {
+    answer.status == row.4
+        && answer.message.items() == row.6
+        && answer.text.items().starts_with(row.5)
+        && (answer.text.len() > 0) == (row.5.len() > 0)
+}
+
+/// Whether the answer to a row is as wanted.
+fn is_right<R: Threads + Wait + Sync>(rt: &R, alloc: Global, row: &AnswerRow) -> bool {
+    let Some(problem) = problem_of(alloc, row) else {
+        return false;
+    };
+    match answer(rt, alloc, &problem, row.3.unwrap_or(10000), true) {
+        Some(answer) => is_as_in(&answer, row),
+        None => false,
+    }
+}
+
+/// The first row whose answer is another one.
+fn first_wrong<R: Threads + Wait + Sync>(rt: &R, alloc: Global) -> Option<usize> {
+    for i in 0..ANSWERS.len() {
+        if !is_right(rt, alloc, &ANSWERS[i]) {
+            return Some(i);
+        }
+    }
+    None
+}
+
+/// The view of a report that was printed: a check accepts it, and its tree holds.
+fn viewed(alloc: Global, problem: &Problem, report: &[u8]) -> Option<Bytes> {
+    view_report(alloc, "n.txt", "r.txt", problem, report, ViewForm::Tables).ok()
+}
+
+/// Whether the report of a row's plan is accepted, and its view is the one that is printed without a report.
+fn is_viewed<R: Threads + Wait + Sync>(rt: &R, alloc: Global, row: &AnswerRow) -> Option<bool> {
+    let problem = problem_of(alloc, row)?;
+    let report = answer(rt, alloc, &problem, 0, true)?;
+    let view = answer(rt, alloc, &problem, 0, false)?;
+    let read = viewed(alloc, &problem, report.text.items())?;
+    Some(read.items() == view.text.items() && view.message.len() == 0)
+}
+
+#[test]
+fn plans_for_people_are_told(rt: HostRuntime) {
+    let wrong = first_wrong(&rt, rt.alloc());
+    assert!(rt; wrong.is_none(), "row {}", wrong.unwrap_or(0));
+}
+
+#[test]
+fn reports_are_accepted(rt: HostRuntime) {
+    assert!(rt; is_viewed(&rt, rt.alloc(), &ANSWERS[2]) == Some(true));
+}

@@ -1,0 +1,18 @@
+//! A plan for people: what they read of it, or its report, and what is said where there is none.
+//!
+//! ```text
+//! let answer = plan_for_people(&rt, alloc, b"net.txt", &problem, None, false, &gate)?;
+//! // Done with the tables of the plan, or NotSurvivable with a message that names each demand that can't be carried
+//! ```
+#![tactic(auto)]
+
+mod answer;
+mod free;
+mod planned;
+mod plans;
+mod separated;
+mod splits;
+
+pub use answer::PlanAnswer;
+pub use plans::plan_for_people;
+pub use splits::default_splits;

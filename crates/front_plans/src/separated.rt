@@ -1,0 +1,95 @@
+ghost use Rattle.std.specs.Prelude.{◌≡◌, ◌++◌, ◌∷◌, [], IfOk, OnOk, codes, decimal};
+ghost use Rattle.plan_terms.specs.Terms.{case_of};
+ghost use Rattle.plan_report.specs.Terms.{state_name};
+ghost use Rattle.lone_plan.specs.LonePlans.{IsSeparationOf};
+ghost use Rattle.check_answers.specs.declared.status.Status.{Status};
+ghost use Rattle.front_plans.specs.FrontPlans.{SaysSeparations, separated_words};
+
+use crate::answer::PlanAnswer;
+use check_answers::Status;
+use net_core::{Bytes, Instance, List, NoMemory, StateId};
+use separation_texts::{put_separations, separations, state_name};
+use std::alloc::Global;
+use text_kit::write::put_decimal;
+
+/// Puts what is said before the lines of the separations last.
+fn put_words(text: &mut Bytes, network: &[u8]) -> Result<(), NoMemory>
+    ensures { OnOk result (text.new ≡ text.old ++ separated_words network.now) }
+{
+    text.append(network)?;
+    text.append(b": there is no plan, since some demands can't be carried\n")
+}
+
+/// The planner's line of a demand that a state of this name separates.
+fn separated_line(
+    alloc: Global,
+    state: StateId,
+    name: &[u8],
+    demand: &[u8],
+) -> Result<Bytes, NoMemory>
+    ensures { IfOk result (λ text. text ≡ codes "not survivable: state " ++ decimal state.0 ++ 32 ∷ name.now ++ codes " demand " ++ demand.now ++ 10 ∷ []) }
+{
+    let mut text = List::new(alloc);
+    text.append(b"not survivable: state ")?;
+    put_decimal(&mut text, state.0 as u128)?;
+    text.append(b" ")?;
+    text.append(name)?;
+    text.append(b" demand ")?;
+    text.append(demand)?;
+    text.append(b"\n")?;
+    Ok(text)
+}
+
+/// Puts the planner's line of the first separation last.
+fn put_line(
+    text: &mut Bytes,
+    alloc: Global,
+    instance: &Instance,
+    state: StateId,
+    demand: &[u8],
+) -> Result<(), NoMemory>
+    ensures { OnOk result (text.new ≡ text.old ++ (codes "not survivable: state " ++ decimal state.0 ++ 32
+        ∷ state_name instance.now.states.now.listed state.0 ++ codes " demand " ++ demand.now ++ 10 ∷ [])) }
+{
+    let name = state_name(instance.states.listed().items(), state);
+    let line = separated_line(alloc, state, name, demand)?;
+    text.append(line.items())
+}
+
+/// What is said of an instance of which this state and this demand are the first separation.
+fn separated_text(
+    alloc: Global,
+    network: &[u8],
+    instance: &Instance,
+    state: StateId,
+    demand: &[u8],
+) -> Result<Bytes, NoMemory>
+    requires { IsSeparationOf (case_of instance.now) state.0 demand.now }
+    ensures { IfOk result (SaysSeparations network.now (case_of instance.now)) }
+{
+    let found = separations(alloc, instance)?;
+    let mut text = List::new(alloc);
+    put_words(&mut text, network)?;
+    put_separations(&mut text, instance, found.items())?;
+    put_line(&mut text, alloc, instance, state, demand)?;
+    Ok(text)
+}
+
+/// The answer of an instance that has no plan, of which this state and this demand are the first separation.
+pub(crate) fn separated_answer(
+    alloc: Global,
+    network: &[u8],
+    instance: &Instance,
+    state: StateId,
+    demand: &[u8],
+) -> Result<PlanAnswer, NoMemory>
+    requires { IsSeparationOf (case_of instance.now) state.0 demand.now }
+    ensures { IfOk result (λ a. (a.status ≡ Status.NotSurvivable) × (a.text ≡ []) × SaysSeparations network.now (case_of instance.now) a.message) }
+{
+    let message = separated_text(alloc, network, instance, state, demand)?;
+    Ok(PlanAnswer {
+        status: Status::NotSurvivable,
+        text: List::new(alloc),
+        message,
+    })
+}
