@@ -1,6 +1,8 @@
 -- the command that words ask for
 use Rattle.front_files.specs.FrontInputs.{named_case}
 use Rattle.front_words.specs.Fronts as fronts
+use Rattle.front_words.specs.declared.words.FormWords.{FormWords}
+use Rattle.front_words.specs.declared.words.FormWords.TheVariants.{Picture, Tables, Values, State}
 use Rattle.front_words.specs.declared.words.FrontWords.{FrontWords}
 use Rattle.front_words.specs.declared.words.FrontWords.TheVariants.{Help, Version, Failures, View, Plan}
 use Rattle.front_words.specs.declared.words.PlanRequest.{PlanRequest}
@@ -9,10 +11,17 @@ use Rattle.front_words.specs.declared.words.PlanRequest.{PlanRequest}
 abbrev pub asked_plan : PlanRequest → fronts.AskedPlan
 asked_plan plan = record { case = named_case plan.case; splits = plan.splits; report = plan.report; quiet = plan.quiet }
 
+-- the form that is asked for
+abbrev pub asked_form : FormWords → fronts.AskedForm
+asked_form Tables = fronts.Tables
+asked_form (Values sheet) = fronts.Values sheet
+asked_form (State name) = fronts.State name.now
+asked_form (Picture name) = fronts.Picture name.now
+
 -- the command that is asked for
 abbrev pub asked_front : FrontWords → fronts.FrontCommand
 asked_front Help = fronts.Help
 asked_front Version = fronts.Version
 asked_front (Failures network) = fronts.Failures network.now
-asked_front (View view) = fronts.View (named_case view.case) view.report.now
+asked_front (View view) = fronts.View (named_case view.case) view.report.now (asked_form view.form)
 asked_front (Plan plan) = fronts.Plan (asked_plan plan)

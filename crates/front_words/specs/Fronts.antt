@@ -4,6 +4,8 @@ use Rattle.std.specs.Global.{Global}
 use Rattle.std.specs.Str.Parse.{IsNumeral, digits_value}
 use Rattle.input_files.specs.InputWords.{default}
 use Rattle.front_files.specs.FrontInputs.{CaseWords}
+use Rattle.view_csv.specs.declared.sheet.Sheet.{Sheet}
+use Rattle.view_csv.specs.declared.sheet.Sheet.TheVariants.{Links, States, Flows}
 use Rattle.front_words.specs.GivenWords.{AreRead, GivenOption, TakesOptions, value_given}
 
 -- what a plan is asked for: the case of these files, how many splits its branch tree has at most where somebody says, whether the report is to be
@@ -14,13 +16,20 @@ pub record AskedPlan : Type 0 where
   pub report : Bool
   pub quiet : Bool
 
+-- the form of a view: tables, a sheet, the state of this name, or a picture of it
+pub data AskedForm : Type 0 where
+  Tables : AskedForm
+  Values : Sheet → AskedForm
+  State : List ℕ → AskedForm
+  Picture : List ℕ → AskedForm
+
 -- how the program is used, which version it is, the failure list of a network's file, the view of the report in a file, of plans for
--- the case of other files, or a plan
+-- the case of other files, in a form, or a plan
 pub data FrontCommand : Type 0 where
   Help : FrontCommand
   Version : FrontCommand
   Failures : List ℕ → FrontCommand
-  View : CaseWords → List ℕ → FrontCommand
+  View : CaseWords → List ℕ → AskedForm → FrontCommand
   Plan : AskedPlan → FrontCommand
 
 -- ---- what words name
@@ -57,11 +66,39 @@ abbrev pub NamesSplits : Option (List ℕ) → Option ℕ → Type 0
 NamesSplits None splits = splits ≡ None
 NamesSplits (Some word) splits = (n : ℕ) × (splits ≡ Some n) × IsSplitsWord word n × (n ≤ 9999)
 
+-- the word names this sheet
+abbrev pub NamesSheet : List ℕ → Sheet → Type 0
+NamesSheet word Links = word ≡ codes "links"
+NamesSheet word States = word ≡ codes "states"
+NamesSheet word Flows = word ≡ codes "flows"
+
+-- The value of `--csv` names the sheet of this form, or that of `--state` its state; both aren't given, and with neither it is that of tables.
+abbrev pub NamesForm : Option (List ℕ) → Option (List ℕ) → AskedForm → Type 0
+NamesForm None None form = form ≡ Tables
+NamesForm (Some word) None form = (sheet : Sheet) × (form ≡ Values sheet) × NamesSheet word sheet
+NamesForm None (Some name) form = form ≡ State name
+NamesForm (Some word) (Some name) form = ⊥
+
+-- the form is a picture of the state that the value of `--state` names, and without the option of the one without failures
+abbrev pub NamesPicture : Option (List ℕ) → AskedForm → Type 0
+NamesPicture None form = form ≡ Picture (codes "none")
+NamesPicture (Some name) form = form ≡ Picture name
+
+-- With `--svg` the form is a picture, for which no sheet is named; without it, it is what `--csv` and `--state` name.
+abbrev pub NamesAnyForm : Option (List ℕ) → Option (List ℕ) → Option (List ℕ) → AskedForm → Type 0
+NamesAnyForm None csv state form = NamesForm csv state form
+NamesAnyForm (Some flag) csv state form = (csv ≡ None) × NamesPicture state form
+
+-- the options of a view name this form
+abbrev pub NamesViewForm : List GivenOption → AskedForm → Type 0
+NamesViewForm options form =
+    NamesAnyForm (value_given options (codes "--svg")) (value_given options (codes "--csv")) (value_given options (codes "--state")) form
+
 -- ---- commands
 
 -- the options of a view
 abbrev pub view_options : List (List ℕ)
-view_options = codes "--model" ∷ codes "--failures" ∷ codes "--survive" ∷ []
+view_options = codes "--model" ∷ codes "--failures" ∷ codes "--survive" ∷ codes "--csv" ∷ codes "--state" ∷ codes "--svg" ∷ []
 
 -- the options of a plan
 abbrev pub plan_options : List (List ℕ)
@@ -72,7 +109,7 @@ abbrev pub IsLoneWord : List ℕ → FrontCommand → Type 0
 IsLoneWord word Help = (word ≡ codes "help") ⊎ (word ≡ codes "--help")
 IsLoneWord word Version = word ≡ codes "--version"
 IsLoneWord word (Failures network) = ⊥
-IsLoneWord word (View w report) = ⊥
+IsLoneWord word (View w report form) = ⊥
 IsLoneWord word (Plan asked) = ⊥
 
 -- a network's word and options ask for this plan
@@ -88,18 +125,22 @@ abbrev pub IsOfNetwork : List ℕ → List ℕ → List GivenOption → FrontCom
 IsOfNetwork name word options Help = ⊥
 IsOfNetwork name word options Version = ⊥
 IsOfNetwork name word options (Failures network) = (name ≡ codes "failures") × TakesOptions [] options × NamesFile word network
-IsOfNetwork name word options (View w report) = ⊥
+IsOfNetwork name word options (View w report form) = ⊥
 IsOfNetwork name word options (Plan asked) = (name ≡ codes "plan") × TakesOptions plan_options options × AsksPlan word options asked
+
+-- a network, a report and options are this view
+abbrev pub IsViewOf : List ℕ → List ℕ → List GivenOption → FrontCommand → Type 0
+IsViewOf network word options Help = ⊥
+IsViewOf network word options Version = ⊥
+IsViewOf network word options (Failures file) = ⊥
+IsViewOf network word options (View w report form) = NamesCase network options w × NamesViewForm options form × NamesFile word report
+IsViewOf network word options (Plan asked) = ⊥
 
 -- a command's name, a network and a report, which aren't both standard input, and options are this command
 abbrev pub IsOfReport : List ℕ → List ℕ → List ℕ → List GivenOption → FrontCommand → Type 0
-IsOfReport name network word options Help = ⊥
-IsOfReport name network word options Version = ⊥
-IsOfReport name network word options (Failures file) = ⊥
-IsOfReport name network word options (View w report) =
+IsOfReport name network word options c =
     (name ≡ codes "view") × TakesOptions view_options options × ((network ≡ codes "-") × (word ≡ codes "-") → ⊥)
-    × NamesCase network options w × NamesFile word report
-IsOfReport name network word options (Plan asked) = ⊥
+    × IsViewOf network word options c
 
 -- names and options are this command
 abbrev pub IsOfParts : List (List ℕ) → List GivenOption → FrontCommand → Type 0

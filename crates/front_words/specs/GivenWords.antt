@@ -12,12 +12,13 @@ is_plain_word word = nat_le (length word) 1 || not (slice_index word 0 == 45)
 
 -- the options that have no value
 abbrev pub is_flag : List ℕ → Bool
-is_flag word = bytes_eq word (codes "--report") || bytes_eq word (codes "--quiet")
+is_flag word = bytes_eq word (codes "--report") || bytes_eq word (codes "--quiet") || bytes_eq word (codes "--svg")
 
 -- the options of which the word after them is the value
 abbrev pub is_valued : List ℕ → Bool
 is_valued word =
-    bytes_eq word (codes "--model") || (bytes_eq word (codes "--failures") || (bytes_eq word (codes "--survive") || bytes_eq word (codes "--splits")))
+    bytes_eq word (codes "--model") || (bytes_eq word (codes "--failures") || (bytes_eq word (codes "--survive")
+    || (bytes_eq word (codes "--splits") || (bytes_eq word (codes "--csv") || bytes_eq word (codes "--state")))))
 
 -- what an option is to the word after it
 abbrev pub option_kind : List ℕ → WordKind

@@ -1,20 +1,29 @@
-ghost use Rattle.std.specs.Prelude.{◌≡◌, ◌≤◌, ◌<◌, ◌^◌, ◌↔◌, ◌∷◌, [], ℕ, Bool, List, Option, None, IfOk, IfSome, IsTrue, MatchOption, is_some, map, option_map, string_bytes};
+ghost use Rattle.std.specs.Prelude.{◌≡◌, ◌≤◌, ◌<◌, ◌^◌, ◌↔◌, ◌∷◌, [], ℕ, Bool, List, Option, None, IfOk, IfSome, IsTrue, MatchOption, codes, is_some, map, option_map, string_bytes};
 ghost use Rattle.front_files.specs.FrontInputs.{CaseWords, named_case};
-ghost use Rattle.front_words.specs.Fronts.{AskedPlan, AsksPlan, FrontCommand, IsFrontCommand, IsGiven, IsLoneWord, IsOfNetwork, IsOfParts, IsOfReport, IsSplitsWord, NamesCase, NamesFile, NamesOption, NamesSplits, NamesSurvival, plan_options, view_options};
+ghost use Rattle.front_words.specs.Fronts.{AskedForm, AskedPlan, AsksPlan, FrontCommand, IsFrontCommand, IsGiven, IsLoneWord, IsOfNetwork, IsOfParts, IsOfReport, IsSplitsWord, IsViewOf, NamesCase, NamesAnyForm, NamesFile, NamesForm, NamesOption, NamesPicture, NamesSheet, NamesSplits, NamesSurvival, NamesViewForm, plan_options, view_options};
+ghost use Rattle.view_csv.specs.declared.sheet.Sheet.{Sheet};
 ghost use Rattle.front_words.specs.GivenWords.{TakesOptions};
-ghost use Rattle.front_words.specs.AskedFronts.{asked_front, asked_plan};
+ghost use Rattle.front_words.specs.AskedFronts.{asked_form, asked_front, asked_plan};
 ghost use Rattle.front_words.specs.inner.Causes.{given_names, given_option, given_options};
 
 use crate::given::{Given, OptionValue, given_by};
 use crate::options::{takes_options, value_given};
-use crate::words::{FrontWords, PlanRequest, ViewWords};
+use crate::words::{FormWords, FrontWords, PlanRequest, ViewWords};
 use front_files::CaseFiles;
 use input_files::{DEFAULT, PlanFiles};
 use net_core::NoMemory;
 use std::alloc::Global;
+use view_csv::Sheet;
 
 /// The options of a view.
-const VIEW_OPTIONS: [&str; 3] = ["--model", "--failures", "--survive"];
+const VIEW_OPTIONS: [&str; 6] = [
+    "--model",
+    "--failures",
+    "--survive",
+    "--csv",
+    "--state",
+    "--svg",
+];
 
 /// The options of a plan.
 const PLAN_OPTIONS: [&str; 6] = [
@@ -132,6 +141,77 @@ fn splits_of(option: Option<&str>) -> Option<Option<u32>>
     }
 }
 
+/// The sheet that a word names.
+fn sheet_word(word: &str) -> Option<Sheet>
+    ensures { MatchOption result ((s : Sheet) → NamesSheet word.now s → ⊥) (λ s. NamesSheet word.now s) }
+{
+    if is_word(word, "links") {
+        return Some(Sheet::Links);
+    }
+    if is_word(word, "states") {
+        return Some(Sheet::States);
+    }
+    if is_word(word, "flows") {
+        return Some(Sheet::Flows);
+    }
+    None
+}
+
+/// The form of a view, by the sheet or the state that is asked for; none where there is no such sheet, or where both are asked for.
+fn form_of<'w>(csv: Option<&'w str>, state: Option<&'w str>) -> Option<FormWords<'w>>
+    ensures { MatchOption result ((f : AskedForm) → NamesForm (option_map (λ w. w.now) csv.entry) (option_map (λ w. w.now) state.entry) f → ⊥)
+        (λ f. NamesForm (option_map (λ w. w.now) csv.entry) (option_map (λ w. w.now) state.entry) (asked_form f)) }
+{
+    match (csv, state) {
+        (None, None) => Some(FormWords::Tables),
+        (Some(word), None) => {
+            let sheet = sheet_word(word)?;
+            Some(FormWords::Values(sheet))
+        }
+        (None, Some(name)) => Some(FormWords::State(name)),
+        (Some(_sheet), Some(_state)) => None,
+    }
+}
+
+/// The picture of the state that is asked for; without one, of the state without failures.
+fn picture_of(state: Option<&str>) -> FormWords<'_>
+    ensures { NamesPicture (option_map (λ w. w.now) state.entry) (asked_form result) }
+{
+    match state {
+        Some(name) => FormWords::Picture(name),
+        None => FormWords::Picture("none"),
+    }
+}
+
+/// The form of a view, by its options; none where they name no form, or more than one.
+fn any_form<'w>(
+    svg: Option<&str>,
+    csv: Option<&'w str>,
+    state: Option<&'w str>,
+) -> Option<FormWords<'w>>
+    ensures { MatchOption result ((f : AskedForm) → NamesAnyForm (option_map (λ w. w.now) svg.entry) (option_map (λ w. w.now) csv.entry)
+        (option_map (λ w. w.now) state.entry) f → ⊥)
+        (λ f. NamesAnyForm (option_map (λ w. w.now) svg.entry) (option_map (λ w. w.now) csv.entry) (option_map (λ w. w.now) state.entry)
+        (asked_form f)) }
+{
+    match (svg, csv) {
+        (None, _) => form_of(csv, state),
+        (Some(_flag), None) => Some(picture_of(state)),
+        (Some(_flag), Some(_sheet)) => None,
+    }
+}
+
+/// The form of a view that options ask for; none where they name no form, or more than one.
+fn view_form<'w>(options: &[OptionValue<'w>]) -> Option<FormWords<'w>>
+    ensures { MatchOption result ((f : AskedForm) → NamesViewForm (map given_option options.now) f → ⊥)
+        (λ f. NamesViewForm (map given_option options.now) (asked_form f)) }
+{
+    let svg = value_given(options, "--svg");
+    let csv = value_given(options, "--csv");
+    let state = value_given(options, "--state");
+    any_form(svg, csv, state)
+}
+
 /// The plan that a network's word and options ask for.
 fn asked_plan<'w>(network: &'w str, options: &[OptionValue<'w>]) -> Option<PlanRequest<'w>>
     ensures { MatchOption result ((p : AskedPlan) → AsksPlan network.now (map given_option options.now) p → ⊥)
@@ -179,6 +259,38 @@ fn network_command<'w>(
     None
 }
 
+/// The view of a report that a network, a report and options ask for.
+fn view_command<'w>(
+    network: &'w str,
+    report: &'w str,
+    options: &[OptionValue<'w>],
+) -> Option<FrontWords<'w>>
+    ensures { MatchOption result ((c : FrontCommand) → IsViewOf network.now report.now (map given_option options.now) c → ⊥)
+        (λ c. IsViewOf network.now report.now (map given_option options.now) (asked_front c)) }
+{
+    let case = case_of(network, options)?;
+    let form = view_form(options)?;
+    Some(FrontWords::View(ViewWords {
+        case,
+        report: file_of_word(report),
+        form,
+    }))
+}
+
+/// Whether a command's name is that of a view, which takes these options.
+fn is_view(name: &str, options: &[OptionValue]) -> bool
+    ensures { IsTrue result ↔ ((name.now ≡ codes "view") × TakesOptions view_options (map given_option options.now)) }
+{
+    is_word(name, "view") && takes_options(options, &VIEW_OPTIONS)
+}
+
+/// Whether two words are both standard input.
+fn are_both_input(network: &str, report: &str) -> bool
+    ensures { IsTrue result ↔ ((network.now ≡ codes "-") × (report.now ≡ codes "-")) }
+{
+    is_word(network, "-") && is_word(report, "-")
+}
+
 /// The command that a name, a network, a report and options are.
 fn report_command<'w>(
     name: &str,
@@ -189,17 +301,13 @@ fn report_command<'w>(
     ensures { MatchOption result ((c : FrontCommand) → IsOfReport name.now network.now report.now (map given_option options.now) c → ⊥)
         (λ c. IsOfReport name.now network.now report.now (map given_option options.now) (asked_front c)) }
 {
-    if !is_word(name, "view") || !takes_options(options, &VIEW_OPTIONS) {
-        return None;
+    if is_view(name, options) {
+        if are_both_input(network, report) {
+            return None;
+        }
+        return view_command(network, report, options);
     }
-    if is_word(network, "-") && is_word(report, "-") {
-        return None;
-    }
-    let case = case_of(network, options)?;
-    Some(FrontWords::View(ViewWords {
-        case,
-        report: file_of_word(report),
-    }))
+    None
 }
 
 /// The command that names and options are.

@@ -36,7 +36,7 @@ fn is_plain_word(word: &str) -> bool
 fn is_flag(word: &str) -> bool
     ensures { result ≡ is_flag word.now }
 {
-    same_words(word, "--report") || same_words(word, "--quiet")
+    same_words(word, "--report") || same_words(word, "--quiet") || same_words(word, "--svg")
 }
 
 /// Whether a word is an option whose value is the next word.
@@ -47,6 +47,8 @@ fn is_valued(word: &str) -> bool
         || same_words(word, "--failures")
         || same_words(word, "--survive")
         || same_words(word, "--splits")
+        || same_words(word, "--csv")
+        || same_words(word, "--state")
 }
 
 /// What an option is to the word after it.

@@ -2,6 +2,7 @@ ghost use Rattle.std.specs.Prelude.{◌≤◌};
 ghost use Rattle.std.specs.Option.{option_map_or};
 
 use front_files::CaseFiles;
+use view_csv::Sheet;
 
 /// What a run is asked for.
 #[derive(Clone, Copy)]
@@ -18,11 +19,25 @@ pub enum FrontWords<'w> {
     Plan(PlanRequest<'w>),
 }
 
-/// The files of a view, by their names.
+/// The form of a view.
+#[derive(Clone, Copy)]
+pub enum FormWords<'w> {
+    /// As tables.
+    Tables,
+    /// As a sheet.
+    Values(Sheet),
+    /// One state, by its name.
+    State(&'w str),
+    /// A picture of one state, by its name.
+    Picture(&'w str),
+}
+
+/// The files of a view, by their names, and its form.
 #[derive(Clone, Copy)]
 pub struct ViewWords<'w> {
     pub case: CaseFiles<'w>,
     pub report: &'w str,
+    pub form: FormWords<'w>,
 }
 
 /// A plan that is asked for.
