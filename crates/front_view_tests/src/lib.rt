@@ -2,6 +2,10 @@
 #![tactic(auto)]
 
 #[cfg(test)]
+mod forms;
+#[cfg(test)]
+mod pictures;
+#[cfg(test)]
 mod texts;
 #[cfg(test)]
 mod views;

@@ -4,6 +4,7 @@ use front_files::Halt;
 use front_views::view_report;
 use net_core::{Bytes, List, NoMemory, Problem};
 use std::alloc::Global;
+use view_forms::ViewForm;
 use worked_networks::{problem, triangle};
 
 /// A report, the lines below it with one of them replaced by another, and what that comes to: a status, and the message, or a part of the view.
@@ -195,7 +196,7 @@ refused report unknown-name at 292
 ];
 
 /// The triangle of links AB, BC and AC with modules of 10.00 for 5.00, a demand of 12.00 from A to C, and the failure of each link alone.
-fn worked(alloc: Global) -> Option<Problem> {
+pub(crate) fn worked(alloc: Global) -> Option<Problem> {
     problem(alloc, triangle(alloc, 0).ok()?, &[(0, 2, 12000)]).ok()
 }
 
@@ -227,7 +228,14 @@ fn has_part(text: &[u8], part: &[u8]) -> bool {
 fn comes_to(alloc: Global, row: &Row) -> Option<bool> {
     let p = worked(alloc)?;
     let text = text_of(alloc, row).ok()?;
-    match view_report(alloc, "data/triangle.txt", "report", &p, text.items()) {
+    match view_report(
+        alloc,
+        "data/triangle.txt",
+        "report",
+        &p,
+        text.items(),
+        ViewForm::Tables,
+    ) {
         Ok(view) => Some(row.3 == Status::Done && has_part(view.items(), row.4.as_bytes())),
         Err(Halt::Told(told)) => {
             Some(told.status == row.3 && told.message.items() == row.4.as_bytes())

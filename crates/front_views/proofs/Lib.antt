@@ -4,4 +4,5 @@ pub mod SoundOutcomes
 mod TreesHeld
 mod TreesRead
 mod Findings
+mod Joined
 mod TreeWords

@@ -1,4 +1,5 @@
 pub mod AcceptedReports
 pub mod ProofLines
 pub mod ReportEnds
+pub mod StateForms
 pub mod Terms

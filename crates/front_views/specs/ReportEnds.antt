@@ -14,7 +14,8 @@ use Rattle.fault_texts.specs.Quotes.{note_text}
 use Rattle.fault_messages.specs.FindingMessages.{finding_message}
 use Rattle.fault_messages.specs.Notes.{AreReportNotes}
 use Rattle.fault_messages.specs.ReportMessages.{report_message}
-use Rattle.view_text.specs.Terms.{IsReportView}
+use Rattle.view_forms.specs.Terms.{HasForm}
+use Rattle.view_forms.specs.declared.form.ViewForm.{ViewForm}
 use Rattle.view_text.specs.declared.proof.CostProof.{CostProof}
 use Rattle.front_files.specs.Messages.{ShowsFault}
 use Rattle.front_views.specs.AcceptedReports.{IsAcceptedReport}
@@ -38,21 +39,21 @@ SaysFinding name p notes r finding message = (line : List ℕ) × IsJudged p not
 abbrev pub TellsFinding : List ℕ → Case → Notes → Report → List ℕ → Type 0
 TellsFinding name p notes r message = (outcome : ℕ) × (finding : Finding) × IsFirstOfReport notes p r outcome finding × SaysFinding name p notes r finding message
 
--- What an accepted report comes to, whose bytes these are: a message of the lines below it, or its view, with what they show.
-abbrev pub ViewsAccepted : List ℕ → List ℕ → Case → Report → List ℕ → Status → List ℕ → List ℕ → Type 0
-ViewsAccepted network name p r bytes status text message =
+-- What an accepted report comes to in a form, whose bytes these are: a message of the lines below it, or its view, with what they show.
+abbrev pub ViewsAccepted : ViewForm → List ℕ → List ℕ → Case → Report → List ℕ → Status → List ℕ → List ℕ → Type 0
+ViewsAccepted form network name p r bytes status text message =
     ((text ≡ []) × FailsAtLines name p r.outcomes bytes status message)
-    ⊎ ((status ≡ Done) × (message ≡ []) × ((proof : CostProof) × ReadsProof p r.outcomes bytes proof × IsReportView network p r.outcomes proof text))
+    ⊎ ((status ≡ Done) × (message ≡ []) × ((proof : CostProof) × ReadsProof p r.outcomes bytes proof × HasForm form network p r.outcomes proof text))
 
 -- what a report comes to: a message of its first finding, or it is accepted
-abbrev pub ViewsReport : List ℕ → List ℕ → Case → Notes → Report → List ℕ → Status → List ℕ → List ℕ → Type 0
-ViewsReport network name p notes r bytes status text message =
+abbrev pub ViewsReport : ViewForm → List ℕ → List ℕ → Case → Notes → Report → List ℕ → Status → List ℕ → List ℕ → Type 0
+ViewsReport form network name p notes r bytes status text message =
     ((status ≡ Rejected) × (text ≡ []) × TellsFinding name p notes r message)
-    ⊎ (IsAcceptedReport p notes r × ViewsAccepted network name p r bytes status text message)
+    ⊎ (IsAcceptedReport p notes r × ViewsAccepted form network name p r bytes status text message)
 
 -- What the bytes of a report's file come to: a message of their first fault, or what the report that they spell comes to. The view is of the
 -- network's file of the first name, and a message of the report's file of the second.
-abbrev pub EndsReport : List ℕ → List ℕ → Case → Notes → List ℕ → Status → List ℕ → List ℕ → Type 0
-EndsReport network name p notes bytes status text message =
+abbrev pub EndsReport : ViewForm → List ℕ → List ℕ → Case → Notes → List ℕ → Status → List ℕ → List ℕ → Type 0
+EndsReport form network name p notes bytes status text message =
     ((status ≡ BadReport) × (text ≡ []) × ShowsReportFault p name bytes message)
-    ⊎ ((r : Report) × SpellsReport (known_to p) bytes r × ViewsReport network name p notes r bytes status text message)
+    ⊎ ((r : Report) × SpellsReport (known_to p) bytes r × ViewsReport form network name p notes r bytes status text message)

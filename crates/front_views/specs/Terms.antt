@@ -2,3 +2,4 @@
 pub use Rattle.front_views.specs.AcceptedReports.{IsAcceptedReport}
 pub use Rattle.front_views.specs.ProofLines.{HasTreeLine, ReadsProof, SpellsPlanTree, proof_by, told_by}
 pub use Rattle.front_views.specs.ReportEnds.{EndsReport, ShowsReportFault, ViewsReport}
+pub use Rattle.front_views.specs.StateForms.{LacksState, NamesState, PicturesState}

@@ -1,7 +1,8 @@
 //! What the bytes of a report come to for people: its view once it is checked, or a message of what is wrong with it.
 //!
 //! ```text
-//! let text = view_report(alloc, "data/triangle.txt", "report.txt", &problem, bytes)?;   // of a report that was made for the problem
+//! // of a report that was made for the problem
+//! let text = view_report(alloc, "data/triangle.txt", "report.txt", &problem, bytes, ViewForm::Tables)?;
 //! // the tables of its plan; Halt::Told with Rejected where it has a finding, and with BadReport where the bytes spell no report
 //! ```
 #![tactic(auto)]
@@ -10,8 +11,10 @@ mod accepted;
 mod checking;
 mod plan_proof;
 mod reading;
+mod states;
 mod trees;
 mod views;
 
 pub use accepted::{put_accepted, put_accepted_block};
+pub use states::{picture_form, state_form};
 pub use views::view_report;

@@ -1,10 +1,11 @@
 ghost use Rattle.view_text.specs.Terms.{problem_case};
 ghost use Rattle.plan_report.specs.Terms.{IsReportInForm, known_of};
 ghost use Rattle.front_files.specs.Endings.{HasFrontCause};
+ghost use Rattle.view_forms.specs.Terms.{IsFormOf};
 ghost use Rattle.front_views.specs.AcceptedReports.{IsAcceptedReport};
 ghost use Rattle.front_views.specs.ReportEnds.{EndsReport, ViewsAccepted, ViewsReport};
 
-use crate::accepted::put_accepted;
+use crate::accepted::put_accepted_form;
 use crate::checking::accept;
 use crate::plan_proof::read_proof;
 use crate::reading::spelled_report;
@@ -12,6 +13,7 @@ use front_files::Halt;
 use net_core::{Bytes, List, Problem};
 use plan_types::Report;
 use std::alloc::Global;
+use view_forms::ViewForm;
 
 /// The view of an accepted report, whose bytes these are, with what the lines below it show.
 fn accepted_view(
@@ -21,13 +23,23 @@ fn accepted_view(
     problem: &Problem,
     report: &Report,
     bytes: &[u8],
+    form: ViewForm,
 ) -> Result<Bytes, Halt>
-    requires { IsAcceptedReport (problem_case problem.now) problem.now.net.notes report.now }
-    ensures { HasFrontCause (ViewsAccepted network.now name.now (problem_case problem.now) report.now bytes.now) result }
+    requires accepted { IsAcceptedReport (problem_case problem.now) problem.now.net.notes report.now }
+    requires form { IsFormOf (problem_case problem.now) form }
+    ensures { HasFrontCause (ViewsAccepted form.entry network.now name.now (problem_case problem.now) report.now bytes.now) result }
 {
     let proof = read_proof(alloc, name, problem, report.outcomes.items(), bytes)?;
     let mut text = List::new(alloc);
-    put_accepted(&mut text, alloc, network.as_bytes(), problem, report, proof)?;
+    put_accepted_form(
+        &mut text,
+        alloc,
+        network.as_bytes(),
+        problem,
+        report,
+        proof,
+        form,
+    )?;
     Ok(text)
 }
 
@@ -39,24 +51,27 @@ fn checked_view(
     problem: &Problem,
     report: &Report,
     bytes: &[u8],
+    form: ViewForm,
 ) -> Result<Bytes, Halt>
-    requires { IsReportInForm (known_of problem.now.net problem.now.states) report.now }
-    ensures { HasFrontCause (ViewsReport network.now name.now (problem_case problem.now) problem.now.net.notes report.now bytes.now) result }
+    requires known { IsReportInForm (known_of problem.now.net problem.now.states) report.now }
+    requires form { IsFormOf (problem_case problem.now) form }
+    ensures { HasFrontCause (ViewsReport form.entry network.now name.now (problem_case problem.now) problem.now.net.notes report.now bytes.now) result }
 {
     accept(alloc, name, problem, report)?;
-    accepted_view(alloc, network, name, problem, report, bytes)
+    accepted_view(alloc, network, name, problem, report, bytes, form)
 }
 
-/// The view of a report of plans for a problem, from the bytes of its file: the report is read and checked, and a branch tree below the report
-/// of a single plan, too. A network's file of the first name and a report's file of the second are named in the view and in a message.
+/// The view of a report of plans for a problem in a form, from the bytes of its file: the report is read and checked, and a branch tree below
+/// the report of a single plan, too. A network's file of the first name and a report's file of the second are named in the view and in a
+/// message.
 ///
 /// Where the bytes spell no report, or lines that begin as those of a branch tree spell none, it ends with `BadReport`; where the report has a
 /// finding, or the tree doesn't hold, with `Rejected`. Each message ends in a line for programs. Other comments are let be.
 ///
-/// It takes the time and the memory of `read_report`, `check_report` and `put_view`, and of `read_tree` and `check_tree` where there is a tree.
+/// It takes the time and the memory of `read_report`, `check_report` and `put_form`, and of `read_tree` and `check_tree` where there is a tree.
 ///
 /// ```text
-/// let text = view_report(alloc, "data/triangle.txt", "report.txt", &problem, bytes)?;
+/// let text = view_report(alloc, "data/triangle.txt", "report.txt", &problem, bytes, ViewForm::Tables)?;
 /// ```
 pub fn view_report(
     alloc: Global,
@@ -64,9 +79,11 @@ pub fn view_report(
     name: &str,
     problem: &Problem,
     bytes: &[u8],
+    form: ViewForm,
 ) -> Result<Bytes, Halt>
-    ensures { HasFrontCause (EndsReport network.now name.now (problem_case problem.now) problem.now.net.notes bytes.now) result }
+    requires { IsFormOf (problem_case problem.now) form }
+    ensures { HasFrontCause (EndsReport form.entry network.now name.now (problem_case problem.now) problem.now.net.notes bytes.now) result }
 {
     let report = spelled_report(alloc, problem, name, bytes)?;
-    checked_view(alloc, network, name, problem, &report, bytes)
+    checked_view(alloc, network, name, problem, &report, bytes, form)
 }

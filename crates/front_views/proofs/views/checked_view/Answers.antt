@@ -9,8 +9,8 @@ use Rattle.front_views.proofs.views.checked_view.Goals as goal
 pub returns : goal.returns
 returns c =
     let problem = c.args.problem.now in
-    front_map (ViewsAccepted c.args.network.now c.args.name.now (problem_case problem) c.args.report.now c.args.bytes.now)
-    (ViewsReport c.args.network.now c.args.name.now (problem_case problem) problem.net.notes c.args.report.now c.args.bytes.now)
+    front_map (ViewsAccepted c.args.form c.args.network.now c.args.name.now (problem_case problem) c.args.report.now c.args.bytes.now)
+    (ViewsReport c.args.form c.args.network.now c.args.name.now (problem_case problem) problem.net.notes c.args.report.now c.args.bytes.now)
     c.accepted_view.result (λ s text message ends. inr (c.in_ok-accept.ensures.accepted, ends)) c.accepted_view.ensures
 
 pub returns-in_err-accept : goal.returns-in_err-accept
@@ -20,5 +20,5 @@ returns-in_err-accept c =
     let p = problem_case problem in
     let r = c.args.report.now in
     rw (e.1, e.2) (halt_map (λ s message. (s ≡ Rejected) × TellsFinding c.args.name.now p problem.net.notes r message)
-    (λ s message. ViewsReport c.args.network.now c.args.name.now p problem.net.notes r c.args.bytes.now s [] message) c.in_err-accept.field-0.0
+    (λ s message. ViewsReport c.args.form c.args.network.now c.args.name.now p problem.net.notes r c.args.bytes.now s [] message) c.in_err-accept.field-0.0
     (λ s message tells. inl (tells.0, refl, tells.1)) c.in_err-accept.ensures.rejected)
