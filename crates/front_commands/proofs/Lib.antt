@@ -1,4 +1,5 @@
 pub mod Causing
 pub mod Nothing
+pub mod Planning
 pub mod Separated
 pub mod Viewing

@@ -4,33 +4,46 @@ use Rattle.std.specs.Global.{Global}
 use Rattle.plan_terms.specs.Terms.{Case, Demand, Network, Notes}
 use Rattle.outside_io.specs.Outside.{Fetches, Files, Rose, Takes, TakesPrefix}
 use Rattle.outside_io.specs.declared.shelf.Fetch.TheVariants as fetch
+use Rattle.outside_io.specs.declared.sink.Failed.{Failed}
+use Rattle.outside_io.specs.declared.sink.Failed.TheVariants.{DiskFull, Other}
 use Rattle.check_answers.specs.declared.status.Status.{Status}
 use Rattle.check_answers.specs.declared.status.Status.TheVariants.{BadNetwork, BadWords, Done, NoMemory, NotSurvivable, WriteFault}
 use Rattle.check_answers.specs.Separations.{NamesFirstSeparation}
 use Rattle.failure_texts.specs.FailureTexts.{IsFailureList}
 use Rattle.failure_texts.specs.Fates.{with_states}
 use Rattle.input_files.specs.Inputs.{Fetched, SpellsNetwork, input_limit, report_limit}
-use Rattle.front_words.specs.Fronts.{FrontCommand, Help, Version, Failures, View, Plan, IsFrontCommand}
+use Rattle.front_words.specs.Fronts as asked
+use Rattle.front_words.specs.Fronts.{AskedForm, AskedPlan, FrontCommand, Help, Version, Failures, View, Plan, IsFrontCommand}
 use Rattle.front_files.specs.FrontInputs.{CaseWords, EndsAfterCase}
 use Rattle.front_files.specs.Messages.{FailsAtFetch, FailsAtFile, ShowsNetworkFault}
-use Rattle.front_views.specs.Terms.{EndsReport}
+use Rattle.view_forms.specs.declared.form.ViewForm.{ViewForm}
+use Rattle.view_forms.specs.declared.form.ViewForm.TheVariants.{Tables, Values}
+use Rattle.front_views.specs.Terms.{EndsReport, LacksState, NamesState, PicturesState}
+use Rattle.front_plans.specs.FrontPlans.{EndsPlanForPeople}
 
 -- ---- texts of their own
 
 -- how the program is used
 abbrev pub help_text : List ℕ
 help_text =
-    codes "zorgwint helps people with the files of a capacity planning.\n"
+    codes "zorgwint plans link capacities for a network whose demands must be carried, and helps people with the files of it.\n"
     ++ codes "\n"
-    ++ codes "  zorgwint view NET REPORT [--model F] [--failures F] [--survive links]\n"
-    ++ codes "      tables of a report of plans for NET, which is checked first: what to buy, loads, failures, and what is known of the cost\n"
+    ++ codes "  zorgwint plan NET [--model F] [--failures F] [--survive links] [--splits N] [--report] [--quiet]\n"
+    ++ codes "      a plan for NET: what to buy, loads, failures, and how near to the cheapest it is; with --report the report that planner_top\n"
+    ++ codes "      checks and view reads, and the first lines of the tables beside it\n"
+    ++ codes "  zorgwint view NET REPORT [--model F] [--failures F] [--survive links] [--csv links|states|flows | --state NAME] [--svg]\n"
+    ++ codes "      tables of a report of plans for NET, which is checked first: what to buy, loads, failures, and what is known of the cost;\n"
+    ++ codes "      with --csv a sheet of comma-separated values, with a row for each link, state or flow; with --state the loads and paths of\n"
+    ++ codes "      one state, by its name; with --svg a picture of the first plan, in that state\n"
     ++ codes "  zorgwint failures NET\n"
     ++ codes "      a failure list of each single link that can fail without separating a demand; the others stand in comments\n"
     ++ codes "  zorgwint help | --help | --version\n"
     ++ codes "\n"
-    ++ codes "NET is the file of a network in SNDlib's native format, REPORT one that planner_top has written, and - is standard input.\n"
-    ++ codes "--model names a model, --failures a failure list; --survive links stands for a list of each single link, and no setup is\n"
-    ++ codes "charged without a model. Options stand in any place, each once. After -- no word is an option.\n"
+    ++ codes "NET is the file of a network in SNDlib's native format, REPORT one that plan --report or planner_top has written, and - is\n"
+    ++ codes "standard input. --model names a model, --failures a failure list; --survive links stands for a list of each single link, and no\n"
+    ++ codes "setup is charged without a model. --splits is how often a branch tree splits at most, from 0 to 9999: by default 100 times for up\n"
+    ++ codes "to 20 nodes, 10 for up to 40, and else 0. --quiet leaves out how far the planning is. Options stand in any place, each once.\n"
+    ++ codes "After -- no word is an option.\n"
     ++ codes "\n"
     ++ codes "Exit statuses: 0 done, 2 these words are no command, 3 a file isn't there, 4 reading failed, 5 writing failed,\n"
     ++ codes "6 the network is refused, 7 the model, 8 the failure list, 10 a demand is separated, 11 the report is wrong,\n"
@@ -44,15 +57,17 @@ version_text = codes "zorgwint 1\n"
 abbrev pub usage_message : List ℕ
 usage_message =
     codes "these words are no command; zorgwint --help tells which are\n"
-    ++ codes "usage: zorgwint view NET REPORT [--model F] [--failures F] [--survive links] | failures NET | help | --help | --version\n"
+    ++ codes "usage: zorgwint plan NET [--model F] [--failures F] [--survive links] [--splits N] [--report] [--quiet]\n"
+    ++ codes "       | view NET REPORT [--model F] [--failures F] [--survive links] [--csv WHAT | --state NAME] [--svg] | failures NET | help | --help | --version\n"
 
 -- what is said where memory ran out
 abbrev pub memory_message : List ℕ
 memory_message = codes "there is no memory left\n"
 
--- what is said where writing the text failed
-abbrev pub write_message : List ℕ
-write_message = codes "writing failed: is the disk full?\n"
+-- what is said where writing the text failed, by what the sink knows of it
+abbrev pub write_message : Failed → List ℕ
+write_message DiskFull = codes "writing failed: the disk is full\n"
+write_message Other = codes "writing failed\n"
 
 -- ---- commands
 
@@ -81,24 +96,48 @@ EndsFailures files name status text message =
     ⊎ ((net : Network) × (demands : List Demand) × Fetched files input_limit name SpellsNetwork (net, demands)
     × ListsFailures net demands status text message)
 
--- What the view of a report's file comes to, of plans for a case: it isn't fetched, which ends the run with a message, or it is what its bytes
--- come to.
-abbrev pub ViewsFile : Option Files → List ℕ → List ℕ → Case → Notes → Status → List ℕ → List ℕ → Type 0
-ViewsFile files network name p notes status text message =
+-- What the view of a report's file comes to in a form, of plans for a case: it isn't fetched, which ends the run with a message, or it is what
+-- its bytes come to.
+abbrev pub ViewsFile : Option Files → ViewForm → List ℕ → List ℕ → Case → Notes → Status → List ℕ → List ℕ → Type 0
+ViewsFile files form network name p notes status text message =
     ((text ≡ []) × FailsAtFetch files report_limit name status message)
-    ⊎ ((bytes : List ℕ) × Fetches files name report_limit fetch.Found bytes × EndsReport network name p notes bytes status text message)
+    ⊎ ((bytes : List ℕ) × Fetches files name report_limit fetch.Found bytes × EndsReport form network name p notes bytes status text message)
+
+-- the form of a view of a case that is asked for: of the state of a name, the first one that has it
+abbrev pub AsksForm : Case → AskedForm → ViewForm → Type 0
+AsksForm p asked.Tables form = form ≡ Tables
+AsksForm p (asked.Values sheet) form = form ≡ Values sheet
+AsksForm p (asked.State name) form = NamesState p.listed name form
+AsksForm p (asked.Picture name) form = PicturesState p.listed name form
+
+-- a state is asked for that the case doesn't have, which ends the run with a message
+abbrev pub LacksForm : Case → AskedForm → Status → List ℕ → Type 0
+LacksForm p asked.Tables status message = ⊥
+LacksForm p (asked.Values sheet) status message = ⊥
+LacksForm p (asked.State name) status message = LacksState p.listed name status message
+LacksForm p (asked.Picture name) status message = LacksState p.listed name status message
+
+-- What the view comes to that is asked for: there is no such state, or it is the view of the report's file in the form that is asked for.
+abbrev pub ViewsAsked : Option Files → AskedForm → List ℕ → List ℕ → Case → Notes → Status → List ℕ → List ℕ → Type 0
+ViewsAsked files form network name p notes status text message =
+    ((text ≡ []) × LacksForm p form status message)
+    ⊎ ((shown : ViewForm) × AsksForm p form shown × ViewsFile files shown network name p notes status text message)
 
 -- What it comes to for files: one of them ends the run with a message, or it is the view of the report for the case that they spell.
-abbrev pub EndsView : Option Files → CaseWords → List ℕ → Status → List ℕ → List ℕ → Type 0
-EndsView files w name = EndsAfterCase files w (ViewsFile files w.files.network name)
+abbrev pub EndsView : Option Files → CaseWords → List ℕ → AskedForm → Status → List ℕ → List ℕ → Type 0
+EndsView files w name form = EndsAfterCase files w (ViewsAsked files form w.files.network name)
+
+-- What a plan comes to for files: one of them ends the run with a message, or it is what a plan comes to for the case that they spell.
+abbrev pub EndsFrontPlan : Option Files → AskedPlan → Status → List ℕ → List ℕ → Type 0
+EndsFrontPlan files asked = EndsAfterCase files asked.case (EndsPlanForPeople asked.case.files.network asked.splits asked.report)
 
 -- what a command comes to
 abbrev pub EndsFrontCommand : Option Files → FrontCommand → Status → List ℕ → List ℕ → Type 0
 EndsFrontCommand files Help status text message = (status ≡ Done) × (text ≡ help_text) × (message ≡ [])
 EndsFrontCommand files Version status text message = (status ≡ Done) × (text ≡ version_text) × (message ≡ [])
 EndsFrontCommand files (Failures network) status text message = EndsFailures files network status text message
-EndsFrontCommand files (View w report) status text message = EndsView files w report status text message
-EndsFrontCommand files (Plan asked) status text message = (status ≡ BadWords) × (text ≡ []) × (message ≡ usage_message)
+EndsFrontCommand files (View w report form) status text message = EndsView files w report form status text message
+EndsFrontCommand files (Plan asked) status text message = EndsFrontPlan files asked status text message
 
 -- ---- a run
 
@@ -122,4 +161,4 @@ abbrev pub PutsBoth : {K E : Type 0} → (K → Option (List ℕ)) → (K → �
 PutsBoth taken faults told told_faults status text message result old new before after =
     ((result ≡ status) × Takes (taken old) (taken new) text × TellsBeside told told_faults message before after)
     ⊎ ((result ≡ WriteFault) × (status ≡ Done) × Rose (faults old) (faults new) × TakesPrefix (taken old) (taken new) text
-    × TellsBeside told told_faults write_message before after)
+    × (fault : Failed) × TellsBeside told told_faults (write_message fault) before after)

@@ -3,6 +3,7 @@
 
 mod failures;
 mod output;
+mod plan;
 pub mod run;
 mod usage;
 mod view;

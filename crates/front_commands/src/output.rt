@@ -1,10 +1,33 @@
-ghost use Rattle.std.specs.Prelude.{◌≡◌, ◌≤◌, []};
+ghost use Rattle.std.specs.Prelude.{◌≡◌, ◌≤◌, [], MatchResult, Ok, Err};
 ghost use Rattle.front_commands.specs.Endings.{PutsBoth, TellsBeside};
 ghost use Rattle.check_answers.specs.declared.status.Status.{Status};
 
-use crate::usage::WRITE_MESSAGE;
+use crate::usage::write_message;
 use check_answers::Status;
+use front_files::Halt;
+use net_core::{Bytes, List};
 use outside_io::Sink;
+use std::alloc::Global;
+
+/// What a run prints, and what it says beside that.
+#[derive(Drop)]
+pub(crate) struct Printed {
+    pub(crate) text: Bytes,
+    pub(crate) message: Bytes,
+}
+
+/// A text with nothing beside it, or the end of a run with a message.
+pub(crate) fn alone(alloc: Global, text: Result<Bytes, Halt>) -> Result<Printed, Halt>
+    ensures { MatchResult text (λ t. result ≡ Ok (record { text = t; message = [] })) (λ h. result ≡ Err h) }
+{
+    match text {
+        Ok(text) => Ok(Printed {
+            text,
+            message: List::new(alloc),
+        }),
+        Err(halt) => Err(halt),
+    }
+}
 
 /// Puts a message beside the text. Where that fails, nowhere is left to say so.
 pub(crate) fn tell<E: Sink>(beside: &mut E, message: &[u8])
@@ -17,17 +40,35 @@ pub(crate) fn tell<E: Sink>(beside: &mut E, message: &[u8])
     }
 }
 
-/// Prints a text, and gives the status, or says that writing failed.
+/// Puts a message beside the text, if there is one.
 #[tactic(auto, using(crate::proofs::Nothing::takes_nothing))]
-pub(crate) fn say<K: Sink, E: Sink>(out: &mut K, beside: &mut E, text: &[u8]) -> Status
+fn tell_some<E: Sink>(beside: &mut E, message: &[u8])
+    ensures later { E.faults beside.old ≤ E.faults beside.new }
+    ensures tells { TellsBeside E.taken E.faults message.now beside.old beside.new }
+{
+    if !message.is_empty() {
+        tell(beside, message);
+    }
+}
+
+/// Prints a text and says a message, and gives the status, or says that writing failed.
+pub(crate) fn say<K: Sink, E: Sink>(
+    out: &mut K,
+    beside: &mut E,
+    text: &[u8],
+    message: &[u8],
+) -> Status
     ensures later { K.faults out.old ≤ K.faults out.new }
     ensures beside { E.faults beside.old ≤ E.faults beside.new }
-    ensures says { PutsBoth K.taken K.faults E.taken E.faults Status.Done text.now [] result out.old out.new beside.old beside.new }
+    ensures says { PutsBoth K.taken K.faults E.taken E.faults Status.Done text.now message.now result out.old out.new beside.old beside.new }
 {
     match out.put(text) {
-        Ok(()) => Status::Done,
-        Err(_) => {
-            tell(beside, WRITE_MESSAGE);
+        Ok(()) => {
+            tell_some(beside, message);
+            Status::Done
+        }
+        Err(fault) => {
+            tell(beside, write_message(fault));
             Status::WriteFault
         }
     }

@@ -1,12 +1,14 @@
-ghost use Rattle.std.specs.Prelude.{◌≡◌, ◌≤◌, ℕ, List, IfOk};
+ghost use Rattle.std.specs.Prelude.{◌≡◌, ◌≤◌, ℕ, List, [], IfOk};
 ghost use Rattle.input_files.specs.Shelves.{KeepsShelf};
 ghost use Rattle.front_commands.specs.Endings.{EndsFront, EndsFrontCommand, PutsBoth, usage_message};
-ghost use Rattle.front_files.specs.Endings.{FailsReading, Halts, HasFrontCause};
+ghost use Rattle.front_commands.specs.inner.Printing.{HasPrintedCause};
+ghost use Rattle.front_files.specs.Endings.{FailsReading, Halts};
 ghost use Rattle.front_words.specs.AskedFronts.{asked_front};
 ghost use Rattle.check_answers.specs.declared.status.Status.{Status};
 
 use crate::failures::failures_file;
-use crate::output::{say, tell};
+use crate::output::{Printed, alone, say, tell};
+use crate::plan::plan_files;
 use crate::usage::{HELP, MEMORY_MESSAGE, USAGE, VERSION};
 use crate::view::view_files;
 use check_answers::Status;
@@ -14,7 +16,10 @@ use front_files::{Halt, told};
 use front_words::{FrontWords, command_of};
 use net_core::{Bytes, List as Items, NoMemory};
 use outside_io::{Shelf, Sink};
+use plan_progress::Teller;
 use std::alloc::Global;
+use std::sync::Wait;
+use std::thread::Threads;
 
 /// A text of these bytes.
 fn text_of(alloc: Global, bytes: &[u8]) -> Result<Bytes, NoMemory>
@@ -30,45 +35,72 @@ fn bad_words(alloc: Global) -> Halt
     told(Status::BadWords, text_of(alloc, USAGE))
 }
 
+/// What is printed of a text of the program's own.
+fn own_text(alloc: Global, bytes: &[u8]) -> Result<Printed, Halt>
+    ensures ends { HasPrintedCause (λ status text message. (status ≡ Status.Done) × (text ≡ bytes.now) × (message ≡ [])) result }
+    ensures read { FailsReading result → ⊥ }
+{
+    let text = text_of(alloc, bytes)?;
+    Ok(Printed {
+        text,
+        message: Items::new(alloc),
+    })
+}
+
 /// The answer to a command.
-fn answer_command<S: Shelf>(alloc: Global, words: &FrontWords, shelf: &mut S) -> Result<Bytes, Halt>
-    ensures ends { HasFrontCause (EndsFrontCommand (S.files shelf.old) (asked_front words.now)) result }
+fn answer_command<R: Threads + Wait + Sync, S: Shelf, T: Teller + Sync>(
+    rt: &R,
+    alloc: Global,
+    words: &FrontWords,
+    shelf: &mut S,
+    teller: &T,
+) -> Result<Printed, Halt>
+    ensures ends { HasPrintedCause (EndsFrontCommand (S.files shelf.old) (asked_front words.now)) result }
     ensures shelf { KeepsShelf S.files S.faults (FailsReading result) shelf.old shelf.new }
 {
     match *words {
-        FrontWords::Help => Ok(text_of(alloc, HELP)?),
-        FrontWords::Version => Ok(text_of(alloc, VERSION)?),
-        FrontWords::Failures(network) => failures_file(alloc, network, shelf),
-        FrontWords::View(view) => view_files(alloc, &view, shelf),
-        FrontWords::Plan(_) => Err(bad_words(alloc)),
+        FrontWords::Help => own_text(alloc, HELP),
+        FrontWords::Version => own_text(alloc, VERSION),
+        FrontWords::Failures(network) => alone(alloc, failures_file(alloc, network, shelf)),
+        FrontWords::View(view) => alone(alloc, view_files(alloc, &view, shelf)),
+        FrontWords::Plan(plan) => plan_files(rt, alloc, &plan, shelf, teller),
     }
 }
 
 /// The answer to words.
-fn answer_words<S: Shelf>(alloc: Global, words: &[String], shelf: &mut S) -> Result<Bytes, Halt>
-    ensures ends { HasFrontCause (EndsFront words.now (S.files shelf.old)) result }
+fn answer_words<R: Threads + Wait + Sync, S: Shelf, T: Teller + Sync>(
+    rt: &R,
+    alloc: Global,
+    words: &[String],
+    shelf: &mut S,
+    teller: &T,
+) -> Result<Printed, Halt>
+    ensures ends { HasPrintedCause (EndsFront words.now (S.files shelf.old)) result }
     ensures shelf { KeepsShelf S.files S.faults (FailsReading result) shelf.old shelf.new }
 {
     match command_of(alloc, words)? {
-        Some(command) => answer_command(alloc, &command, shelf),
+        Some(command) => answer_command(rt, alloc, &command, shelf, teller),
         None => Err(bad_words(alloc)),
     }
 }
 
 /// Carries out the command that the words give: reads its file from the shelf, prints its text to a sink, and says what is wrong to the one
-/// beside it. Where something is wrong it prints nothing, or, where writing fails, the beginning of the text.
+/// beside it. Where something is wrong it prints nothing, or, where writing fails, the beginning of the text. A plan tells the teller how far
+/// it is, unless the words ask for quiet, and may never return.
 ///
 /// ```text
-/// let mut shelf = MemShelf::new(files, List::new(alloc));              // with the triangle's network under the name t.txt
-/// let status = run(alloc, &words, &mut shelf, &mut out, &mut beside);  // the words are failures t.txt
+/// let mut shelf = MemShelf::new(files, List::new(alloc));   // with the triangle's network under the name t.txt
+/// let status = run(&rt, alloc, &words, &mut shelf, &mut out, &mut beside, &NoTeller);   // the words are failures t.txt
 /// // Done, and `out` has taken the failure list; for a network that isn't there NoFile, and `beside` has taken what is said of it
 /// ```
-pub fn run<S: Shelf, K: Sink, E: Sink>(
+pub fn run<R: Threads + Wait + Sync, S: Shelf, K: Sink, E: Sink, T: Teller + Sync>(
+    rt: &R,
     alloc: Global,
     words: &[String],
     shelf: &mut S,
     out: &mut K,
     beside: &mut E,
+    teller: &T,
 ) -> Status
     // What the run comes to has its cause in the words and the files, reading fails only where the shelf counts it, and text and message
     // are written. The files stay as they are, and no count of faults falls.
@@ -78,8 +110,8 @@ pub fn run<S: Shelf, K: Sink, E: Sink>(
     ensures later { K.faults out.old ≤ K.faults out.new }
     ensures beside { E.faults beside.old ≤ E.faults beside.new }
 {
-    match answer_words(alloc, words, shelf) {
-        Ok(text) => say(out, beside, text.items()),
+    match answer_words(rt, alloc, words, shelf, teller) {
+        Ok(printed) => say(out, beside, printed.text.items(), printed.message.items()),
         Err(Halt::Told(told)) => {
             tell(beside, told.message.items());
             told.status

@@ -1,15 +1,28 @@
-/// How the program is used.
-pub(crate) const HELP: &[u8] = b"zorgwint helps people with the files of a capacity planning.
+ghost use Rattle.std.specs.Prelude.{◌≡◌};
+ghost use Rattle.front_commands.specs.Endings as ends;
 
-  zorgwint view NET REPORT [--model F] [--failures F] [--survive links]
-      tables of a report of plans for NET, which is checked first: what to buy, loads, failures, and what is known of the cost
+use outside_io::Failed;
+
+/// How the program is used.
+pub(crate) const HELP: &[u8] =
+    b"zorgwint plans link capacities for a network whose demands must be carried, and helps people with the files of it.
+
+  zorgwint plan NET [--model F] [--failures F] [--survive links] [--splits N] [--report] [--quiet]
+      a plan for NET: what to buy, loads, failures, and how near to the cheapest it is; with --report the report that planner_top
+      checks and view reads, and the first lines of the tables beside it
+  zorgwint view NET REPORT [--model F] [--failures F] [--survive links] [--csv links|states|flows | --state NAME] [--svg]
+      tables of a report of plans for NET, which is checked first: what to buy, loads, failures, and what is known of the cost;
+      with --csv a sheet of comma-separated values, with a row for each link, state or flow; with --state the loads and paths of
+      one state, by its name; with --svg a picture of the first plan, in that state
   zorgwint failures NET
       a failure list of each single link that can fail without separating a demand; the others stand in comments
   zorgwint help | --help | --version
 
-NET is the file of a network in SNDlib's native format, REPORT one that planner_top has written, and - is standard input.
---model names a model, --failures a failure list; --survive links stands for a list of each single link, and no setup is
-charged without a model. Options stand in any place, each once. After -- no word is an option.
+NET is the file of a network in SNDlib's native format, REPORT one that plan --report or planner_top has written, and - is
+standard input. --model names a model, --failures a failure list; --survive links stands for a list of each single link, and no
+setup is charged without a model. --splits is how often a branch tree splits at most, from 0 to 9999: by default 100 times for up
+to 20 nodes, 10 for up to 40, and else 0. --quiet leaves out how far the planning is. Options stand in any place, each once.
+After -- no word is an option.
 
 Exit statuses: 0 done, 2 these words are no command, 3 a file isn't there, 4 reading failed, 5 writing failed,
 6 the network is refused, 7 the model, 8 the failure list, 10 a demand is separated, 11 the report is wrong,
@@ -21,11 +34,19 @@ pub(crate) const VERSION: &[u8] = b"zorgwint 1\n";
 
 /// What is said of words that are no command.
 pub(crate) const USAGE: &[u8] = b"these words are no command; zorgwint --help tells which are
-usage: zorgwint view NET REPORT [--model F] [--failures F] [--survive links] | failures NET | help | --help | --version
+usage: zorgwint plan NET [--model F] [--failures F] [--survive links] [--splits N] [--report] [--quiet]
+       | view NET REPORT [--model F] [--failures F] [--survive links] [--csv WHAT | --state NAME] [--svg] | failures NET | help | --help | --version
 ";
 
 /// What is said where memory ran out.
 pub(crate) const MEMORY_MESSAGE: &[u8] = b"there is no memory left\n";
 
 /// What is said where writing the text failed.
-pub(crate) const WRITE_MESSAGE: &[u8] = b"writing failed: is the disk full?\n";
+pub(crate) fn write_message(fault: Failed) -> &'static [u8]
+    ensures { result.now ≡ ends.write_message fault }
+{
+    match fault {
+        Failed::DiskFull => b"writing failed: the disk is full\n",
+        Failed::Other => b"writing failed\n",
+    }
+}

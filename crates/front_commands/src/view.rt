@@ -1,15 +1,20 @@
+ghost use Rattle.std.specs.Prelude.{MatchResult};
 ghost use Rattle.view_text.specs.Terms.{problem_case};
+ghost use Rattle.view_forms.specs.Terms.{IsFormOf};
 ghost use Rattle.input_files.specs.Shelves.{KeepsShelf};
-ghost use Rattle.front_files.specs.Endings.{FailsReading, HasFrontCause};
+ghost use Rattle.front_files.specs.Endings.{FailsReading, Halts, HasFrontCause};
 ghost use Rattle.front_files.specs.FrontInputs.{named_case};
-ghost use Rattle.front_commands.specs.Endings.{EndsView, ViewsFile};
+ghost use Rattle.front_words.specs.AskedFronts.{asked_form};
+ghost use Rattle.front_commands.specs.Endings.{AsksForm, EndsView, LacksForm, ViewsAsked, ViewsFile};
 
-use front_files::{Halt, fetch_report, load_case};
-use front_views::view_report;
-use front_words::ViewWords;
+use front_files::{Halt, fetch_report, load_placed_case};
+use front_views::{picture_form, state_form, view_report};
+use front_words::{FormWords, ViewWords};
 use net_core::{Bytes, Problem};
+use node_places::Place;
 use outside_io::Shelf;
 use std::alloc::Global;
+use view_forms::ViewForm;
 
 /// The view of the report in a file, of plans for a problem.
 fn view_file<S: Shelf>(
@@ -17,13 +22,57 @@ fn view_file<S: Shelf>(
     network: &str,
     name: &str,
     problem: &Problem,
+    form: ViewForm,
     shelf: &mut S,
 ) -> Result<Bytes, Halt>
-    ensures ends { HasFrontCause (ViewsFile (S.files shelf.old) network.now name.now (problem_case problem.now) problem.now.net.notes) result }
+    requires { IsFormOf (problem_case problem.now) form }
+    ensures ends { HasFrontCause (ViewsFile (S.files shelf.old) form.entry network.now name.now (problem_case problem.now) problem.now.net.notes) result }
     ensures shelf { KeepsShelf S.files S.faults (FailsReading result) shelf.old shelf.new }
 {
     let bytes = fetch_report(alloc, name, shelf)?;
-    view_report(alloc, network, name, problem, bytes.items())
+    view_report(alloc, network, name, problem, bytes.items(), form)
+}
+
+/// The form of a view that is asked for; where a state is asked for that there isn't, the run ends with a message.
+fn form_of<'p>(
+    alloc: Global,
+    problem: &Problem,
+    words: FormWords,
+    places: &'p [Option<Place>],
+) -> Result<ViewForm<'p>, Halt>
+    ensures { MatchResult result
+        (λ form. AsksForm (problem_case problem.now) (asked_form words.entry) form × IsFormOf (problem_case problem.now) form)
+        (Halts (LacksForm (problem_case problem.now) (asked_form words.entry))) }
+{
+    match words {
+        FormWords::Tables => Ok(ViewForm::Tables),
+        FormWords::Values(sheet) => Ok(ViewForm::Values(sheet)),
+        FormWords::State(name) => state_form(alloc, problem, name),
+        FormWords::Picture(name) => picture_form(alloc, problem, name, places),
+    }
+}
+
+/// The view of the report that is asked for, of plans for a problem.
+fn view_asked<S: Shelf>(
+    alloc: Global,
+    words: &ViewWords,
+    problem: &Problem,
+    places: &[Option<Place>],
+    shelf: &mut S,
+) -> Result<Bytes, Halt>
+    ensures ends { HasFrontCause (ViewsAsked (S.files shelf.old) (asked_form words.now.form) (named_case words.now.case).files.network words.now.report.now
+        (problem_case problem.now) problem.now.net.notes) result }
+    ensures shelf { KeepsShelf S.files S.faults (FailsReading result) shelf.old shelf.new }
+{
+    let form = form_of(alloc, problem, words.form, places)?;
+    view_file(
+        alloc,
+        words.case.files.network,
+        words.report,
+        problem,
+        form,
+        shelf,
+    )
 }
 
 /// The view of the report of these files.
@@ -32,15 +81,9 @@ pub(crate) fn view_files<S: Shelf>(
     words: &ViewWords,
     shelf: &mut S,
 ) -> Result<Bytes, Halt>
-    ensures ends { HasFrontCause (EndsView (S.files shelf.old) (named_case words.now.case) words.now.report.now) result }
+    ensures ends { HasFrontCause (EndsView (S.files shelf.old) (named_case words.now.case) words.now.report.now (asked_form words.now.form)) result }
     ensures shelf { KeepsShelf S.files S.faults (FailsReading result) shelf.old shelf.new }
 {
-    let problem = load_case(alloc, &words.case, shelf)?;
-    view_file(
-        alloc,
-        words.case.files.network,
-        words.report,
-        &problem,
-        shelf,
-    )
+    let (problem, places) = load_placed_case(alloc, &words.case, shelf)?;
+    view_asked(alloc, words, &problem, places.items(), shelf)
 }

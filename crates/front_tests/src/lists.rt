@@ -1,8 +1,18 @@
-use crate::runs::{Row, comes_to};
+use crate::runs::{Faults, Row, comes_to};
 use front_commands::Status;
 
 const USAGE: &str = "these words are no command; zorgwint --help tells which are
-usage: zorgwint view NET REPORT [--model F] [--failures F] [--survive links] | failures NET | help | --help | --version
+usage: zorgwint plan NET [--model F] [--failures F] [--survive links] [--splits N] [--report] [--quiet]
+       | view NET REPORT [--model F] [--failures F] [--survive links] [--csv WHAT | --state NAME] [--svg] | failures NET | help | --help | --version
+";
+
+const NO_STATE: &str = "no state has the name `AC`
+  a state is none, where nothing fails, or one of the failures by its name
+";
+
+const NEAR_STATE: &str = "no state has the name `nome`
+  a state is none, where nothing fails, or one of the failures by its name
+  did you mean `none`?
 ";
 
 const NOTHING: &str = "nothing: there is no such file\nno file nothing\n";
@@ -48,10 +58,58 @@ AC ( AC )
 /// Half of the list of the triangle.
 const HALF: &str = "?planner failures; version: 1\nFAILUR";
 
-/// No fetch and no put fails.
-const SOUND: (u32, u32) = (9, 9);
+/// The plan of the triangle: each link needs two modules, those of AB and BC where AC fails, and those of AC where AB does. Half of the cut of
+/// two links that asks for 24.00 where AC fails, and half of one that asks for 12.00 where AB does, are worth 18.00, and whole modules 20.00.
+const TRIANGLE_PLAN: &str =
+    "triangle   3 nodes, 3 links, 1 demand of 12.000; 3 failures, all survived
 
-const ROWS: [Row; 15] = [
+  cost        30.000   cheapest (branch tree of 1 box)
+  at least    20.000   by one certificate of cuts; gap 33.3 %
+  fractional  18.000   no certificate of cuts gives more
+
+  Link   Ends     Modules       Capacity    Normal     Worst   Used   In state       Cost
+  AB     A - B    2 x 10.000      20.000     0.000    12.000   60 %   AC           10.000
+  BC     B - C    2 x 10.000      20.000     0.000    12.000   60 %   AC           10.000
+  AC     A - C    2 x 10.000      20.000    12.000    12.000   60 %   none         10.000
+  total                           60.000    12.000                                 30.000
+
+  Failure   Links out   Rerouted   Fullest link    Part of the bound
+  none      -                  -   AC    60 %          -
+  AB        AB             0.000   AC    60 %       33.3 %   ######
+  BC        BC             0.000   AC    60 %          -
+  AC        AC            12.000   AB    60 %       66.7 %   #############
+
+  accepted: the modules carry every demand in 4 of 4 states, and no plan costs less than 30.000
+";
+
+/// Half of that plan's bytes.
+const HALF_PLAN: &str = "triangle   3 nodes, 3 links, 1 demand of 12.000; 3 failures, all survived
+
+  cost        30.000   cheapest (branch tree of 1 box)
+  at least    20.000   by one certificate of cuts; gap 33.3 %
+  fractional  18.000   no certificate of cuts gives more
+
+  Link   Ends     Modules       Capacity    Normal     Worst   Used   In state       Cost
+  AB     A - B    2 x 10.000      20.000     0.000    12.000   60 %   AC           10.000
+  BC     B - C    2 x 10.000      20.000     0.000    12.000   60 %   AC           10.000
+  AC     A - C    2 x 10.000      20.000  ";
+
+/// What is said of the bridge whose link fails.
+const BRIDGE_APART: &str = "bridge: there is no plan, since some demands can't be carried
+  where CD fails, no path joins the ends of demand D2
+not survivable: state 3 CD demand D2
+";
+
+/// What is said of a demand whose ends nothing joins.
+const APART: &str = "apart: there is no plan, since some demands can't be carried
+  without any failure no path joins the ends of demand D2
+not survivable: state 0 none demand D2
+";
+
+/// No fetch and no put fails.
+const SOUND: Faults = (9, 9, 100000);
+
+const ROWS: [Row; 16] = [
     ("failures triangle", SOUND, Status::Done, TRIANGLE_LIST, ""),
     ("failures bridge", SOUND, Status::Done, BRIDGE_LIST, ""),
     ("failures -", SOUND, Status::Done, TRIANGLE_LIST, ""),
@@ -66,7 +124,7 @@ const ROWS: [Row; 15] = [
         "",
         USAGE,
     ),
-    ("plan triangle", SOUND, Status::BadWords, "", USAGE),
+    ("plan", SOUND, Status::BadWords, "", USAGE),
     ("help me", SOUND, Status::BadWords, "", USAGE),
     ("failures nothing", SOUND, Status::NoFile, "", NOTHING),
     (
@@ -91,22 +149,29 @@ refused network fixed-link at 93
     ),
     (
         "failures triangle",
-        (0, 9),
+        (0, 9, 100000),
         Status::ReadFault,
         "",
-        "triangle: reading failed: it is a folder, or there is no right to read it, or the disk is damaged\n",
+        "triangle: reading failed; the disk may be damaged\n",
     ),
     (
         "failures triangle",
-        (9, 0),
+        (9, 0, 100000),
         Status::WriteFault,
         HALF,
-        "writing failed: is the disk full?\n",
+        "writing failed\n",
+    ),
+    (
+        "failures triangle",
+        (9, 9, 20),
+        Status::WriteFault,
+        "",
+        "writing failed: the disk is full\n",
     ),
 ];
 
 /// Words with options, most of them of a report that isn't there, so that the files before it are read.
-const OPTIONS: [Row; 22] = [
+const OPTIONS: [Row; 30] = [
     ("view triangle nothing", SOUND, Status::NoFile, "", NOTHING),
     (
         "view --survive links triangle nothing",
@@ -180,6 +245,55 @@ const OPTIONS: [Row; 22] = [
         "",
         NO_LIST,
     ),
+    (
+        "view triangle nothing --csv links",
+        SOUND,
+        Status::NoFile,
+        "",
+        NOTHING,
+    ),
+    (
+        "view triangle nothing --csv nodes",
+        SOUND,
+        Status::BadWords,
+        "",
+        USAGE,
+    ),
+    (
+        "view triangle nothing --state AC --survive links",
+        SOUND,
+        Status::NoFile,
+        "",
+        NOTHING,
+    ),
+    (
+        "view triangle nothing --state none",
+        SOUND,
+        Status::NoFile,
+        "",
+        NOTHING,
+    ),
+    (
+        "view triangle nothing --state AC",
+        SOUND,
+        Status::BadWords,
+        "",
+        NO_STATE,
+    ),
+    (
+        "view triangle nothing --state nome --survive links",
+        SOUND,
+        Status::BadWords,
+        "",
+        NEAR_STATE,
+    ),
+    (
+        "view triangle nothing --state AC --survive links --csv links",
+        SOUND,
+        Status::BadWords,
+        "",
+        USAGE,
+    ),
     ("view triangle", SOUND, Status::BadWords, "", USAGE),
     (
         "view triangle nothing triangle",
@@ -231,18 +345,104 @@ const OPTIONS: [Row; 22] = [
         "",
         USAGE,
     ),
+    (
+        "view triangle nothing --report",
+        SOUND,
+        Status::BadWords,
+        "",
+        USAGE,
+    ),
+];
+
+/// Words of a plan. Without a failure list one module for 12.00 isn't enough, so two are bought on the link from A to C; with each single link's
+/// failure two on each link.
+const PLANS: [Row; 13] = [
+    (
+        "plan triangle --survive links --quiet",
+        SOUND,
+        Status::Done,
+        TRIANGLE_PLAN,
+        "",
+    ),
+    (
+        "--quiet --splits 0 plan --survive links triangle",
+        SOUND,
+        Status::Done,
+        TRIANGLE_PLAN,
+        "",
+    ),
+    (
+        "plan triangle --survive links --splits 9999",
+        SOUND,
+        Status::Done,
+        TRIANGLE_PLAN,
+        "",
+    ),
+    (
+        "plan bridge --survive links",
+        SOUND,
+        Status::NotSurvivable,
+        "",
+        BRIDGE_APART,
+    ),
+    ("plan apart", SOUND, Status::NotSurvivable, "", APART),
+    ("plan nothing", SOUND, Status::NoFile, "", NOTHING),
+    (
+        "plan triangle --model triangle",
+        SOUND,
+        Status::BadModel,
+        "",
+        NO_MODEL,
+    ),
+    (
+        "plan triangle --survive links",
+        (9, 0, 100000),
+        Status::WriteFault,
+        HALF_PLAN,
+        "writing failed\n",
+    ),
+    ("plan triangle triangle", SOUND, Status::BadWords, "", USAGE),
+    (
+        "plan triangle --splits 10000",
+        SOUND,
+        Status::BadWords,
+        "",
+        USAGE,
+    ),
+    (
+        "plan triangle --splits +1",
+        SOUND,
+        Status::BadWords,
+        "",
+        USAGE,
+    ),
+    (
+        "plan triangle --report --report",
+        SOUND,
+        Status::BadWords,
+        "",
+        USAGE,
+    ),
+    ("plan triangle --splits", SOUND, Status::BadWords, "", USAGE),
 ];
 
 #[test]
 fn runs_come_to_their_rows(rt: HostRuntime) {
     for row in &ROWS {
-        assert!(rt; comes_to(rt.alloc(), row) == Some(true), "{}", row.0);
+        assert!(rt; comes_to(&rt, rt.alloc(), row) == Some(true), "{}", row.0);
     }
 }
 
 #[test]
 fn options_stand_in_any_place(rt: HostRuntime) {
     for row in &OPTIONS {
-        assert!(rt; comes_to(rt.alloc(), row) == Some(true), "{}", row.0);
+        assert!(rt; comes_to(&rt, rt.alloc(), row) == Some(true), "{}", row.0);
+    }
+}
+
+#[test]
+fn plans_are_made(rt: HostRuntime) {
+    for row in &PLANS {
+        assert!(rt; comes_to(&rt, rt.alloc(), row) == Some(true), "{}", row.0);
     }
 }

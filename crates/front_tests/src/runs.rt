@@ -3,10 +3,16 @@ use front_commands::Status;
 use front_commands::run::run;
 use net_core::List;
 use outside_io::{MemShelf, MemSink, Shelf, Sink, have_different_names};
+use plan_progress::NoTeller;
 use std::alloc::Global;
+use std::sync::Wait;
+use std::thread::Threads;
 
-/// Words, which fetch and which put fails, counted from 0, and what the run comes to: its status, what it prints, and what it says beside.
-pub(crate) type Row = (&'static str, (u32, u32), Status, &'static str, &'static str);
+/// Which fetch and which put fails, counted from 0, and how many bytes there is room for.
+pub(crate) type Faults = (u32, u32, u64);
+
+/// Words, what fails, and what the run comes to: its status, what it prints, and what it says beside.
+pub(crate) type Row = (&'static str, Faults, Status, &'static str, &'static str);
 
 /// The words of a command.
 fn words_of(alloc: Global, words: &str) -> Option<Vec<String>> {
@@ -24,14 +30,15 @@ fn shelf_of(alloc: Global, fetch: u32) -> Option<MemShelf> {
     have_different_names(files.items()).then(|| MemShelf::new(files, failing))
 }
 
-/// An empty sink, of which this put fails.
-fn sink_of(alloc: Global, put: u32) -> Option<MemSink> {
+/// An empty sink with so much room, of which this put fails.
+fn sink_of(alloc: Global, put: u32, room: u64) -> Option<MemSink> {
     let failing = List::from_slice(alloc, &[put]).ok()?;
-    MemSink::new(alloc, 100000, failing).ok()
+    MemSink::new(alloc, room, failing).ok()
 }
 
 /// Whether a run over these comes to what its row says.
-fn ends_so(
+fn ends_so<R: Threads + Wait + Sync>(
+    rt: &R,
     alloc: Global,
     words: &[String],
     mut shelf: MemShelf,
@@ -39,15 +46,23 @@ fn ends_so(
     mut beside: MemSink,
     row: &Row,
 ) -> bool {
-    let status = run(alloc, words, &mut shelf, &mut out, &mut beside);
+    let status = run(
+        rt,
+        alloc,
+        words,
+        &mut shelf,
+        &mut out,
+        &mut beside,
+        &NoTeller,
+    );
     status == row.2 && out.bytes() == row.3.as_bytes() && beside.bytes() == row.4.as_bytes()
 }
 
 /// Whether the words of a row come to what it says; nothing where there is no memory.
-pub(crate) fn comes_to(alloc: Global, row: &Row) -> Option<bool> {
+pub(crate) fn comes_to<R: Threads + Wait + Sync>(rt: &R, alloc: Global, row: &Row) -> Option<bool> {
     let words = words_of(alloc, row.0)?;
     let shelf = shelf_of(alloc, row.1.0)?;
-    let out = sink_of(alloc, row.1.1)?;
-    let beside = sink_of(alloc, 9)?;
-    Some(ends_so(alloc, &words, shelf, out, beside, row))
+    let out = sink_of(alloc, row.1.1, row.1.2)?;
+    let beside = sink_of(alloc, 9, 100000)?;
+    Some(ends_so(rt, alloc, &words, shelf, out, beside, row))
 }

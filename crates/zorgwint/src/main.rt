@@ -1,7 +1,8 @@
-//! Helps people with the files of a capacity planning, and says what is wrong with one.
+//! Plans link capacities for people, helps them with the files of a planning, and says what is wrong with one.
 #![tactic(auto)]
 
 mod run;
+mod teller;
 
 use check_answers::Status;
 use net_core::NoMemory;
@@ -9,6 +10,7 @@ use outside_io::{FileShelf, StreamSink};
 use run::run;
 use std::process::ExitCode;
 use std::{env, io};
+use teller::ErrorTeller;
 
 /// The command-line arguments, and none where one of them isn't text.
 fn words_of(rt: &HostRuntime) -> Result<Vec<String>, NoMemory> {
@@ -26,6 +28,15 @@ fn main(rt: HostRuntime) -> ExitCode {
     let mut shelf = FileShelf::new(&rt);
     let mut out = StreamSink::new(io::writer(&rt));
     let mut beside = StreamSink::new(rt.stderr());
-    let status = run(rt.alloc(), &words, &mut shelf, &mut out, &mut beside);
+    let teller = ErrorTeller::new(rt.stderr());
+    let status = run(
+        &rt,
+        rt.alloc(),
+        &words,
+        &mut shelf,
+        &mut out,
+        &mut beside,
+        &teller,
+    );
     ExitCode::from(status.number())
 }

@@ -6,22 +6,28 @@ ghost use Rattle.check_answers.specs.declared.status.Status.{Status};
 use check_answers::Status;
 use front_commands::run as commands;
 use outside_io::{Shelf, Sink};
+use plan_progress::Teller;
 use std::alloc::Global;
+use std::sync::Wait;
+use std::thread::Threads;
 
 /// Carries out the command that the words give: reads its file from the shelf, prints its text to a sink, and says what is wrong to the one
-/// beside it. Where something is wrong it prints nothing, or, where writing fails, the beginning of the text.
+/// beside it. Where something is wrong it prints nothing, or, where writing fails, the beginning of the text. A plan tells the teller how far
+/// it is, unless the words ask for quiet, and may never return.
 ///
 /// ```text
-/// let mut shelf = MemShelf::new(files, List::new(alloc));              // with the triangle's network under the name t.txt
-/// let status = run(alloc, &words, &mut shelf, &mut out, &mut beside);  // the words are failures t.txt
+/// let mut shelf = MemShelf::new(files, List::new(alloc));   // with the triangle's network under the name t.txt
+/// let status = run(&rt, alloc, &words, &mut shelf, &mut out, &mut beside, &NoTeller);   // the words are failures t.txt
 /// // Done, and `out` has taken the failure list; for a network that isn't there NoFile, and `beside` has taken what is said of it
 /// ```
-pub fn run<S: Shelf, K: Sink, E: Sink>(
+pub fn run<R: Threads + Wait + Sync, S: Shelf, K: Sink, E: Sink, T: Teller + Sync>(
+    rt: &R,
     alloc: Global,
     words: &[String],
     shelf: &mut S,
     out: &mut K,
     beside: &mut E,
+    teller: &T,
 ) -> Status
     // What the run comes to has its cause in the words and the files, reading fails only where the shelf counts it, and text and message
     // are written. The files stay as they are, and no count of faults falls.
@@ -31,5 +37,5 @@ pub fn run<S: Shelf, K: Sink, E: Sink>(
     ensures later { K.faults out.old ≤ K.faults out.new }
     ensures beside { E.faults beside.old ≤ E.faults beside.new }
 {
-    commands::run(alloc, words, shelf, out, beside)
+    commands::run(rt, alloc, words, shelf, out, beside, teller)
 }

@@ -15,7 +15,7 @@ returns-in_err-bytes-clause-ends g c =
     let files = g.S.Shelf.files c.args.shelf.now in
     let problem = c.args.problem.now in
     rw (p.1, p.2) (halt_map (FailsAtFetch files report_limit c.args.name.now)
-    (λ s m. ViewsFile files c.args.network.now c.args.name.now (problem_case problem) problem.net.notes s [] m) c.in_err-bytes.field-0.0
+    (λ s m. ViewsFile files c.args.form c.args.network.now c.args.name.now (problem_case problem) problem.net.notes s [] m) c.in_err-bytes.field-0.0
     (λ s m fails. inl (refl, fails)) c.in_err-bytes.ensures.ends)
 
 pub returns-clause-ends : goal.returns-clause-ends
@@ -23,8 +23,8 @@ returns-clause-ends g c =
     let files = g.S.Shelf.files c.args.shelf.now in
     let problem = c.args.problem.now in
     let bytes = c.in_ok-bytes.bytes in
-    front_map (EndsReport c.args.network.now c.args.name.now (problem_case problem) problem.net.notes bytes)
-    (ViewsFile files c.args.network.now c.args.name.now (problem_case problem) problem.net.notes) c.view_report.result
+    front_map (EndsReport c.args.form c.args.network.now c.args.name.now (problem_case problem) problem.net.notes bytes)
+    (ViewsFile files c.args.form c.args.network.now c.args.name.now (problem_case problem) problem.net.notes) c.view_report.result
     (λ s t m ends. inr (bytes, c.in_ok-bytes.ensures.found, ends)) (rw c.items.ensures at c.view_report.ensures)
 
 pub returns-clause-shelf : goal.returns-clause-shelf
@@ -34,6 +34,6 @@ returns-clause-shelf g c =
     record {
       same = shelf.same;
       later = shelf.later;
-      counted = λ failed. absurd (view_read c.args.network.now c.args.name.now (problem_case problem) problem.net.notes c.in_ok-bytes.bytes c.view_report.result
-          (rw c.items.ensures at c.view_report.ensures) failed);
+      counted = λ failed. absurd (view_read c.args.form c.args.network.now c.args.name.now (problem_case problem) problem.net.notes
+          c.in_ok-bytes.bytes c.view_report.result (rw c.items.ensures at c.view_report.ensures) failed);
     }

@@ -3,7 +3,8 @@ use Rattle.net_core.proofs.Library.{err_from_is_err_and}
 use Rattle.view_text.specs.Terms.{problem_case}
 use Rattle.front_files.specs.FrontInputs.{FailsAtInputs, named_case}
 use Rattle.front_files.proofs.Causing.{front_map, halt_map}
-use Rattle.front_commands.specs.Endings.{EndsView, ViewsFile}
+use Rattle.front_words.specs.AskedFronts.{asked_form}
+use Rattle.front_commands.specs.Endings.{EndsView, ViewsAsked}
 use Rattle.front_commands.proofs.view.view_files.Goals as goal
 
 pub returns-in_err-problem-clause-ends : goal.returns-in_err-problem-clause-ends
@@ -11,14 +12,18 @@ returns-in_err-problem-clause-ends g c =
     let p = err_from_is_err_and c.from_residual.result c.from_residual.ensures.1 in
     let files = g.S.Shelf.files c.args.shelf.now in
     let w = named_case c.args.words.now.case in
-    rw (p.1, p.2) (halt_map (FailsAtInputs files w) (λ s m. EndsView files w c.args.words.now.report.now s [] m) c.in_err-problem.field-0.0
+    rw (p.1, p.2) (halt_map (FailsAtInputs files w) (λ s m. EndsView files w c.args.words.now.report.now (asked_form c.args.words.now.form) s [] m)
+    c.in_err-problem.field-0.0
     (λ s m fails. inl (refl, fails)) c.in_err-problem.ensures.ends)
 
 pub returns-clause-ends : goal.returns-clause-ends
 returns-clause-ends g c =
     let files = g.S.Shelf.files c.args.shelf.now in
-    let w = named_case c.args.words.now.case in
+    let words = c.args.words.now in
+    let w = named_case words.case in
+    let form = asked_form words.form in
     let problem = c.in_ok-problem.problem in
-    front_map (ViewsFile files w.files.network c.args.words.now.report.now (problem_case problem) problem.net.notes) (EndsView files w c.args.words.now.report.now) c.view_file.result
+    front_map (ViewsAsked files form w.files.network words.report.now (problem_case problem) problem.net.notes)
+    (EndsView files w words.report.now form) c.view_asked.result
     (λ s t m ends. inr (problem.net, problem.demands, problem.states.listed, c.in_ok-problem.ensures.has, ends))
-    (rw c.in_ok-problem.ensures.shelf.same at c.view_file.ensures.ends)
+    (rw c.in_ok-problem.ensures.shelf.same at c.view_asked.ensures.ends)

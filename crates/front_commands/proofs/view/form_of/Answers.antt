@@ -1,0 +1,23 @@
+use Rattle.std.proofs.Common.{subst, sym}
+use Rattle.std.specs.Prelude.{MatchResult}
+use Rattle.view_text.specs.Terms.{problem_case}
+use Rattle.view_forms.specs.Terms.{IsFormOf}
+use Rattle.front_files.specs.Endings.{Halts}
+use Rattle.front_words.specs.AskedFronts.{asked_form}
+use Rattle.front_commands.specs.Endings.{AsksForm, LacksForm}
+use Rattle.front_commands.proofs.Viewing.{form_named, form_pictured}
+use Rattle.front_commands.proofs.view.form_of.Goals as goal
+
+pub returns-in-State : goal.returns-in-State
+returns-in-State c =
+    let p = problem_case c.args.problem.now in
+    subst (λ w. MatchResult c.state_form.result (λ form. AsksForm p (asked_form w) form × IsFormOf p form) (Halts (LacksForm p (asked_form w))))
+    (sym c.in-State.is)
+    (form_named p c.in-State.name.now c.state_form.result c.state_form.ensures.named c.state_form.ensures.form)
+
+pub returns-in-Picture : goal.returns-in-Picture
+returns-in-Picture c =
+    let p = problem_case c.args.problem.now in
+    subst (λ w. MatchResult c.picture_form.result (λ form. AsksForm p (asked_form w) form × IsFormOf p form) (Halts (LacksForm p (asked_form w))))
+    (sym c.in-Picture.is)
+    (form_pictured p c.in-Picture.name.now c.picture_form.result c.picture_form.ensures.named c.picture_form.ensures.form)
