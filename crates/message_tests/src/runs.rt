@@ -1,0 +1,128 @@
+use crate::failures::LISTS;
+use crate::files::{LIST, MODEL, NETWORK};
+use crate::models::MODELS;
+use crate::networks::{NETWORKS, WHOLE};
+use front_files::{CaseFiles, Halt, load_case};
+use input_files::PlanFiles;
+use net_core::{Bytes, List, Name};
+use outside_io::{MemFile, MemShelf, have_different_names};
+use std::alloc::Global;
+
+/// A part of a file, another in its place, and the message of the file that comes of it.
+pub(crate) type Row = (&'static [u8], &'static [u8], &'static [u8]);
+
+/// What stands before the first place of a part, and what stands after the part.
+fn split_at<'a>(text: &'a [u8], part: &[u8]) -> Option<(&'a [u8], &'a [u8])> {
+    for i in 0..text.len() {
+        if let Some(rest) = text[i..].strip_prefix(part) {
+            return Some((&text[..i], rest));
+        }
+    }
+    None
+}
+
+/// A file with the part of a row replaced; nothing where there is no such part.
+fn changed(alloc: Global, base: &[u8], row: &Row) -> Option<Bytes> {
+    let (front, rest) = split_at(base, row.0)?;
+    let mut text = List::from_slice(alloc, front).ok()?;
+    text.append(row.1).ok()?;
+    text.append(rest).ok()?;
+    Some(text)
+}
+
+/// Puts a file last.
+fn put(held: &mut List<MemFile>, alloc: Global, name: &str, bytes: &[u8]) -> Option<()> {
+    let name = Name::new(alloc, name.as_bytes()).ok()?;
+    let bytes = List::from_slice(alloc, bytes).ok()?;
+    held.push(MemFile { name, bytes }).ok()
+}
+
+/// A shelf of a network, a model and a failure list.
+fn shelf_of(alloc: Global, network: &[u8], model: &[u8], list: &[u8]) -> Option<MemShelf> {
+    let mut files = List::new(alloc);
+    put(&mut files, alloc, "net", network)?;
+    put(&mut files, alloc, "model", model)?;
+    put(&mut files, alloc, "list", list)?;
+    have_different_names(files.items()).then(|| MemShelf::new(files, List::new(alloc)))
+}
+
+/// What is said where these files are read; nothing where they are all right.
+fn message_of(alloc: Global, mut shelf: MemShelf) -> Option<Bytes> {
+    let words = CaseFiles {
+        files: PlanFiles {
+            network: "net",
+            model: "model",
+            failures: "list",
+        },
+        survive: false,
+    };
+    match load_case(alloc, &words, &mut shelf) {
+        Err(Halt::Told(told)) => Some(told.message),
+        _ => None,
+    }
+}
+
+/// Whether this is said of these files.
+fn is_said(
+    alloc: Global,
+    network: &[u8],
+    model: &[u8],
+    list: &[u8],
+    message: &[u8],
+) -> Option<bool> {
+    let shelf = shelf_of(alloc, network, model, list)?;
+    Some(message_of(alloc, shelf)?.items() == message)
+}
+
+fn is_said_of_network(alloc: Global, row: &Row) -> Option<bool> {
+    let text = changed(alloc, NETWORK, row)?;
+    is_said(alloc, text.items(), MODEL, LIST, row.2)
+}
+
+fn is_said_of_model(alloc: Global, row: &Row) -> Option<bool> {
+    let text = changed(alloc, MODEL, row)?;
+    is_said(alloc, NETWORK, text.items(), LIST, row.2)
+}
+
+fn is_said_of_list(alloc: Global, row: &Row) -> Option<bool> {
+    let text = changed(alloc, LIST, row)?;
+    is_said(alloc, NETWORK, MODEL, text.items(), row.2)
+}
+
+#[test]
+fn networks_have_their_messages(rt: HostRuntime) {
+    for i in 0..NETWORKS.len() {
+        assert!(rt;
+            is_said_of_network(rt.alloc(), &NETWORKS[i]) == Some(true),
+            "row {i}"
+        );
+    }
+}
+
+#[test]
+fn whole_files_have_their_messages(rt: HostRuntime) {
+    for i in 0..WHOLE.len() {
+        let said = is_said(rt.alloc(), WHOLE[i].0, MODEL, LIST, WHOLE[i].1);
+        assert!(rt; said == Some(true), "row {i}");
+    }
+}
+
+#[test]
+fn models_have_their_messages(rt: HostRuntime) {
+    for i in 0..MODELS.len() {
+        assert!(rt;
+            is_said_of_model(rt.alloc(), &MODELS[i]) == Some(true),
+            "row {i}"
+        );
+    }
+}
+
+#[test]
+fn lists_have_their_messages(rt: HostRuntime) {
+    for i in 0..LISTS.len() {
+        assert!(rt;
+            is_said_of_list(rt.alloc(), &LISTS[i]) == Some(true),
+            "row {i}"
+        );
+    }
+}
