@@ -72,7 +72,7 @@ def main(name, seed="1"):
     at = [(rng.randrange(1000), rng.randrange(1000)) for _ in range(nodes)]
     weight = [rng.randrange(10, 100) for _ in range(nodes)]
     print("?SNDlib native format; type: network; version: 1.0")
-    print("NODES ( " + " ".join(f"n{k}" for k in range(nodes)) + " )\nLINKS (")
+    print("NODES ( " + " ".join(f"n{k} ( {x} {y} )" for k, (x, y) in enumerate(at)) + " )\nLINKS (")
     for e, (i, j) in enumerate(links_of(at, count)):
         cost = max(1, round(dist(at[i], at[j])))
         print(f"l{e} ( n{i} n{j} ) 0 0 0 0 ( 155.00 {cost} 622.00 {cost * rng.randrange(20, 41) // 10} )")
