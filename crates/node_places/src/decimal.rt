@@ -66,7 +66,7 @@ fn unsigned(word: &[u8]) -> Option<i32> {
 }
 
 /// The decimal that a word writes, with or without a sign, in thousandths, cut off after three places; none where it is no decimal, or
-/// two millions or more. It takes time in the word.
+/// above 2,147,483.647 or below its negative. It takes time in the word.
 pub fn thousandths(word: &[u8]) -> Option<i32> {
     match word {
         [b'-', rest @ ..] => unsigned(rest)?.checked_neg(),

@@ -106,7 +106,7 @@ fn put_places(places: &mut List<Option<Place>>, text: &mut Cursor) -> Result<(),
 }
 
 /// The places of the nodes of a network's file, in its order; none of a node that has no coordinates, or whose coordinates aren't two decimals
-/// below two millions. The file is one that the planner's reader takes. It takes time in the bytes, and memory for the places.
+/// between -2,147,483.647 and 2,147,483.647. The file is one that the planner's reader takes. It takes time in the bytes, and memory for the places.
 pub fn node_places(alloc: Global, bytes: &[u8]) -> Result<List<Option<Place>>, NoMemory> {
     let mut places = List::new(alloc);
     let mut text = Cursor::new(bytes, 0);
