@@ -12,7 +12,7 @@ use crate::routing::routing_of;
 use crate::row::set_values;
 use crate::searching::{Waiting, collect, given, set_lengths};
 use crate::share::{Share, set_losses, shares_of};
-use crate::shortage::{Shortage, shortage_of, weigh};
+use crate::shortage::{Shortage, short_in_all, shortage_of, weigh};
 use crate::start::{bounds_of, first_basis, needs_of};
 use crate::turning::{set_products, turn};
 use flow_mending::if_routed;
@@ -223,12 +223,47 @@ impl WarmRouter {
         })
     }
 
+    /// Whether the basis has the shape of the network and the demands.
+    fn fits(&self, task: &RouteTask) -> bool {
+        self.basis.keys.len() == task.demands.len()
+            && self.basis.rows.len() == task.graph.net.links().len()
+    }
+
+    /// How much is short at these capacities while the basis is left as it is, with 20 bits after the point; `None` where it has another
+    /// shape than the network and the demands, or a number is too wide.
+    fn short(&mut self, task: &RouteTask) -> Result<Option<u128>, NoMemory> {
+        if !self.fits(task) {
+            return Ok(None);
+        }
+        let bounds = bounds_of(self.alloc, task)?;
+        let needs = needs_of(self.alloc, task)?;
+        let rest = self.basis.rest(self.alloc, bounds.items(), needs.items())?;
+        let rows = self.basis.rows.items_mut();
+        set_values(rows, rest.items());
+        match shares_of(self.alloc, rows, needs.items())? {
+            Some(shares) => Ok(Some(short_in_all(rows, shares.items()))),
+            None => Ok(None),
+        }
+    }
+
+    /// Goes on with the other router's basis where less is short with it at these capacities than with its own, and where it has none.
+    ///
+    /// It takes time in the square of the links, and in the links of the paths.
+    pub fn take_nearer(&mut self, mut other: WarmRouter, task: &RouteTask) -> Result<(), NoMemory> {
+        let Some(short) = other.short(task)? else {
+            return Ok(());
+        };
+        match self.short(task)? {
+            Some(own) if own <= short => {}
+            _ => self.basis = other.basis,
+        }
+        Ok(())
+    }
+
     /// Begins anew where the basis has another shape than the network and the demands.
     fn prepare(&mut self, task: &RouteTask) -> Result<Question, NoMemory> {
         let mut reach = Reach::new(self.alloc, &task.graph)?;
-        if self.basis.keys.len() != task.demands.len()
-            || self.basis.rows.len() != task.graph.net.links().len()
-        {
+        if !self.fits(task) {
             self.basis = first_basis(self.alloc, task, &mut reach)?;
         }
         let bounds = bounds_of(self.alloc, task)?;

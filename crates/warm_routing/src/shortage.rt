@@ -1,3 +1,4 @@
+use crate::leaving::fixed_point;
 use crate::numbers::{common_multiple, over};
 use crate::row::BasisRow;
 use crate::share::Share;
@@ -30,6 +31,27 @@ pub(crate) fn weigh(rows: &mut [BasisRow], shares: &[Share]) -> bool {
         short = short || rows[i].value < 0;
     }
     short || shares.iter().any(|share| share.value < 0)
+}
+
+/// What a value is below 0, with 20 bits after the point.
+fn missing(value: i128, den: i64) -> u128 {
+    if value < 0 {
+        fixed_point(value, den).unsigned_abs()
+    } else {
+        0
+    }
+}
+
+/// How much is short in all rows and keys, with 20 bits after the point.
+pub(crate) fn short_in_all(rows: &[BasisRow], shares: &[Share]) -> u128 {
+    let mut sum = 0u128;
+    for row in rows {
+        sum = sum.saturating_add(missing(row.value, row.den));
+    }
+    for share in shares {
+        sum = sum.saturating_add(missing(share.value, share.den));
+    }
+    sum
 }
 
 /// The least common denominator of the rows that count.
