@@ -1,6 +1,7 @@
 pub mod Admitting
 pub mod Answering
 pub mod Pooling
+pub mod Rooms
 pub mod Seeing
 pub mod SomeAnswers
 mod SomeBoards

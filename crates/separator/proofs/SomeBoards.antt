@@ -45,6 +45,12 @@ module _ (p : Case) (caps : Caps) where
       let both = pools_both a b c [] ys one two.pools in
       subst (PoolsBelow p caps n a c) (sym (pools_since a c ys both)) (record { pools = both; cuts_are = cuts_weaker p caps m n ys le two.cuts_are })
 
+  -- cuts that are answered after nothing was pooled
+  pub answered_after_nothing : (n : ℕ) (a b c : Board) (answers : List StateAnswer) → PoolsMore a b [] → PoolsMore b c (cuts_after b.entries c.entries)
+      → AreCutsAnswered p caps n c.entries (cuts_after b.entries c.entries) answers → AreCutsAnswered p caps n c.entries (cuts_after a.entries c.entries) answers
+  answered_after_nothing n a b c answers none more are =
+      subst (λ (cuts : List (ℕ × List ℕ)). AreCutsAnswered p caps n c.entries cuts answers) (cuts_after_nothing a b c none more) are
+
   pub board_unanswered : (n : ℕ) (b : Board) (answers : List StateAnswer) → answers ≡ [] → AreCutsAnswered p caps n b.entries (cuts_after b.entries b.entries) answers
   board_unanswered n b answers is =
       subst (λ (cuts : List (ℕ × List ℕ)). AreCutsAnswered p caps n b.entries cuts answers) (sym (pools_since b b [] (pools_none b))) (cuts_unanswered p caps n b.entries answers is)

@@ -1,4 +1,5 @@
 pub mod Findings
+pub mod Rooms
 pub mod Separators
 pub mod Spots
 pub mod OneByOnes

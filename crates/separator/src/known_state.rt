@@ -5,7 +5,7 @@ ghost use Rattle.separator.specs.Findings.{IsFinding};
 
 use crate::one_state::{route_from, separate_from};
 use flow_router::RouteAnswer;
-use net_core::{Caps, Instance, List, NoMemory, RouteColumn, StateId};
+use net_core::{Caps, Instance, List, NoMemory, RouteColumn, RouteTask, StateId};
 use std::alloc::Global;
 use warm_routing::WarmRouter;
 
@@ -24,6 +24,26 @@ impl KnownState {
             columns: List::new(alloc),
             warm: WarmRouter::new(alloc),
         }
+    }
+
+    /// Goes on with another state's basis where less is short with it in this state, at these capacities, than with its own, and where it has
+    /// none. It takes time in the square of the links, and in the links of the paths.
+    pub fn take_nearer(
+        &mut self,
+        other: KnownState,
+        instance: &Instance,
+        state: StateId,
+        caps: &Caps,
+    ) -> Result<(), NoMemory>
+        requires state { state.0 < length instance.now.states.now.listed + 1 }
+        requires caps { length caps.now.nums ≡ length instance.now.net.now.links }
+    {
+        let task = RouteTask {
+            graph: instance.in_state(state),
+            demands: instance.demands,
+            caps,
+        };
+        self.warm.take_nearer(other.warm, &task)
     }
 
     /// Whether there is a basis that a question has left.

@@ -32,6 +32,8 @@ pub struct OneByOne<'a> {
     alloc: Global,
     began: Remembered<u64>,
     known: KnownStates,
+    /// How little room sets of nodes are violated with; all of it at the first round.
+    level: u32,
     /// The state that was violated last when states were asked in a ring. The next ring begins with it.
     first: u32,
     pub ghost began_before: { began.value ≤ length board.entries },
@@ -51,6 +53,7 @@ impl<'a> OneByOne<'a> {
             alloc,
             began,
             known: KnownStates::new(alloc),
+            level: 0,
             first: 0,
         }
     }
@@ -132,6 +135,7 @@ impl<'a> Separate for OneByOne<'a> {
         instance: &Instance,
         caps: &Caps,
     ) -> Result<List<StateAnswer>, NoMemory> {
+        self.level = 0;
         answer_states(self.alloc, instance, caps, &mut self.board, &mut self.known)
     }
 
@@ -144,6 +148,7 @@ impl<'a> Separate for OneByOne<'a> {
             self.alloc,
             instance,
             caps,
+            &mut self.level,
             &mut self.first,
             &mut self.board,
             &mut self.known,

@@ -8,12 +8,13 @@ use crate::ranges::are_caps;
 use flow_router::{RouteAnswer, route_task};
 use metric_cut::Cut;
 use net_core::{Caps, Instance, List, NoMemory, RouteColumn, RouteTask, StateId};
-use node_sets::{RoundSets, grown_set, round_set, threshold_set};
+use node_sets::{grown_set, threshold_set};
 use std::alloc::Global;
 use warm_routing::{WarmAnswer, WarmRouter};
 
-/// A kept basis is given so many turns.
-const TURNS: u32 = 1_000;
+/// A kept basis is given so many turns. A first one takes some thousands where there are thousands of demands, and then too that is less work
+/// than the routing program.
+const TURNS: u32 = 6_000;
 
 /// The cut of a set of nodes that lie near to each other under the lengths of a violated cut, and that cut itself where no such set is
 /// violated or memory runs out.
@@ -170,7 +171,7 @@ pub fn separate_state<'a>(
 ///
 /// All states and all capacities of a network with its demands have one system of equations with other right sides, so that a basis which
 /// one question ended with is some turns away from the next answer. One of the same state is nearest. Nothing is known of it, and what it
-/// finds is counted anew. Where it finds nothing within 1,000 turns, the state is routed from the paths of that basis, which become known
+/// finds is counted anew. Where it finds nothing within 6,000 turns, the state is routed from the paths of that basis, which become known
 /// columns; where a number of it grew too wide, from the known columns.
 ///
 /// It takes the time and the memory of `separate_state` and of `WarmRouter::ask`.
@@ -221,46 +222,4 @@ pub fn route_from<'a>(
         caps,
     };
     route_warm(alloc, &task, known, warm)
-}
-
-/// The sets of nodes that grow where no link fails, for all states that are asked at these capacities.
-///
-/// It takes time in the cube of the nodes, and 56 bytes times their square.
-pub fn sets_of_round<'a>(
-    alloc: Global,
-    instance: &Instance<'a>,
-    caps: &'a Caps,
-) -> Result<RoundSets, NoMemory>
-    requires scale { 0 < caps.now.scale }
-    requires caps { length caps.now.nums ≡ length instance.now.net.now.links }
-{
-    let task = RouteTask {
-        graph: instance.in_state(StateId(0)),
-        demands: instance.demands,
-        caps,
-    };
-    RoundSets::grow(alloc, &task)
-}
-
-/// A cut of a set of nodes that the capacities violate in a state, as `round_set` finds it, or none; there may be violated sets all the same.
-///
-/// It takes the time and the memory of `round_set`.
-pub fn set_in_state<'a>(
-    alloc: Global,
-    instance: &Instance<'a>,
-    state: StateId,
-    caps: &'a Caps,
-    sets: &RoundSets,
-) -> Result<Option<Cut>, NoMemory>
-    requires state { state.0 < length instance.now.states.now.listed + 1 }
-    requires scale { 0 < caps.now.scale }
-    requires caps { length caps.now.nums ≡ length instance.now.net.now.links }
-    ensures { IfOk result (λ o. IfSome o (IsFoundCutOf (graph_in (case_of instance.now) state.0) instance.now.demands.now caps.now)) }
-{
-    let task = RouteTask {
-        graph: instance.in_state(state),
-        demands: instance.demands,
-        caps,
-    };
-    round_set(alloc, &task, sets)
 }

@@ -2,14 +2,14 @@ ghost use Rattle.std.specs.Prelude.{◌≡◌, ◌≤◌, ◌<◌, ◌+◌, ◌+
 ghost use Rattle.plan_terms.specs.Terms.{case_of, IsSurvivable};
 ghost use Rattle.separator.specs.Separators.{AreAnswersUntilCut, IsAnswerOf, cut_answered, cuts_after, cuts_answered};
 ghost use Rattle.separator.specs.inner.Working.{AddsCut, AreCutsAnswered, AreOtherAnswers, ContinueTo, PoolsBelow, PoolsMore, PoolsOf};
+ghost use Rattle.separator.specs.Rooms.{HasRoomOver};
 
 use crate::answers::{Separated, StateAnswer};
 use crate::found::{answer_cut, answer_found};
-use crate::one_state::{set_in_state, sets_of_round};
+use crate::roomy_sets::{NO_ROOM, RoomySets, set_in_state, sets_of_round};
 use crate::warm_start::KnownStates;
 use cut_pool::Board;
 use net_core::{Caps, Instance, List, NoMemory, StateId};
-use node_sets::RoundSets;
 use std::alloc::Global;
 
 /// Puts the cut of a violated set of nodes of a state to the answers, if one is found, and admits it to the board's pool.
@@ -18,7 +18,7 @@ fn answer_set(
     instance: &Instance,
     state: StateId,
     caps: &Caps,
-    sets: &RoundSets,
+    sets: &RoomySets,
     board: &mut Board,
     answers: &mut List<StateAnswer>,
 ) -> Result<(), NoMemory>
@@ -27,6 +27,7 @@ fn answer_set(
     requires state { state.0 < length instance.now.states.now.listed + 1 }
     requires scale { 0 < caps.now.scale }
     requires caps { length caps.now.nums ≡ length instance.now.net.now.links }
+    requires room { HasRoomOver caps.now sets.now }
     ensures pools { PoolsOf (case_of instance.now) caps.now state.0 board.old board.new (cuts_after board.old.entries board.new.entries) }
     ensures adds { OnOk result (AddsCut (case_of instance.now) caps.now state.0 board.new.entries
         (cuts_after board.old.entries board.new.entries) answers.old answers.new) }
@@ -41,11 +42,13 @@ fn answer_set(
     }
 }
 
-/// The cuts of violated sets of nodes, one of each state of which one is found, admitted to the board's pool.
+/// The cuts of sets of nodes that are violated with the room of a level, one of each state of which one is found, admitted to the board's
+/// pool.
 fn answer_sets(
     alloc: Global,
     instance: &Instance,
     caps: &Caps,
+    level: u32,
     board: &mut Board,
 ) -> Result<List<StateAnswer>, NoMemory>
     requires net { board.old.net.now ≡ instance.now.net.now }
@@ -57,7 +60,7 @@ fn answer_sets(
     ensures cuts { IfOk result (AreCutsAnswered (case_of instance.now) caps.now (length instance.now.states.now.listed + 1)
         board.new.entries (cuts_after board.old.entries board.new.entries)) }
 {
-    let sets = sets_of_round(alloc, &*instance, &*caps)?;
+    let sets = sets_of_round(alloc, instance, caps, level)?;
     let mut answers = List::new(alloc);
     for s in 0..instance.states.count() {
         answer_set(
@@ -71,6 +74,31 @@ fn answer_sets(
         )?;
     }
     Ok(answers)
+}
+
+/// The cuts of violated sets of nodes, with the most room from a level on with which some are found.
+fn answer_roomy_sets(
+    alloc: Global,
+    instance: &Instance,
+    caps: &Caps,
+    level: &mut u32,
+    board: &mut Board,
+) -> Result<List<StateAnswer>, NoMemory>
+    requires net { board.old.net.now ≡ instance.now.net.now }
+    requires listed { board.old.states.now ≡ instance.now.states.now }
+    requires scale { 0 < caps.now.scale }
+    requires caps { length caps.now.nums ≡ length instance.now.net.now.links }
+    ensures pools { PoolsBelow (case_of instance.now) caps.now (length instance.now.states.now.listed + 1) board.old board.new
+        (cuts_after board.old.entries board.new.entries) }
+    ensures cuts { IfOk result (AreCutsAnswered (case_of instance.now) caps.now (length instance.now.states.now.listed + 1)
+        board.new.entries (cuts_after board.old.entries board.new.entries)) }
+{
+    let cuts = answer_sets(alloc, instance, caps, *level, board)?;
+    if cuts.len() == 0 && *level < NO_ROOM {
+        *level += 1;
+        return answer_roomy_sets(alloc, instance, caps, level, board);
+    }
+    Ok(cuts)
 }
 
 /// What is found of a state by routing alone, its cut admitted to the board's pool where one is found.
@@ -224,13 +252,14 @@ fn ask_ring(
     }
 }
 
-/// The cuts of those violated sets of nodes that growing finds, one of each state that has one. Where it finds none, the states are asked in
-/// a ring, from the one that was violated last when states were asked: the first cut that is found then, and where none is, the answers of
-/// all states.
+/// The cuts of those violated sets of nodes that growing finds, one of each state that has one. They grow with the room of a level, and with
+/// less where none is violated. Where there is none without room either, the states are asked in a ring, from the one that was violated last
+/// when states were asked: the first cut that is found then, and where none is, the answers of all states.
 pub fn answer_some(
     alloc: Global,
     instance: &Instance,
     caps: &Caps,
+    level: &mut u32,
     first: &mut u32,
     board: &mut Board,
     known: &mut KnownStates,
@@ -245,7 +274,7 @@ pub fn answer_some(
     ensures answers { IfOk result (AreAnswersUntilCut (case_of instance.now) caps.now board.new.entries) }
     ensures among { IfOk result (λ answers. All (Contains (cuts_answered answers)) (cuts_after board.old.entries board.new.entries)) }
 {
-    let cuts = answer_sets(alloc, instance, caps, board)?;
+    let cuts = answer_roomy_sets(alloc, instance, caps, level, board)?;
     if cuts.len() == 0 {
         return ask_ring(alloc, instance, caps, first, board, known);
     }

@@ -7,13 +7,14 @@ use crate::known_state::KnownState;
 use flow_router::RouteAnswer;
 use net_core::{Caps, Instance, List, NoMemory, StateId};
 use std::alloc::Global;
-use warm_routing::WarmRouter;
 
 /// What is kept of the states, from state 0 on.
 #[derive(Drop)]
 pub struct KnownStates {
     alloc: Global,
     by_state: List<KnownState>,
+    /// The state that was asked last.
+    last: usize,
 }
 
 impl KnownStates {
@@ -22,7 +23,26 @@ impl KnownStates {
         KnownStates {
             alloc,
             by_state: List::new(alloc),
+            last: 0,
         }
+    }
+
+    /// Makes ready what is kept of a state: it takes over the basis of the state that was asked last where that is nearer to an answer.
+    fn make_ready(
+        &mut self,
+        instance: &Instance,
+        state: StateId,
+        caps: &Caps,
+    ) -> Result<(), NoMemory>
+        requires state { state.0 < length instance.now.states.now.listed + 1 }
+        requires caps { length caps.now.nums ≡ length instance.now.net.now.links }
+    {
+        let at = state.0 as usize;
+        reach(self.alloc, &mut self.by_state, at)?;
+        let known = self.by_state.items_mut();
+        lend_basis(self.alloc, instance, state, caps, self.last, known)?;
+        self.last = at;
+        Ok(())
     }
 
     /// Answers a state as `separate_state` does, and begins with what is kept of it.
@@ -38,7 +58,11 @@ impl KnownStates {
         requires joined { AreJoined (graph_in (case_of instance.now) state.0) instance.now.demands.now }
         ensures found { IfOk result (IsFinding (graph_in (case_of instance.now) state.0) instance.now.demands.now caps.now) }
     {
-        separate_known(self.alloc, instance, state, caps, &mut self.by_state)
+        self.make_ready(instance, state, caps)?;
+        match self.by_state.items_mut().get_mut(state.0 as usize) {
+            Some(known) => known.separate(self.alloc, instance, state, caps),
+            None => KnownState::new(self.alloc).separate(self.alloc, instance, state, caps),
+        }
     }
 
     /// Answers a state as `route_from` does, and begins with what is kept of it.
@@ -54,88 +78,38 @@ impl KnownStates {
         requires joined { AreJoined (graph_in (case_of instance.now) state.0) instance.now.demands.now }
         ensures found { IfOk result (IsFinding (graph_in (case_of instance.now) state.0) instance.now.demands.now caps.now) }
     {
-        route_known(self.alloc, instance, state, caps, &mut self.by_state)
+        self.make_ready(instance, state, caps)?;
+        match self.by_state.items_mut().get_mut(state.0 as usize) {
+            Some(known) => known.route(self.alloc, instance, state, caps),
+            None => KnownState::new(self.alloc).route(self.alloc, instance, state, caps),
+        }
     }
 }
 
-/// A copy of the first basis that there is.
-fn first_basis(by_state: &[KnownState]) -> Result<Option<WarmRouter>, NoMemory> {
-    for known in by_state {
-        if known.warm.has_basis() {
-            return Ok(Some(known.warm.copy()?));
-        }
-    }
-    Ok(None)
-}
-
-/// Gives a state that has no basis the first one that there is, from which an answer is fewer turns away than from none.
-fn lend_basis(by_state: &mut [KnownState], at: usize) -> Result<(), NoMemory> {
-    if at >= by_state.len() || by_state[at].warm.has_basis() {
-        return Ok(());
-    }
-    if let Some(warm) = first_basis(by_state)? {
-        if at < by_state.len() {
-            by_state[at].warm = warm;
-        }
+/// Reaches as far as a state, with nothing kept of those that are new.
+fn reach(alloc: Global, by_state: &mut List<KnownState>, at: usize) -> Result<(), NoMemory> {
+    for _ in by_state.len()..at.saturating_add(1) {
+        by_state.push(KnownState::new(alloc))?;
     }
     Ok(())
 }
 
-/// Nothing of a state but the first basis that there is.
-fn begun(alloc: Global, by_state: &[KnownState]) -> Result<KnownState, NoMemory> {
-    let mut known = KnownState::new(alloc);
-    if let Some(warm) = first_basis(by_state)? {
-        known.warm = warm;
-    }
-    Ok(known)
-}
-
-/// The same over the list itself.
-fn separate_known(
+/// Gives a state the basis of the one that was asked last, where less is short with it than with its own.
+fn lend_basis(
     alloc: Global,
     instance: &Instance,
     state: StateId,
     caps: &Caps,
-    by_state: &mut List<KnownState>,
-) -> Result<RouteAnswer, NoMemory>
+    last: usize,
+    by_state: &mut [KnownState],
+) -> Result<(), NoMemory>
     requires state { state.0 < length instance.now.states.now.listed + 1 }
-    requires scale { 0 < caps.now.scale }
     requires caps { length caps.now.nums ≡ length instance.now.net.now.links }
-    requires joined { AreJoined (graph_in (case_of instance.now) state.0) instance.now.demands.now }
-    ensures found { IfOk result (IsFinding (graph_in (case_of instance.now) state.0) instance.now.demands.now caps.now) }
 {
     let at = state.0 as usize;
-    lend_basis(by_state.items_mut(), at)?;
-    if at < by_state.len() {
-        return by_state.items_mut()[at].separate(alloc, instance, state, caps);
+    if last == at || last >= by_state.len() || at >= by_state.len() {
+        return Ok(());
     }
-    let mut known = begun(alloc, by_state.items())?;
-    let found = known.separate(alloc, instance, state, caps)?;
-    by_state.push(known)?;
-    Ok(found)
-}
-
-/// So it is where no sets of nodes are looked at.
-fn route_known(
-    alloc: Global,
-    instance: &Instance,
-    state: StateId,
-    caps: &Caps,
-    by_state: &mut List<KnownState>,
-) -> Result<RouteAnswer, NoMemory>
-    requires state { state.0 < length instance.now.states.now.listed + 1 }
-    requires scale { 0 < caps.now.scale }
-    requires caps { length caps.now.nums ≡ length instance.now.net.now.links }
-    requires joined { AreJoined (graph_in (case_of instance.now) state.0) instance.now.demands.now }
-    ensures found { IfOk result (IsFinding (graph_in (case_of instance.now) state.0) instance.now.demands.now caps.now) }
-{
-    let at = state.0 as usize;
-    lend_basis(by_state.items_mut(), at)?;
-    if at < by_state.len() {
-        return by_state.items_mut()[at].route(alloc, instance, state, caps);
-    }
-    let mut known = begun(alloc, by_state.items())?;
-    let found = known.route(alloc, instance, state, caps)?;
-    by_state.push(known)?;
-    Ok(found)
+    let other = by_state[last].begun(alloc)?;
+    by_state[at].take_nearer(other, instance, state, caps)
 }

@@ -1,7 +1,7 @@
 use Rattle.net_core.proofs.Library.{IfOk-weaker}
 use Rattle.plan_terms.specs.Terms.{graph_in, graph_of, case_of}
 use Rattle.separator.proofs.Somewhere.{boundary_may_be}
-use Rattle.separator.proofs.one_state.set_in_state.Goals as goal
+use Rattle.separator.proofs.roomy_sets.set_at.Goals as goal
 
 pub returns : goal.returns
 returns c =

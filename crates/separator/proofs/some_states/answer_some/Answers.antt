@@ -10,17 +10,17 @@ pub returns-then-len-eq0-clause-pools : goal.returns-then-len-eq0-clause-pools
 returns-then-len-eq0-clause-pools c =
     let n = length c.args.instance.now.states.now.listed + 1 in
     let a = c.args.board.now in
-    let b = c.answer_sets.new.board in
+    let b = c.answer_roomy_sets.new.board in
     let none : c.in_ok-cuts.cuts ≡ [] = nil_from_length c.in_ok-cuts.cuts (omega (arith, c.if-len-eq0.true, c.len.ensures)) in
     below_after_nothing (case_of c.args.instance.now) c.args.caps.now n n a b c.ask_ring.new.board (omega arith)
-    (pools_nothing a b (cuts_answered c.in_ok-cuts.cuts) (ap cuts_answered none) c.in_ok-cuts.ensures.cuts.among c.answer_sets.ensures.pools.pools) c.ask_ring.ensures.pools
+    (pools_nothing a b (cuts_answered c.in_ok-cuts.cuts) (ap cuts_answered none) c.in_ok-cuts.ensures.cuts.among c.answer_roomy_sets.ensures.pools.pools) c.ask_ring.ensures.pools
 
 pub returns-then-len-eq0-clause-among : goal.returns-then-len-eq0-clause-among
 returns-then-len-eq0-clause-among c =
     let a = c.args.board.now in
-    let b = c.answer_sets.new.board in
+    let b = c.answer_roomy_sets.new.board in
     let none : c.in_ok-cuts.cuts ≡ [] = nil_from_length c.in_ok-cuts.cuts (omega (arith, c.if-len-eq0.true, c.len.ensures)) in
-    let pools = pools_nothing a b (cuts_answered c.in_ok-cuts.cuts) (ap cuts_answered none) c.in_ok-cuts.ensures.cuts.among c.answer_sets.ensures.pools.pools in
+    let pools = pools_nothing a b (cuts_answered c.in_ok-cuts.cuts) (ap cuts_answered none) c.in_ok-cuts.ensures.cuts.among c.answer_roomy_sets.ensures.pools.pools in
     IfOk-weaker c.ask_ring.result _ _
     (λ answers among. among_after_nothing a b c.ask_ring.new.board (cuts_answered answers) pools c.ask_ring.ensures.pools.pools among)
     c.ask_ring.ensures.among
@@ -28,7 +28,7 @@ returns-then-len-eq0-clause-among c =
 pub returns-clause-answers : goal.returns-clause-answers
 returns-clause-answers c =
     let a = c.args.board.now in
-    let b = c.answer_sets.new.board in
+    let b = c.answer_roomy_sets.new.board in
     let some : 0 < length c.in_ok-cuts.cuts = omega (arith, c.if-len-eq0.false, c.len.ensures) in
     cuts_are_some (case_of c.args.instance.now) c.args.caps.now b.entries (cuts_after a.entries b.entries) c.in_ok-cuts.cuts c.in_ok-cuts.ensures.cuts some
 
