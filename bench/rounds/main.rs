@@ -1,7 +1,8 @@
 // The rounds of a planning with every single-link failure, by the code of the crates without its contracts: the best certificate of
 // the cuts so far, states at its share, and the cuts that they find, until no state finds one. Prints processor time.
-// Usage: rounds NETWORK [each | grown | kept], with a network file whose nodes are n0, n1 ..; with `each` every state is asked in each round, else
-// rounds stop early; with `grown` the sets of nodes grow for each state anew; and with `kept` a certificate begins with the basis of the last one
+// Usage: rounds NETWORK [each | grown | kept | room], with a network file whose nodes are n0, n1 ..; with `each` every state is asked in each round,
+// else rounds stop early; with `grown` the sets of nodes grow for each state anew; with `kept` a certificate begins with the basis of the last one;
+// and with `room` sets of nodes are looked for at capacities with room too
 #![allow(dead_code, unused)]
 mod checked_fraction;
 mod flow_mending;
@@ -47,7 +48,17 @@ mod separator {
     pub mod known_state;
     pub mod one_state;
     pub mod ranges;
+    pub mod roomy_sets;
     pub mod warm_start;
+
+    pub mod admission {
+        use crate::metric_cut::Cut;
+        use crate::net_core::{CutLine, Demands, NoMemory};
+
+        pub fn line_of(cut: &Cut, demands: &Demands) -> Result<CutLine, NoMemory> {
+            Ok(crate::line_of(cut, demands))
+        }
+    }
 }
 
 use checked_fraction::gcd;
@@ -58,6 +69,7 @@ use metric_cut::{Cut, opening};
 use module_prices::unit_pair;
 use net_core::{Caps, Copied, CutLine, Demand, Demands, Global, Instance, Link, List, Module, Network, NodeId, RouteTask, StateId, States};
 use node_sets::{RoundSets, grown_set, round_set};
+use separator::roomy_sets::{NO_ROOM, set_in_state, sets_of_round};
 use separator::warm_start::KnownStates;
 
 impl Copied for master_bound::answer::Multiplier {
@@ -147,10 +159,10 @@ fn main() {
     let mut basis = KeptMaster::new();
     let mut kept = KnownStates::new(Global);
     let (opening, mut rounds, mut bounding, mut separating) = (cuts.len(), 0, 0, 0);
-    let (mut first, mut tests) = (0, 0);
+    let (mut first, mut tests, mut level) = (0, 0, 0);
     loop {
         let begin = clock();
-        let answer = if way == "kept" { basis.best(Global, &net, &cuts) } else { master(Global, &net, &cuts) };
+        let answer = if way == "kept" || way == "room" { basis.best(Global, &net, &cuts) } else { master(Global, &net, &cuts) };
         let Ok(best) = answer else { panic!("the master program is wide") };
         let found = clock();
         let caps = caps_of(&net, &best);
@@ -161,7 +173,7 @@ fn main() {
                 further.extend(cut_in(kept.separate_state(&instance, StateId(s), &caps).unwrap()));
             }
         } else {
-            further = sets_at(&instance, &caps, way == "grown");
+            further = if way == "room" { roomy_sets_at(&instance, &caps, &mut level) } else { sets_at(&instance, &caps, way == "grown") };
             if further.is_empty() {
                 for k in 0..states.count() {
                     let s = (first + k) % states.count();
@@ -211,4 +223,18 @@ fn sets_at(instance: &Instance, caps: &Caps, grown: bool) -> std::vec::Vec<Cut> 
     }
     let sets = RoundSets::grow(Global, &task(0)).unwrap();
     (0..instance.states.count()).filter_map(|s| round_set(Global, &task(s), &sets).unwrap()).collect()
+}
+
+/// The cuts of violated sets of nodes, with the most room from a level on with which some are found.
+fn roomy_sets_at(instance: &Instance, caps: &Caps, level: &mut u32) -> std::vec::Vec<Cut> {
+    loop {
+        let sets = sets_of_round(Global, instance, caps, *level).unwrap();
+        let found: std::vec::Vec<Cut> = (0..instance.states.count())
+            .filter_map(|s| set_in_state(Global, instance, StateId(s), caps, &sets).unwrap())
+            .collect();
+        if !found.is_empty() || *level >= NO_ROOM {
+            return found;
+        }
+        *level += 1;
+    }
 }

@@ -1,8 +1,8 @@
 #!/usr/bin/env bash
 # The rounds of plannings with every single-link failure, by the code of the crates without its contracts.
 # Usage: bench/rounds/run.sh SEED.NODES|NAME ..      sample networks, and networks of the sizes in bench/plans/sizes.py with seed 1;
-# each with all states asked in each round, with rounds that stop early, with sets of nodes that grow once for all states of a round too, and with
-# certificates from the basis of the round before as well
+# each with all states asked in each round, with rounds that stop early, with sets of nodes that grow once for all states of a round too, with
+# certificates from the basis of the round before as well, and with room for the sets
 set -eu
 cd "$(dirname "$0")/../.."
 room=$(mktemp -d)
@@ -19,7 +19,7 @@ for name in "$@"; do
     *.*) python3 bench/sample/sample.py "${name%.*}" "${name#*.}" file >"$room/network" ;;
     *) python3 bench/plans/sizes.py "$name" >"$room/network" ;;
   esac
-  for way in each grown round kept; do
+  for way in ${WAYS:-each grown round kept room}; do
     echo "| $name | $way $("$room/rounds" "$room/network" $way)"
   done
 done
