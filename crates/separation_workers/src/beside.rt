@@ -4,7 +4,7 @@ ghost use Rattle.separation_workers.specs.inner.Rounds.{AreFound, IsFoundOf, IsS
 
 use crate::discard::discard;
 use crate::hints::hinted_cut;
-use crate::lending::lend;
+use crate::lending::{is_begun, lend};
 use crate::round::{Round, StateFound, Work};
 use flow_router::RouteAnswer;
 use net_core::{List, NoMemory, StateId};
@@ -155,9 +155,22 @@ fn by_state(round: &Round, found: Vec<StateFound>) -> Result<List<Option<StateFo
     Ok(List::from_vec(places))
 }
 
-/// What the workers of a round find of the states from one on to before another, each at the place of its state. Those that have no basis
-/// begin with the first one that there is. The gate is a hold, which
-/// hears of a state on the thread that works on it; the caller's own gate hears of it elsewhere.
+/// What is found of the first state, on this thread, where no state has a basis: the others begin with the one that it leaves.
+fn find_first<G: Gate>(gate: &G, round: &Round, from: u32) -> Result<Vec<StateFound>, NoMemory>
+    requires { from < length round.now.instance.states.now.listed + 1 }
+    ensures { IfOk result (λ found. All (IsStateFound round.now) found.items) }
+{
+    if is_begun(round) {
+        return Ok(Vec::new(round.alloc));
+    }
+    find_some(gate, round, &Work::of(from, from + 1))
+}
+
+/// What the workers of a round find of the states from one on to before another, each at the place of its state. They begin with the basis
+/// of the state before these where that is nearer to an answer than their own; in the first round one state is asked before the others,
+/// which begin with its basis.
+///
+/// The gate is a hold, which hears of a state on the thread that works on it; the caller's own gate hears of it elsewhere.
 pub fn find_states<R: Threads, G: Gate + Sync>(
     rt: &R,
     gate: &G,
@@ -169,8 +182,14 @@ pub fn find_states<R: Threads, G: Gate + Sync>(
     requires to { to ≤ length round.now.instance.states.now.listed + 1 }
     ensures { IfOk result (AreFound round.now) }
 {
-    lend(round, from, to)?;
-    let work = Work::of(from, to);
-    let helpers = HELPERS.min(to - from - 1);
-    by_state(round, find_beside(rt, gate, round, &work, helpers)?)
+    let mut found = find_first(gate, round, from)?;
+    let next = if found.is_empty() { from } else { from + 1 };
+    if next < to {
+        lend(round, next, to)?;
+        let work = Work::of(next, to);
+        let helpers = HELPERS.min(to - next - 1);
+        let mut others = find_beside(rt, gate, round, &work, helpers)?;
+        found.append(&mut others)?;
+    }
+    by_state(round, found)
 }

@@ -11,7 +11,7 @@ use hint_board::HintBoard;
 use metric_cut::{Cut, CutFault, violated_by};
 use net_core::{Copied, Instance, Lengths, List, NoMemory, StateId, Surviving};
 use route_law::law::zeros_and_ones_are_priced;
-use separator::line_of;
+use separator::{are_narrow, line_of};
 use std::sync::Wait;
 
 /// So many shown vectors are looked at, at most.
@@ -72,13 +72,6 @@ fn if_violated(round: &Round, state: StateId, lengths: Lengths) -> Result<Option
     } else {
         Ok(None)
     }
-}
-
-/// Whether each number is below 2^62, as a test of a cut wants.
-fn are_narrow(nums: &[u128]) -> bool
-    ensures { IsTrue result → All (λ n. n < 2 ^ 62) nums.now }
-{
-    nums.iter().all(|n| *n < 1 << 62)
 }
 
 /// The cut of lengths that are shown, where the capacities violate one. A vector is tested cheaply before its cut is made, which takes

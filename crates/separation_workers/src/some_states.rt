@@ -3,6 +3,7 @@ ghost use Rattle.plan_terms.specs.Terms.{case_of};
 ghost use Rattle.board_desk.specs.Turns.{caller_seen};
 ghost use Rattle.separator.specs.Separators.{AreAnswersUntilCut, cuts_answered, cuts_since};
 ghost use Rattle.separator.specs.inner.Working.{AddsCut, AreCutsAnswered, AreCutsBelow, AreCutsOf, AreOtherAnswers, ContinueTo};
+ghost use Rattle.separator.specs.Rooms.{HasRoomOver};
 ghost use Rattle.separation_workers.specs.Callers.{SeesOn};
 ghost use Rattle.separation_workers.specs.inner.Rounds.{AreFound, IsInRound, IsPutApart};
 
@@ -12,9 +13,10 @@ use crate::round::{Round, StateFound};
 use crate::workers::{answer_cut, answer_state, found_of};
 use board_desk::Caller;
 use net_core::{List, NoMemory, StateId};
-use node_sets::RoundSets;
 use outside_io::Gate;
-use separator::{StateAnswer, answers_of_both, is_cut, set_in_state, sets_of_round};
+use separator::{
+    NO_ROOM, RoomySets, StateAnswer, answers_of_both, is_cut, set_in_state, sets_of_round,
+};
 use std::sync::Wait;
 use std::thread::Threads;
 
@@ -27,12 +29,13 @@ fn answer_set<R: Wait, G: Gate>(
     gate: &G,
     round: &Round,
     state: StateId,
-    sets: &RoundSets,
+    sets: &RoomySets,
     caller: &mut Caller,
     answers: &mut List<StateAnswer>,
 ) -> Result<(), NoMemory>
     requires caller { IsInRound round.now caller.old }
     requires state { state.0 < length round.now.instance.states.now.listed + 1 }
+    requires room { HasRoomOver round.now.caps.now sets.now }
     ensures goes { SeesOn caller.old caller.new }
     ensures cuts { AreCutsOf (case_of round.now.instance) round.now.caps.now state.0 (cuts_since (caller_seen caller.old) (caller_seen caller.new)) }
     ensures adds { OnOk result (AddsCut (case_of round.now.instance) round.now.caps.now state.0 (caller_seen caller.new).history
@@ -50,11 +53,12 @@ fn answer_set<R: Wait, G: Gate>(
     }
 }
 
-/// The cuts of violated sets of nodes, one of each state of which one is found, put into the pool.
+/// The cuts of sets of nodes that are violated with the room of a level, one of each state of which one is found, put into the pool.
 fn answer_sets<R: Wait, G: Gate>(
     rt: &R,
     gate: &G,
     round: &Round,
+    level: u32,
     caller: &mut Caller,
 ) -> Result<List<StateAnswer>, NoMemory>
     requires caller { IsInRound round.now caller.old }
@@ -64,12 +68,35 @@ fn answer_sets<R: Wait, G: Gate>(
     ensures cuts { IfOk result (AreCutsAnswered (case_of round.now.instance) round.now.caps.now (length round.now.instance.states.now.listed + 1)
         (caller_seen caller.new).history (cuts_since (caller_seen caller.old) (caller_seen caller.new))) }
 {
-    let sets = sets_of_round(round.alloc, &round.instance, round.caps)?;
+    let sets = sets_of_round(round.alloc, &round.instance, round.caps, level)?;
     let mut answers = List::new(round.alloc);
     for s in 0..round.instance.states.count() {
         answer_set(rt, gate, round, StateId(s), &sets, caller, &mut answers)?;
     }
     Ok(answers)
+}
+
+/// The cuts of violated sets of nodes, with the most room from a level on with which some are found.
+fn answer_roomy_sets<R: Wait, G: Gate>(
+    rt: &R,
+    gate: &G,
+    round: &Round,
+    level: &mut u32,
+    caller: &mut Caller,
+) -> Result<List<StateAnswer>, NoMemory>
+    requires caller { IsInRound round.now caller.old }
+    ensures goes { SeesOn caller.old caller.new }
+    ensures below { AreCutsBelow (case_of round.now.instance) round.now.caps.now (length round.now.instance.states.now.listed + 1)
+        (cuts_since (caller_seen caller.old) (caller_seen caller.new)) }
+    ensures cuts { IfOk result (AreCutsAnswered (case_of round.now.instance) round.now.caps.now (length round.now.instance.states.now.listed + 1)
+        (caller_seen caller.new).history (cuts_since (caller_seen caller.old) (caller_seen caller.new))) }
+{
+    let cuts = answer_sets(rt, gate, round, *level, caller)?;
+    if cuts.len() == 0 && *level < NO_ROOM {
+        *level += 1;
+        return answer_roomy_sets(rt, gate, round, level, caller);
+    }
+    Ok(cuts)
 }
 
 /// Puts an answer to the cuts, or to the others.
@@ -250,14 +277,15 @@ fn ask_ring<R: Threads + Wait, G: Gate>(
     Ok(cuts)
 }
 
-/// The cuts of those violated sets of nodes that growing finds, one of each state that has one. Where it finds none, the states are asked in
-/// a ring, four beside each other, from the one that was violated last when states were asked, until cuts are found: these, and where none is,
-/// the answers of all states.
+/// The cuts of those violated sets of nodes that growing finds, one of each state that has one. They grow with the room of a level, and with
+/// less where none is violated. Where there is none without room either, the states are asked in a ring, four beside each other, from the one
+/// that was violated last when states were asked, until cuts are found: these, and where none is, the answers of all states.
 pub fn answer_some<R: Threads + Wait, G: Gate>(
     rt: &R,
     gate: &G,
     hold: &Hold,
     round: &Round,
+    level: &mut u32,
     first: &mut u32,
     caller: &mut Caller,
 ) -> Result<List<StateAnswer>, NoMemory>
@@ -268,7 +296,7 @@ pub fn answer_some<R: Threads + Wait, G: Gate>(
     ensures answers { IfOk result (AreAnswersUntilCut (case_of round.now.instance) round.now.caps.now (caller_seen caller.new).history) }
     ensures among { IfOk result (λ answers. All (Contains (cuts_answered answers)) (cuts_since (caller_seen caller.old) (caller_seen caller.new))) }
 {
-    let cuts = answer_sets(rt, gate, round, caller)?;
+    let cuts = answer_roomy_sets(rt, gate, round, level, caller)?;
     if cuts.len() == 0 {
         return ask_ring(rt, gate, hold, round, first, caller);
     }

@@ -53,6 +53,8 @@ pub struct Workers<'r, 'd, 'a, R, G> {
     hints: &'r HintBoard,
     caller: Caller<'d, 'a>,
     kept: List<KeptState>,
+    /// How little room sets of nodes are violated with; all of it at the first round.
+    level: u32,
     /// The state that was violated last when states were asked in a ring. The next ring begins with it.
     first: u32,
     pub ghost own: { ∥ IsAtDesk caller ∥₁ },
@@ -84,6 +86,7 @@ impl<'r, 'd, 'a, R, G> Workers<'r, 'd, 'a, R, G> {
             hints,
             caller,
             kept: List::new(alloc),
+            level: 0,
             first: 0,
         }
     }
@@ -264,6 +267,7 @@ impl<'r, 'd, 'a, R: Threads + Wait, G: Gate> Separate for Workers<'r, 'd, 'a, R,
         caps: &Caps,
     ) -> Result<List<StateAnswer>, NoMemory> {
         reach(self.alloc, &mut self.kept, instance.states.count())?;
+        self.level = 0;
         let round = Round {
             alloc: self.alloc,
             instance: Instance {
@@ -304,6 +308,7 @@ impl<'r, 'd, 'a, R: Threads + Wait, G: Gate> Separate for Workers<'r, 'd, 'a, R,
             self.gate,
             self.hold,
             &round,
+            &mut self.level,
             &mut self.first,
             &mut self.caller,
         )
