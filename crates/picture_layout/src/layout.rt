@@ -14,12 +14,14 @@ pub struct Spot {
     pub y: u32,
 }
 
-/// How a link is drawn: a curve between two spots that bends towards a third, the spot of what is written beside it, and the width of the curve.
+/// How a link is drawn between two spots.
 #[derive(Clone, Copy, Debug, PartialEq, Eq)]
 pub struct Stroke {
     pub from: Spot,
-    pub bend: Spot,
+    /// What its curve bends towards; none where it is straight.
+    pub bend: Option<Spot>,
     pub to: Spot,
+    /// Where a note on it stands.
     pub label: Spot,
     pub width: u32,
 }

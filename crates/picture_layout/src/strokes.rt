@@ -53,23 +53,45 @@ fn beside_middle(from: u32, to: u32, across: i64, shift: i64, long: i64) -> u32 
     middle.saturating_add(aside).clamp(0, 9600) as u32
 }
 
-/// The bend of a link between two spots, with so many links of the same ends before it.
-fn bend_of(from: Spot, to: Spot, before: i64) -> Spot {
+/// The bend of a link between two spots, with so many links of the same ends before it; the first of these is straight.
+fn bend_of(from: Spot, to: Spot, before: i64) -> Option<Spot> {
+    if before == 0 {
+        return None;
+    }
     let shift = shift_after(before);
     let dx = i64::from(to.x) - i64::from(from.x);
     let dy = i64::from(to.y) - i64::from(from.y);
     let square = dx.saturating_mul(dx).saturating_add(dy.saturating_mul(dy));
     let long = square.max(0).isqrt();
-    Spot {
+    Some(Spot {
         x: beside_middle(from.x, to.x, dy.saturating_neg(), shift, long),
         y: beside_middle(from.y, to.y, dx, shift, long),
-    }
+    })
+}
+
+/// The middle of a line, in one coordinate.
+fn half_way(from: u32, to: u32) -> u32 {
+    ((u64::from(from) + u64::from(to)) / 2) as u32
 }
 
 /// The middle of a curve, in one coordinate.
 fn middle_of(from: u32, bend: u32, to: u32) -> u32 {
     let sum = u64::from(from) + 2 * u64::from(bend) + u64::from(to);
     (sum / 4) as u32
+}
+
+/// The middle of a link's line or curve.
+fn label_of(from: Spot, bend: Option<Spot>, to: Spot) -> Spot {
+    match bend {
+        Some(bend) => Spot {
+            x: middle_of(from.x, bend.x, to.x),
+            y: middle_of(from.y, bend.y, to.y),
+        },
+        None => Spot {
+            x: half_way(from.x, to.x),
+            y: half_way(from.y, to.y),
+        },
+    }
 }
 
 /// The greatest of capacities.
@@ -101,15 +123,11 @@ fn stroke_after(spots: &[Spot], before: &[Link], link: &Link, width: u32) -> Str
     let from = spot_at(spots, low);
     let to = spot_at(spots, high);
     let bend = bend_of(from, to, count_beside(before, link));
-    let label = Spot {
-        x: middle_of(from.x, bend.x, to.x),
-        y: middle_of(from.y, bend.y, to.y),
-    };
     Stroke {
         from,
         bend,
         to,
-        label,
+        label: label_of(from, bend, to),
         width,
     }
 }
