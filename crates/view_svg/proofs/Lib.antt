@@ -1,2 +1,4 @@
+pub mod ChangedLoads
 pub mod FirstPlans
 pub mod NodeTexts
+pub mod Pieces

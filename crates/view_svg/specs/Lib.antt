@@ -1,3 +1,4 @@
+pub mod Changes
 pub mod Markup
 pub mod Pictures
 pub mod ReportPictures

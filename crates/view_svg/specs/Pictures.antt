@@ -1,17 +1,18 @@
 -- the picture of a plan, as scalable vector graphics (SVG 1.1, W3C)
-use Rattle.std.specs.Prelude.{◌≡◌, ℕ, Bool, true, false, not, ◌==◌, List, [], ◌∷◌, ◌++◌, codes, cond, decimal, flat_map, length, nat_eq, nat_lt, slice_get}
+use Rattle.std.specs.Prelude.{◌≡◌, ℕ, Bool, true, false, not, List, [], ◌∷◌, ◌++◌, codes, cond, decimal, flat_map, length, nat_eq, nat_lt, slice_get, slice_index}
 use Rattle.std.specs.List.{list_any}
 use Rattle.std.specs.Option.{option_map_or}
-use Rattle.plan_terms.specs.Terms.{Case, Flow, Link, LinkId}
+use Rattle.plan_terms.specs.Terms.{Case, Link, LinkId}
 use Rattle.text_kit.specs.Terms.{money_word}
 use Rattle.plan_report.specs.Terms.{KnownNames, known_to, state_name}
 use Rattle.plan_types.specs.declared.plan.Plan.{Plan}
-use Rattle.plan_view.specs.Terms.{AreLinkRows, failed_links, goes_as, routing_in}
+use Rattle.plan_view.specs.Terms.{AreLinkRows, den_in, failed_links, routing_in}
 use Rattle.plan_view.specs.declared.rows.LinkRow.{LinkRow}
 use Rattle.view_cells.specs.Terms.{joined_words, kinds_words}
 use Rattle.picture_layout.specs.declared.layout.Layout.{Layout}
 use Rattle.picture_layout.specs.declared.layout.Spot.{Spot}
 use Rattle.picture_layout.specs.declared.layout.Stroke.{Stroke}
+use Rattle.view_svg.specs.Changes.{AreRoundedLoads, changed_flows}
 use Rattle.view_svg.specs.Markup.{escaped}
 
 -- ---- links
@@ -23,9 +24,9 @@ point spot = decimal spot.x ++ codes " " ++ decimal spot.y
 abbrev pub spot_attributes : Spot → List ℕ
 spot_attributes spot = codes " x=\"" ++ decimal spot.x ++ codes "\" y=\"" ++ decimal spot.y ++ codes "\">"
 
--- the data of a link's curve
+-- the data of a link's line: it is straight, or bends towards a spot
 abbrev pub curve : Stroke → List ℕ
-curve s = codes "M" ++ point s.from ++ codes "Q" ++ point s.bend ++ codes " " ++ point s.to
+curve s = codes "M" ++ point s.from ++ option_map_or (λ bend. codes "Q" ++ point bend ++ codes " ") s.bend (codes "L") ++ point s.to
 
 -- the class of a use in per cent: it is low, high, or near the capacity
 abbrev pub use_class : ℕ → List ℕ
@@ -44,6 +45,10 @@ link_words known link row =
     ++ (codes ", " ++ money_word known.places row.worst ++ codes " of " ++ money_word known.places row.capacity
     ++ codes " in state " ++ escaped (state_name known.listed row.state.0))
 
+-- what of a state's flows goes along other paths over a link, if something does
+abbrev pub change_words : KnownNames → ℕ → List ℕ
+change_words known change = cond (nat_lt 0 change) (codes "; other paths: " ++ money_word known.places change) []
+
 -- what stands beside a link: its worst use in per cent, or a cross where it is out
 abbrev pub link_mark : Spot → ℕ → Bool → List ℕ
 link_mark spot used true = codes "<text class=\"x\"" ++ spot_attributes spot ++ codes "&#215;</text>"
@@ -55,47 +60,54 @@ link_curve s row out =
     codes "<path class=\"" ++ link_class row out ++ codes "\" stroke-width=\"" ++ decimal s.width ++ codes "\" d=\"" ++ curve s ++ codes "\"/>"
 
 -- a link: its curve, what is said of it, and what stands beside it
-abbrev pub drawn_link : KnownNames → Link → LinkRow → Stroke → Bool → List ℕ
-drawn_link known link row s out =
-    codes "<g>" ++ link_curve s row out ++ codes "<title>" ++ link_words known link row ++ codes "</title>" ++ link_mark s.label row.used out ++ codes "</g>\n"
+abbrev pub drawn_link : KnownNames → Link → LinkRow → Stroke → Bool → ℕ → List ℕ
+drawn_link known link row s out change =
+    codes "<g>" ++ link_curve s row out ++ codes "<title>" ++ (link_words known link row ++ change_words known change) ++ codes "</title>"
+    ++ link_mark s.label row.used out ++ codes "</g>\n"
 
 -- whether a link is among those that are out
 abbrev pub is_out : List LinkId → LinkId → Bool
 is_out failed e = list_any (λ f. nat_eq f.0 e.0) failed
 
 -- the link of a row, where the network and the layout have it
-abbrev pub drawn_row : KnownNames → List Stroke → List LinkId → LinkRow → List ℕ
-drawn_row known strokes failed row =
-    option_map_or (λ link. option_map_or (λ s. drawn_link known link row s (is_out failed row.link)) (slice_get strokes row.link.0) [])
+abbrev pub drawn_row : KnownNames → List Stroke → LinkRow → Bool → ℕ → List ℕ
+drawn_row known strokes row out change =
+    option_map_or (λ link. option_map_or (λ s. drawn_link known link row s out change) (slice_get strokes row.link.0) [])
     (slice_get known.links row.link.0) []
+
+-- the same in a state that fails these links and brings these amounts onto other paths
+abbrev pub drawn_in_state : KnownNames → List Stroke → List LinkId → List ℕ → LinkRow → List ℕ
+drawn_in_state known strokes failed changes row = drawn_row known strokes row (is_out failed row.link) (slice_index changes row.link.0)
 
 -- ---- nodes
 
--- a node: a dot, and its name beside it
-abbrev pub drawn_node : List ℕ → Spot → List ℕ
-drawn_node name spot =
-    codes "<circle r=\"50\" cx=\"" ++ decimal spot.x ++ codes "\" cy=\"" ++ decimal spot.y
-    ++ (codes "\"/><text class=\"n\" dx=\"80\" dy=\"-70\"" ++ spot_attributes spot ++ escaped name ++ codes "</text>\n")
+-- the dot of a node, and its name beside it
+abbrev pub drawn_dot : Spot → List ℕ
+drawn_dot spot = codes "<circle r=\"50\" cx=\"" ++ decimal spot.x ++ codes "\" cy=\"" ++ decimal spot.y ++ codes "\"/>\n"
 
--- nodes at their spots
+abbrev pub drawn_name : List ℕ → Spot → List ℕ
+drawn_name name spot = codes "<text" ++ spot_attributes spot ++ escaped name ++ codes "</text>\n"
+
+-- names of nodes at their spots
+abbrev pub drawn_names : List (List ℕ) → List Spot → List ℕ
+drawn_names [] spots = []
+drawn_names (name ∷ names) [] = []
+drawn_names (name ∷ names) (spot ∷ spots) = drawn_name name spot ++ drawn_names names spots
+
+-- all nodes, and their names beside them
 abbrev pub drawn_nodes : List (List ℕ) → List Spot → List ℕ
-drawn_nodes [] spots = []
-drawn_nodes (name ∷ names) [] = []
-drawn_nodes (name ∷ names) (spot ∷ spots) = drawn_node name spot ++ drawn_nodes names spots
+drawn_nodes names spots = flat_map drawn_dot spots ++ codes "<g class=\"n\" transform=\"translate(80 -70)\">\n" ++ drawn_names names spots ++ codes "</g>\n"
 
--- ---- paths that a state has taken instead of others
+-- ---- links on paths that a state has taken instead of others
 
--- the curve of a link on a path
-abbrev pub curve_on : List Stroke → LinkId → List ℕ
-curve_on strokes e = option_map_or curve (slice_get strokes e.0) []
+-- the curve of a row's link, if something goes along other paths there
+abbrev pub changed_curve : List Stroke → List ℕ → LinkRow → List ℕ
+changed_curve strokes changes row =
+    cond (nat_lt 0 (slice_index changes row.link.0)) (option_map_or curve (slice_get strokes row.link.0) []) []
 
--- the path of a flow
-abbrev pub drawn_path : List Stroke → Flow → List ℕ
-drawn_path strokes f = codes "<path class=\"p\" d=\"" ++ flat_map (curve_on strokes) f.path ++ codes "\"/>\n"
-
--- the path of a flow, if no flow takes it where nothing fails
-abbrev pub drawn_change : List Stroke → List Flow → Flow → List ℕ
-drawn_change strokes normal f = cond (list_any (λ g. goes_as f g) normal) [] (drawn_path strokes f)
+-- the curves of all such links, as one line behind the links
+abbrev pub drawn_changes : List Stroke → List ℕ → List LinkRow → List ℕ
+drawn_changes strokes changes rows = codes "<path class=\"p\" d=\"" ++ flat_map (changed_curve strokes changes) rows ++ codes "\"/>\n"
 
 -- ---- the whole
 
@@ -104,7 +116,7 @@ abbrev pub head_text : List ℕ
 head_text =
     codes "<svg xmlns=\"http://www.w3.org/2000/svg\" viewBox=\"0 0 9600 7200\" font-family=\"sans-serif\" font-size=\"120\">\n"
     ++ codes "<style>path{fill:none;stroke-linecap:round}text{text-anchor:middle;paint-order:stroke;stroke:#fff;stroke-width:30px}\n"
-    ++ codes ".n,.k{text-anchor:start}.n{font-weight:bold}.lo{stroke:#2b7bba}.mi{stroke:#e08a00}.hi{stroke:#c0182b}.no{stroke-dasharray:60 50}\n"
+    ++ codes ".k,.n text{text-anchor:start}.n{font-weight:bold}.lo{stroke:#2b7bba}.mi{stroke:#e08a00}.hi{stroke:#c0182b}.no{stroke-dasharray:60 50}\n"
     ++ codes ".out{stroke:#999;stroke-dasharray:20 50}.x{font-size:260px;font-weight:bold}.p{stroke:#7a3ea8;stroke-opacity:.35;stroke-width:140}</style>\n"
     ++ codes "<rect width=\"9600\" height=\"7200\" fill=\"#fff\"/>\n"
 
@@ -130,17 +142,17 @@ circle_text = codes "<text class=\"k\" x=\"400\" y=\"7040\">The file doesn't say
 -- the beginning of a picture, and its end
 abbrev pub beginning : List ℕ → List ℕ → List ℕ
 beginning network state =
-    head_text ++ codes "<text class=\"n\" x=\"400\" y=\"280\">" ++ escaped network ++ codes ", state " ++ escaped state ++ codes "</text>\n"
+    head_text ++ codes "<text class=\"k n\" x=\"400\" y=\"280\">" ++ escaped network ++ codes ", state " ++ escaped state ++ codes "</text>\n"
 
 abbrev pub ending : Bool → Bool → List ℕ
 ending is_map fails = key_text ++ cond fails out_text [] ++ cond (not is_map) circle_text [] ++ codes "</svg>\n"
 
--- The picture of a plan in a state: the paths that no flow takes where nothing fails, and each link and each node, drawn by this layout.
-abbrev pub picture_text : List ℕ → KnownNames → Plan → ℕ → List LinkRow → Layout → List ℕ
-picture_text network known plan state rows layout =
+-- The picture of a plan in a state: the links on paths that no flow takes where nothing fails, and each link and each node, drawn by this layout.
+abbrev pub picture_text : List ℕ → KnownNames → ℕ → List LinkRow → Layout → List ℕ → List ℕ
+picture_text network known state rows layout changes =
     beginning network (state_name known.listed state)
-    ++ flat_map (drawn_change layout.links (routing_in plan.routings 0).flows) (routing_in plan.routings state).flows
-    ++ flat_map (drawn_row known layout.links (failed_links known.listed state)) rows
+    ++ cond (nat_lt 0 state) (drawn_changes layout.links changes rows) []
+    ++ flat_map (drawn_in_state known layout.links (failed_links known.listed state) changes) rows
     ++ drawn_nodes known.nodes layout.nodes
     ++ ending layout.is_map (nat_lt 0 state)
 
@@ -149,7 +161,9 @@ picture_text network known plan state rows layout =
 pub record IsPicture (network : List ℕ) (p : Case) (plan : Plan) (state : ℕ) (text : List ℕ) : Type 0 where
   pub rows : List LinkRow
   pub layout : Layout
+  pub changes : List ℕ
   pub are_rows : AreLinkRows p.links plan (length p.links) rows
+  pub are_changes : AreRoundedLoads (changed_flows (routing_in plan.routings 0).flows (routing_in plan.routings state).flows) (den_in plan.routings state) (length p.links) changes
   pub all_nodes : length layout.nodes ≡ length p.nodes
   pub all_links : length layout.links ≡ length p.links
-  pub drawn : text ≡ picture_text network (known_to p) plan state rows layout
+  pub drawn : text ≡ picture_text network (known_to p) state rows layout changes

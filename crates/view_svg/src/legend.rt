@@ -9,7 +9,7 @@ use std::alloc::Global;
 const HEAD: &[u8] =
     b"<svg xmlns=\"http://www.w3.org/2000/svg\" viewBox=\"0 0 9600 7200\" font-family=\"sans-serif\" font-size=\"120\">
 <style>path{fill:none;stroke-linecap:round}text{text-anchor:middle;paint-order:stroke;stroke:#fff;stroke-width:30px}
-.n,.k{text-anchor:start}.n{font-weight:bold}.lo{stroke:#2b7bba}.mi{stroke:#e08a00}.hi{stroke:#c0182b}.no{stroke-dasharray:60 50}
+.k,.n text{text-anchor:start}.n{font-weight:bold}.lo{stroke:#2b7bba}.mi{stroke:#e08a00}.hi{stroke:#c0182b}.no{stroke-dasharray:60 50}
 .out{stroke:#999;stroke-dasharray:20 50}.x{font-size:260px;font-weight:bold}.p{stroke:#7a3ea8;stroke-opacity:.35;stroke-width:140}</style>
 <rect width=\"9600\" height=\"7200\" fill=\"#fff\"/>
 ";
@@ -42,7 +42,7 @@ pub(crate) fn put_beginning(
     ensures { OnOk result (text.new ≡ text.old ++ beginning network.now state.now) }
 {
     text.append(HEAD)?;
-    text.append(b"<text class=\"n\" x=\"400\" y=\"280\">")?;
+    text.append(b"<text class=\"k n\" x=\"400\" y=\"280\">")?;
     put_escaped(text, alloc, network)?;
     text.append(b", state ")?;
     put_escaped(text, alloc, state)?;

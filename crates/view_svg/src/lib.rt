@@ -1,6 +1,7 @@
 //! A picture of a checked plan, as SVG without scripts: nodes where they stand, links by what they have and carry.
 #![tactic(auto)]
 
+mod changes;
 mod escape;
 mod legend;
 mod links;

@@ -4,11 +4,12 @@ ghost use Rattle.plan_report.specs.Terms.{known_of, state_name};
 ghost use Rattle.text_kit.specs.Terms.{money_word};
 ghost use Rattle.view_cells.specs.Terms.{joined_words, kinds_words};
 ghost use Rattle.view_svg.specs.Markup.{escaped};
-ghost use Rattle.view_svg.specs.Pictures.{drawn_link, drawn_row, is_out, link_class, link_curve, link_mark, link_words, use_class};
+ghost use Rattle.view_svg.specs.Pictures.{change_words, drawn_in_state, drawn_link, drawn_row, is_out, link_class, link_curve, link_mark, link_words, use_class};
 
 use crate::escape::put_escaped;
+use crate::paths::change_of;
 use crate::spots::{put_curve, put_spot};
-use net_core::{Bytes, Link, LinkId, List, Network, NoMemory, Places, States};
+use net_core::{Bytes, Instance, Link, LinkId, List, Network, NoMemory, Places, States};
 use picture_layout::{Spot, Stroke};
 use plan_view::LinkRow;
 use std::alloc::Global;
@@ -121,6 +122,39 @@ fn put_words(
     put_worst(text, alloc, net.places(), states, row)
 }
 
+/// Puts words last on what goes along other paths over a link, if something does.
+fn put_change_words(
+    text: &mut Bytes,
+    net: &Network,
+    states: &States,
+    change: u128,
+) -> Result<(), NoMemory>
+    ensures { OnOk result (text.new ≡ text.old ++ change_words (known_of net.now states.now) change) }
+{
+    if change == 0 {
+        return Ok(());
+    }
+    text.append(b"; other paths: ")?;
+    put_money_word(text, net.places(), change)
+}
+
+/// Puts the title of a link last.
+fn put_title(
+    text: &mut Bytes,
+    alloc: Global,
+    instance: &Instance,
+    link: &Link,
+    row: &LinkRow,
+    change: u128,
+) -> Result<(), NoMemory>
+    ensures { OnOk result (text.new ≡ text.old
+        ++ (link_words (known_of instance.now.net.now instance.now.states.now) link.now row.now
+        ++ change_words (known_of instance.now.net.now instance.now.states.now) change)) }
+{
+    put_words(text, alloc, instance.net, instance.states, link, row)?;
+    put_change_words(text, instance.net, instance.states, change)
+}
+
 /// Puts what stands beside a link last.
 fn put_mark(text: &mut Bytes, spot: Spot, used: u32, out: bool) -> Result<(), NoMemory>
     ensures { OnOk result (text.new ≡ text.old ++ link_mark spot used out) }
@@ -158,19 +192,20 @@ fn put_link_curve(
 fn put_link(
     text: &mut Bytes,
     alloc: Global,
-    net: &Network,
-    states: &States,
+    instance: &Instance,
     link: &Link,
     row: &LinkRow,
     stroke: &Stroke,
     out: bool,
+    change: u128,
 ) -> Result<(), NoMemory>
-    ensures { OnOk result (text.new ≡ text.old ++ drawn_link (known_of net.now states.now) link.now row.now stroke.now out) }
+    ensures { OnOk result (text.new ≡ text.old
+        ++ drawn_link (known_of instance.now.net.now instance.now.states.now) link.now row.now stroke.now out change) }
 {
     text.append(b"<g>")?;
     put_link_curve(text, stroke, row, out)?;
     text.append(b"<title>")?;
-    put_words(text, alloc, net, states, link, row)?;
+    put_title(text, alloc, instance, link, row, change)?;
     text.append(b"</title>")?;
     put_mark(text, stroke.label, row.used, out)?;
     text.append(b"</g>\n")
@@ -187,41 +222,58 @@ fn is_out(failed: &[LinkId], e: LinkId) -> bool
 fn put_row(
     text: &mut Bytes,
     alloc: Global,
-    net: &Network,
-    states: &States,
+    instance: &Instance,
     strokes: &[Stroke],
-    failed: &[LinkId],
     row: &LinkRow,
+    out: bool,
+    change: u128,
 ) -> Result<(), NoMemory>
-    ensures { OnOk result (text.new ≡ text.old ++ drawn_row (known_of net.now states.now) strokes.now failed.now row.now) }
+    ensures { OnOk result (text.new ≡ text.old
+        ++ drawn_row (known_of instance.now.net.now instance.now.states.now) strokes.now row.now out change) }
 {
     let e = row.link.0 as usize;
-    let Some(link) = net.links().items().get(e) else {
+    let Some(link) = instance.net.links().items().get(e) else {
         return Ok(());
     };
     match strokes.get(e) {
-        Some(stroke) => {
-            let out = is_out(failed, row.link);
-            put_link(text, alloc, net, states, link, row, stroke, out)
-        }
+        Some(stroke) => put_link(text, alloc, instance, link, row, stroke, out, change),
         None => Ok(()),
     }
+}
+
+/// Puts the link of a row last, in a state that fails these links and brings these amounts onto other paths.
+fn put_in_state(
+    text: &mut Bytes,
+    alloc: Global,
+    instance: &Instance,
+    strokes: &[Stroke],
+    failed: &[LinkId],
+    changes: &[u128],
+    row: &LinkRow,
+) -> Result<(), NoMemory>
+    ensures { OnOk result (text.new ≡ text.old
+        ++ drawn_in_state (known_of instance.now.net.now instance.now.states.now) strokes.now failed.now changes.now row.now) }
+{
+    let out = is_out(failed, row.link);
+    let change = change_of(changes, row.link);
+    put_row(text, alloc, instance, strokes, row, out, change)
 }
 
 /// Puts the links of rows last.
 pub(crate) fn put_links(
     text: &mut Bytes,
     alloc: Global,
-    net: &Network,
-    states: &States,
+    instance: &Instance,
     strokes: &[Stroke],
     failed: &[LinkId],
+    changes: &[u128],
     rows: &[LinkRow],
 ) -> Result<(), NoMemory>
-    ensures { OnOk result (text.new ≡ text.old ++ flat_map (drawn_row (known_of net.now states.now) strokes.now failed.now) rows.now) }
+    ensures { OnOk result (text.new ≡ text.old
+        ++ flat_map (drawn_in_state (known_of instance.now.net.now instance.now.states.now) strokes.now failed.now changes.now) rows.now) }
 {
     for row in rows {
-        put_row(text, alloc, net, states, strokes, failed, row)?;
+        put_in_state(text, alloc, instance, strokes, failed, changes, row)?;
     }
     Ok(())
 }

@@ -1,66 +1,64 @@
-ghost use Rattle.std.specs.Prelude.{◌≡◌, ◌++◌, OnOk, flat_map};
-ghost use Rattle.view_svg.specs.Pictures.{curve_on, drawn_change, drawn_path};
+ghost use Rattle.std.specs.Prelude.{◌≡◌, ◌++◌, OnOk, flat_map, slice_index};
+ghost use Rattle.view_svg.specs.Pictures.{changed_curve, drawn_changes};
 
 use crate::spots::put_curve;
-use net_core::{Bytes, Flow, LinkId, NoMemory};
+use net_core::{Bytes, LinkId, NoMemory};
 use picture_layout::Stroke;
-use plan_view::goes_again;
+use plan_view::LinkRow;
 
-/// Puts the curve of a link on a path last.
-fn put_curve_on(text: &mut Bytes, strokes: &[Stroke], e: LinkId) -> Result<(), NoMemory>
-    ensures { OnOk result (text.new ≡ text.old ++ curve_on strokes.now e) }
+/// What goes along other paths over a link.
+pub(crate) fn change_of(changes: &[u128], e: LinkId) -> u128
+    ensures { result ≡ slice_index changes.now e.0 }
 {
-    match strokes.get(e.0 as usize) {
+    match changes.get(e.0 as usize) {
+        Some(change) => *change,
+        None => 0,
+    }
+}
+
+/// Puts the curve of a row's link last, if something goes along other paths there.
+fn put_changed_curve(
+    text: &mut Bytes,
+    strokes: &[Stroke],
+    changes: &[u128],
+    row: &LinkRow,
+) -> Result<(), NoMemory>
+    ensures { OnOk result (text.new ≡ text.old ++ changed_curve strokes.now changes.now row.now) }
+{
+    if change_of(changes, row.link) == 0 {
+        return Ok(());
+    }
+    match strokes.get(row.link.0 as usize) {
         Some(stroke) => put_curve(text, stroke),
         None => Ok(()),
     }
 }
 
-/// Puts the curves of a path's links last.
-fn put_curves(text: &mut Bytes, strokes: &[Stroke], path: &[LinkId]) -> Result<(), NoMemory>
-    ensures { OnOk result (text.new ≡ text.old ++ flat_map (curve_on strokes.now) path.now) }
+/// Puts the curves of all such links last.
+fn put_changed_curves(
+    text: &mut Bytes,
+    strokes: &[Stroke],
+    changes: &[u128],
+    rows: &[LinkRow],
+) -> Result<(), NoMemory>
+    ensures { OnOk result (text.new ≡ text.old ++ flat_map (changed_curve strokes.now changes.now) rows.now) }
 {
-    for e in path {
-        put_curve_on(text, strokes, *e)?;
+    for row in rows {
+        put_changed_curve(text, strokes, changes, row)?;
     }
     Ok(())
 }
 
-/// Puts the path of a flow last.
-fn put_path(text: &mut Bytes, strokes: &[Stroke], f: &Flow) -> Result<(), NoMemory>
-    ensures { OnOk result (text.new ≡ text.old ++ drawn_path strokes.now f.now) }
-{
-    text.append(b"<path class=\"p\" d=\"")?;
-    put_curves(text, strokes, f.path.items())?;
-    text.append(b"\"/>\n")
-}
-
-/// Puts the path of a flow last, if no flow takes it where nothing fails.
-fn put_change(
-    text: &mut Bytes,
-    strokes: &[Stroke],
-    normal: &[Flow],
-    f: &Flow,
-) -> Result<(), NoMemory>
-    ensures { OnOk result (text.new ≡ text.old ++ drawn_change strokes.now normal.now f.now) }
-{
-    if goes_again(f, normal) {
-        return Ok(());
-    }
-    put_path(text, strokes, f)
-}
-
-/// Puts the paths of flows last that no flow takes where nothing fails.
+/// Puts the links last on which something goes along other paths than without failures.
 pub(crate) fn put_changes(
     text: &mut Bytes,
     strokes: &[Stroke],
-    normal: &[Flow],
-    flows: &[Flow],
+    changes: &[u128],
+    rows: &[LinkRow],
 ) -> Result<(), NoMemory>
-    ensures { OnOk result (text.new ≡ text.old ++ flat_map (drawn_change strokes.now normal.now) flows.now) }
+    ensures { OnOk result (text.new ≡ text.old ++ drawn_changes strokes.now changes.now rows.now) }
 {
-    for f in flows {
-        put_change(text, strokes, normal, f)?;
-    }
-    Ok(())
+    text.append(b"<path class=\"p\" d=\"")?;
+    put_changed_curves(text, strokes, changes, rows)?;
+    text.append(b"\"/>\n")
 }

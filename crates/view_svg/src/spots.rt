@@ -1,4 +1,5 @@
-ghost use Rattle.std.specs.Prelude.{◌≡◌, ◌++◌, OnOk};
+ghost use Rattle.std.specs.Prelude.{◌≡◌, ◌++◌, OnOk, codes};
+ghost use Rattle.std.specs.Option.{option_map_or};
 ghost use Rattle.view_svg.specs.Pictures.{curve, point, spot_attributes};
 
 use net_core::{Bytes, NoMemory};
@@ -25,14 +26,26 @@ pub(crate) fn put_spot(text: &mut Bytes, spot: Spot) -> Result<(), NoMemory>
     text.append(b"\">")
 }
 
-/// Puts the curve of a link last, as the data of a path.
+/// Puts what stands between the ends of a link's line last: what it bends towards, or that it is straight.
+fn put_bend(text: &mut Bytes, bend: Option<Spot>) -> Result<(), NoMemory>
+    ensures { OnOk result (text.new ≡ text.old ++ option_map_or (λ bend. codes "Q" ++ point bend ++ codes " ") bend (codes "L")) }
+{
+    match bend {
+        Some(bend) => {
+            text.append(b"Q")?;
+            put_point(text, bend)?;
+            text.append(b" ")
+        }
+        None => text.append(b"L"),
+    }
+}
+
+/// Puts the line of a link last, as the data of a path.
 pub(crate) fn put_curve(text: &mut Bytes, stroke: &Stroke) -> Result<(), NoMemory>
     ensures { OnOk result (text.new ≡ text.old ++ curve stroke.now) }
 {
     text.append(b"M")?;
     put_point(text, stroke.from)?;
-    text.append(b"Q")?;
-    put_point(text, stroke.bend)?;
-    text.append(b" ")?;
+    put_bend(text, stroke.bend)?;
     put_point(text, stroke.to)
 }

@@ -1,6 +1,4 @@
-use Rattle.std.proofs.Common.{◌≡◌, Some, subst, sym, ◌∙◌}
 use Rattle.view_text.specs.Terms.{problem_case}
-use Rattle.view_svg.specs.ReportPictures.{first_plan}
 use Rattle.view_svg.proofs.FirstPlans.{first_sound}
 use Rattle.view_svg.proofs.report.put_report_picture.Goals as goal
 
