@@ -6,6 +6,7 @@ use Rattle.snd_tokens.specs.declared.token.Token.{Token}
 use Rattle.snd_tokens.specs.declared.token.TokenKind.{TokenKind}
 use Rattle.snd_tokens.specs.Tokens.{token_bytes, tokens_from}
 use Rattle.snd_tokens.specs.declared.token.TokenKind.TheVariants as tokens
+use Rattle.fault_messages.specs.Limits.{name_bytes}
 use Rattle.fault_texts.specs.Quotes.{BeginsToken, IsQuote, note_text}
 
 -- how many bytes have to be put in, left out or changed to come from one name to another
@@ -53,8 +54,15 @@ abbrev pub other_words : List ℕ → ℕ → List ℕ → List Token → List (
 other_words text at name [] = []
 other_words text at name (t ∷ ts) = other_word text at name t ++ other_words text at name ts
 
--- A line that asks for another word of a text instead of the one that begins at a place: the nearest of those before it, if one is near.
+-- A line that asks for another word of a text instead of this one: the nearest of those that begin before a place, if one is near. For a word of
+-- more bytes than a name has there is none.
+abbrev pub IsOtherNote : List ℕ → ℕ → List ℕ → List ℕ → Type 0
+IsOtherNote text at word note =
+    ((name_bytes < length word) × (note ≡ []))
+    ⊎ ((length word ≤ name_bytes) × IsNearestNote word (other_words text at word (tokens_from 0 text)) note)
+
+-- such a line for the word that begins at the place
 abbrev pub IsNearNote : List ℕ → ℕ → List ℕ → Type 0
 IsNearNote text at note =
     (((word : List ℕ) → BeginsToken text at word → ⊥) × (note ≡ []))
-    ⊎ ((word : List ℕ) × BeginsToken text at word × IsNearestNote word (other_words text at word (tokens_from 0 text)) note)
+    ⊎ ((word : List ℕ) × BeginsToken text at word × IsOtherNote text at word note)

@@ -2,13 +2,16 @@ ghost use Rattle.std.specs.Prelude.{◌≡◌, ◌+◌, ◌≤◌, ◌<◌, ◌+
 ghost use Rattle.net_core.specs.Terms.{are_same};
 ghost use Rattle.snd_tokens.specs.Tokens.{token_bytes, tokens_from};
 ghost use Rattle.fault_texts.specs.Quotes.{IsQuote, note_text};
-ghost use Rattle.fault_messages.specs.NearNames.{HasNoneNear, IsNearNote, IsNearestName, IsNearestNote, IsWordNote, edits, is_word, other_word, other_words};
+ghost use Rattle.fault_messages.specs.NearNames.{HasNoneNear, IsNearNote, IsNearestName, IsNearestNote, IsOtherNote, IsWordNote, edits, is_word, other_word, other_words};
 
 use fault_texts::{put_quote, token_here};
 use net_core::{Bytes, List as Items, NoMemory};
 use snd_tokens::{Token, TokenKind, next_token};
 use std::alloc::Global;
 use strsim::generic_levenshtein;
+
+/// How many bytes a name has at most.
+const NAME_BYTES: usize = 255;
 
 /// How many bytes have to be put in, left out or changed to come from one name to another, if they are fewer than a limit. Where the lengths
 /// differ by as many, it takes no time.
@@ -167,9 +170,27 @@ fn other_words(alloc: Global, text: &[u8], at: u64, name: &[u8]) -> Result<Items
     Ok(words)
 }
 
+/// Puts a line last that asks for another word of a text instead of this one: the nearest of those that begin before a place, if one is near.
+/// For a word of more bytes than a name has it puts nothing.
+fn put_other_note(
+    text: &mut Bytes,
+    alloc: Global,
+    bytes: &[u8],
+    at: usize,
+    word: &[u8],
+) -> Result<(), NoMemory>
+    ensures { OnOk result ((note : List ℕ) × IsOtherNote bytes.now at word.now note × (text.new ≡ text.old ++ note)) }
+{
+    if word.len() > NAME_BYTES {
+        return Ok(());
+    }
+    let words = other_words(alloc, bytes, at as u64, word)?;
+    put_nearest_note(text, alloc, word, words.items())
+}
+
 /// Puts a line last that asks for another word of a text instead of the one that begins at a place: the nearest of those before it, if one
-/// is near. It goes over the whole text, copies the words before the place, and compares each of them with the one at the place, in time of
-/// the product of their lengths.
+/// is near. A word of more than 255 bytes, which is no name, gets none. It goes over the whole text, copies the words before the place, and
+/// compares each of them with the one at the place, so that it takes time in the text's length times that of a name, and memory in the text's.
 pub fn put_near_note(
     text: &mut Bytes,
     alloc: Global,
@@ -180,10 +201,7 @@ pub fn put_near_note(
     ensures { OnOk result ((note : List ℕ) × IsNearNote bytes.now at note × (text.new ≡ text.old ++ note)) }
 {
     match token_here(bytes, at) {
-        Some(name) => {
-            let words = other_words(alloc, bytes, at as u64, name)?;
-            put_nearest_note(text, alloc, name, words.items())
-        }
+        Some(word) => put_other_note(text, alloc, bytes, at, word),
         None => Ok(()),
     }
 }
