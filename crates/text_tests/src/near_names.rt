@@ -91,3 +91,52 @@ fn lines_ask_for_words_before(rt: HostRuntime) {
     let wrong = first_wrong_note(rt.alloc());
     assert!(rt; wrong.is_none(), "row {}", wrong.unwrap_or(0));
 }
+
+/// How many bytes two words share, the place of the second, which has one byte more and another than the first, and the line that asks for the
+/// first: words of 255 bytes, as long as a name may be, and of 256.
+const LONG: [(usize, usize, &[u8]); 2] = [
+    (
+        254,
+        256,
+        b"  did you mean `xxxxxxxxxxxxxxxxxxxxxxxxxxxxxxxxxxxxxxxx..`?\n",
+    ),
+    (255, 257, b""),
+];
+
+/// Two words that share so many bytes.
+fn two_words(alloc: Global, shared: usize) -> Result<Bytes, NoMemory> {
+    let same = List::filled(alloc, b'x', shared)?;
+    let mut text = List::new(alloc);
+    text.append(same.items())?;
+    text.append(b"a ")?;
+    text.append(same.items())?;
+    text.append(b"b")?;
+    Ok(text)
+}
+
+/// Whether the line of two long words is as wanted.
+fn is_long_note(alloc: Global, shared: usize, at: usize, note: &[u8]) -> Result<bool, NoMemory> {
+    let words = two_words(alloc, shared)?;
+    if at > words.len() {
+        return Ok(false);
+    }
+    let mut text = List::new(alloc);
+    put_near_note(&mut text, alloc, words.items(), at)?;
+    Ok(text.items() == note)
+}
+
+/// The first row of long words whose line is another one.
+fn first_wrong_long(alloc: Global) -> Option<usize> {
+    for i in 0..LONG.len() {
+        if is_long_note(alloc, LONG[i].0, LONG[i].1, LONG[i].2) != Ok(true) {
+            return Some(i);
+        }
+    }
+    None
+}
+
+#[test]
+fn lines_ask_for_words_that_may_be_names(rt: HostRuntime) {
+    let wrong = first_wrong_long(rt.alloc());
+    assert!(rt; wrong.is_none(), "row {}", wrong.unwrap_or(0));
+}
