@@ -1,2 +1,3 @@
 pub mod Reading
 pub mod GivenCommands
+pub mod WordCommands

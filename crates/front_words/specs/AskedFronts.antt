@@ -4,7 +4,7 @@ use Rattle.front_words.specs.Fronts as fronts
 use Rattle.front_words.specs.declared.words.FormWords.{FormWords}
 use Rattle.front_words.specs.declared.words.FormWords.TheVariants.{Picture, Tables, Values, State}
 use Rattle.front_words.specs.declared.words.FrontWords.{FrontWords}
-use Rattle.front_words.specs.declared.words.FrontWords.TheVariants.{Help, Version, Failures, View, Plan}
+use Rattle.front_words.specs.declared.words.FrontWords.TheVariants.{Help, HelpOn, Version, Failures, View, Plan}
 use Rattle.front_words.specs.declared.words.PlanRequest.{PlanRequest}
 
 -- the plan that is asked for
@@ -21,6 +21,7 @@ asked_form (Picture name) = fronts.Picture name.now
 -- the command that is asked for
 abbrev pub asked_front : FrontWords → fronts.FrontCommand
 asked_front Help = fronts.Help
+asked_front (HelpOn topic) = fronts.HelpOn topic
 asked_front Version = fronts.Version
 asked_front (Failures network) = fronts.Failures network.now
 asked_front (View view) = fronts.View (named_case view.case) view.report.now (asked_form view.form)

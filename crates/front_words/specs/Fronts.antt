@@ -6,6 +6,8 @@ use Rattle.input_files.specs.InputWords.{default}
 use Rattle.front_files.specs.FrontInputs.{CaseWords}
 use Rattle.view_csv.specs.declared.sheet.Sheet.{Sheet}
 use Rattle.view_csv.specs.declared.sheet.Sheet.TheVariants.{Links, States, Flows}
+use Rattle.front_words.specs.declared.words.HelpTopic.{HelpTopic}
+use Rattle.front_words.specs.declared.words.HelpTopic.TheVariants as topics
 use Rattle.front_words.specs.GivenWords.{AreRead, GivenOption, TakesOptions, value_given}
 
 -- what a plan is asked for: the case of these files, how many splits its branch tree has at most where somebody says, whether the report is to be
@@ -23,10 +25,11 @@ pub data AskedForm : Type 0 where
   State : List ℕ → AskedForm
   Picture : List ℕ → AskedForm
 
--- how the program is used, which version it is, the failure list of a network's file, the view of the report in a file, of plans for
+-- how the program is used, how one of its commands is, which version it is, the failure list of a network's file, the view of the report in a file, of plans for
 -- the case of other files, in a form, or a plan
 pub data FrontCommand : Type 0 where
   Help : FrontCommand
+  HelpOn : HelpTopic → FrontCommand
   Version : FrontCommand
   Failures : List ℕ → FrontCommand
   View : CaseWords → List ℕ → AskedForm → FrontCommand
@@ -104,9 +107,17 @@ view_options = codes "--model" ∷ codes "--failures" ∷ codes "--survive" ∷ 
 abbrev pub plan_options : List (List ℕ)
 plan_options = codes "--model" ∷ codes "--failures" ∷ codes "--survive" ∷ codes "--splits" ∷ codes "--report" ∷ codes "--quiet" ∷ []
 
+-- the word names this command, of which help is asked for
+abbrev pub NamesTopic : List ℕ → HelpTopic → Type 0
+NamesTopic word topics.Plan = word ≡ codes "plan"
+NamesTopic word topics.View = word ≡ codes "view"
+NamesTopic word topics.Failures = word ≡ codes "failures"
+NamesTopic word topics.Help = word ≡ codes "help"
+
 -- one word is this command
 abbrev pub IsLoneWord : List ℕ → FrontCommand → Type 0
 IsLoneWord word Help = (word ≡ codes "help") ⊎ (word ≡ codes "--help")
+IsLoneWord word (HelpOn topic) = ⊥
 IsLoneWord word Version = word ≡ codes "--version"
 IsLoneWord word (Failures network) = ⊥
 IsLoneWord word (View w report form) = ⊥
@@ -120,17 +131,19 @@ AsksPlan network options asked =
     × (asked.report ≡ is_some (value_given options (codes "--report")))
     × (asked.quiet ≡ is_some (value_given options (codes "--quiet")))
 
--- a command's name, a network and options are this command
-abbrev pub IsOfNetwork : List ℕ → List ℕ → List GivenOption → FrontCommand → Type 0
-IsOfNetwork name word options Help = ⊥
-IsOfNetwork name word options Version = ⊥
-IsOfNetwork name word options (Failures network) = (name ≡ codes "failures") × TakesOptions [] options × NamesFile word network
-IsOfNetwork name word options (View w report form) = ⊥
-IsOfNetwork name word options (Plan asked) = (name ≡ codes "plan") × TakesOptions plan_options options × AsksPlan word options asked
+-- a command's name, a word after it and options are this command
+abbrev pub IsOfWord : List ℕ → List ℕ → List GivenOption → FrontCommand → Type 0
+IsOfWord name word options Help = ⊥
+IsOfWord name word options (HelpOn topic) = (name ≡ codes "help") × TakesOptions [] options × NamesTopic word topic
+IsOfWord name word options Version = ⊥
+IsOfWord name word options (Failures network) = (name ≡ codes "failures") × TakesOptions [] options × NamesFile word network
+IsOfWord name word options (View w report form) = ⊥
+IsOfWord name word options (Plan asked) = (name ≡ codes "plan") × TakesOptions plan_options options × AsksPlan word options asked
 
 -- a network, a report and options are this view
 abbrev pub IsViewOf : List ℕ → List ℕ → List GivenOption → FrontCommand → Type 0
 IsViewOf network word options Help = ⊥
+IsViewOf network word options (HelpOn topic) = ⊥
 IsViewOf network word options Version = ⊥
 IsViewOf network word options (Failures file) = ⊥
 IsViewOf network word options (View w report form) = NamesCase network options w × NamesViewForm options form × NamesFile word report
@@ -144,7 +157,7 @@ IsOfReport name network word options c =
 
 -- names and options are this command
 abbrev pub IsOfParts : List (List ℕ) → List GivenOption → FrontCommand → Type 0
-IsOfParts (name ∷ network ∷ []) options c = IsOfNetwork name network options c
+IsOfParts (name ∷ word ∷ []) options c = IsOfWord name word options c
 IsOfParts (name ∷ network ∷ report ∷ []) options c = IsOfReport name network report options c
 IsOfParts _ options c = ⊥
 

@@ -1,14 +1,15 @@
 ghost use Rattle.std.specs.Prelude.{◌≡◌, ◌≤◌, ◌<◌, ◌^◌, ◌↔◌, ◌∷◌, [], ℕ, Bool, List, Option, None, IfOk, IfSome, IsTrue, MatchOption, codes, is_some, map, option_map, string_bytes};
 ghost use Rattle.front_files.specs.FrontInputs.{CaseWords, named_case};
-ghost use Rattle.front_words.specs.Fronts.{AskedForm, AskedPlan, AsksPlan, FrontCommand, IsFrontCommand, IsGiven, IsLoneWord, IsOfNetwork, IsOfParts, IsOfReport, IsSplitsWord, IsViewOf, NamesCase, NamesAnyForm, NamesFile, NamesForm, NamesOption, NamesPicture, NamesSheet, NamesSplits, NamesSurvival, NamesViewForm, plan_options, view_options};
+ghost use Rattle.front_words.specs.Fronts.{AskedForm, AskedPlan, AsksPlan, FrontCommand, IsFrontCommand, IsGiven, IsLoneWord, IsOfParts, IsOfReport, IsOfWord, IsSplitsWord, IsViewOf, NamesCase, NamesAnyForm, NamesFile, NamesForm, NamesOption, NamesPicture, NamesSheet, NamesSplits, NamesSurvival, NamesTopic, NamesViewForm, plan_options, view_options};
 ghost use Rattle.view_csv.specs.declared.sheet.Sheet.{Sheet};
 ghost use Rattle.front_words.specs.GivenWords.{TakesOptions};
 ghost use Rattle.front_words.specs.AskedFronts.{asked_form, asked_front, asked_plan};
+ghost use Rattle.front_words.specs.declared.words.HelpTopic.{HelpTopic};
 ghost use Rattle.front_words.specs.inner.Causes.{given_names, given_option, given_options};
 
 use crate::given::{Given, OptionValue, given_by};
 use crate::options::{takes_options, value_given};
-use crate::words::{FormWords, FrontWords, PlanRequest, ViewWords};
+use crate::words::{FormWords, FrontWords, HelpTopic, PlanRequest, ViewWords};
 use front_files::CaseFiles;
 use input_files::{DEFAULT, PlanFiles};
 use net_core::NoMemory;
@@ -240,21 +241,44 @@ fn lone_command(word: &str) -> Option<FrontWords<'static>>
     None
 }
 
-/// The command that a name, a network and options are.
-fn network_command<'w>(
+/// The command that a word names, of which help is asked for.
+fn topic_word(word: &str) -> Option<HelpTopic>
+    ensures { MatchOption result ((t : HelpTopic) → NamesTopic word.now t → ⊥) (λ t. NamesTopic word.now t) }
+{
+    if is_word(word, "plan") {
+        return Some(HelpTopic::Plan);
+    }
+    if is_word(word, "view") {
+        return Some(HelpTopic::View);
+    }
+    if is_word(word, "failures") {
+        return Some(HelpTopic::Failures);
+    }
+    if is_word(word, "help") {
+        return Some(HelpTopic::Help);
+    }
+    None
+}
+
+/// The command that a name, a word after it and options are.
+fn word_command<'w>(
     name: &str,
-    network: &'w str,
+    word: &'w str,
     options: &[OptionValue<'w>],
 ) -> Option<FrontWords<'w>>
-    ensures { MatchOption result ((c : FrontCommand) → IsOfNetwork name.now network.now (map given_option options.now) c → ⊥)
-        (λ c. IsOfNetwork name.now network.now (map given_option options.now) (asked_front c)) }
+    ensures { MatchOption result ((c : FrontCommand) → IsOfWord name.now word.now (map given_option options.now) c → ⊥)
+        (λ c. IsOfWord name.now word.now (map given_option options.now) (asked_front c)) }
 {
     if is_word(name, "failures") && takes_options(options, &[]) {
-        return Some(FrontWords::Failures(file_of_word(network)));
+        return Some(FrontWords::Failures(file_of_word(word)));
     }
     if is_word(name, "plan") && takes_options(options, &PLAN_OPTIONS) {
-        let plan = asked_plan(network, options)?;
+        let plan = asked_plan(word, options)?;
         return Some(FrontWords::Plan(plan));
+    }
+    if is_word(name, "help") && takes_options(options, &[]) {
+        let topic = topic_word(word)?;
+        return Some(FrontWords::HelpOn(topic));
     }
     None
 }
@@ -316,7 +340,7 @@ fn parts_command<'w>(names: &[&'w str], options: &[OptionValue<'w>]) -> Option<F
         (λ c. IsOfParts (map (λ w. w.now) names.now) (map given_option options.now) (asked_front c)) }
 {
     match names {
-        [name, network] => network_command(name, network, options),
+        [name, word] => word_command(name, word, options),
         [name, network, report] => report_command(name, network, report, options),
         _ => None,
     }

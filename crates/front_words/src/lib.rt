@@ -13,4 +13,4 @@ mod options;
 mod words;
 
 pub use command::command_of;
-pub use words::{FormWords, FrontWords, PlanRequest, ViewWords};
+pub use words::{FormWords, FrontWords, HelpTopic, PlanRequest, ViewWords};

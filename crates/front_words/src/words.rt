@@ -4,11 +4,22 @@ ghost use Rattle.std.specs.Option.{option_map_or};
 use front_files::CaseFiles;
 use view_csv::Sheet;
 
+/// A command that help is asked for.
+#[derive(Clone, Copy)]
+pub enum HelpTopic {
+    Plan,
+    View,
+    Failures,
+    Help,
+}
+
 /// What a run is asked for.
 #[derive(Clone, Copy)]
 pub enum FrontWords<'w> {
     /// How the program is used.
     Help,
+    /// How one of its commands is used.
+    HelpOn(HelpTopic),
     /// Which version it is.
     Version,
     /// The failure list of the network in the file of this name.
