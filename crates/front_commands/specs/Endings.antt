@@ -13,41 +13,16 @@ use Rattle.failure_texts.specs.FailureTexts.{IsFailureList}
 use Rattle.failure_texts.specs.Fates.{with_states}
 use Rattle.input_files.specs.Inputs.{Fetched, SpellsNetwork, input_limit, report_limit}
 use Rattle.front_words.specs.Fronts as asked
-use Rattle.front_words.specs.Fronts.{AskedForm, AskedPlan, FrontCommand, Help, Version, Failures, View, Plan, IsFrontCommand}
+use Rattle.front_words.specs.Fronts.{AskedForm, AskedPlan, FrontCommand, Help, HelpOn, Version, Failures, View, Plan, IsFrontCommand}
 use Rattle.front_files.specs.FrontInputs.{CaseWords, EndsAfterCase}
 use Rattle.front_files.specs.Messages.{FailsAtFetch, FailsAtFile, ShowsNetworkFault}
 use Rattle.view_forms.specs.declared.form.ViewForm.{ViewForm}
 use Rattle.view_forms.specs.declared.form.ViewForm.TheVariants.{Tables, Values}
 use Rattle.front_views.specs.Terms.{EndsReport, LacksState, NamesState, PicturesState}
 use Rattle.front_plans.specs.FrontPlans.{EndsPlanForPeople}
+use Rattle.front_commands.specs.HelpTexts.{help_text, topic_help}
 
 -- ---- texts of their own
-
--- how the program is used
-abbrev pub help_text : List ℕ
-help_text =
-    codes "zorgwint plans link capacities for a network whose demands must be carried, and helps people with the files of it.\n"
-    ++ codes "\n"
-    ++ codes "  zorgwint plan NET [--model F] [--failures F] [--survive links] [--splits N] [--report] [--quiet]\n"
-    ++ codes "      a plan for NET: what to buy, loads, failures, and how near to the cheapest it is; with --report the report that planner_top\n"
-    ++ codes "      checks and view reads, and the first lines of the tables beside it\n"
-    ++ codes "  zorgwint view NET REPORT [--model F] [--failures F] [--survive links] [--csv links|states|flows | --state NAME] [--svg]\n"
-    ++ codes "      tables of a report of plans for NET, which is checked first: what to buy, loads, failures, and what is known of the cost;\n"
-    ++ codes "      with --csv a sheet of comma-separated values, with a row for each link, state or flow; with --state the loads and paths of\n"
-    ++ codes "      one state, by its name; with --svg a picture of the first plan, in that state\n"
-    ++ codes "  zorgwint failures NET\n"
-    ++ codes "      a failure list of each single link that can fail without separating a demand; the others stand in comments\n"
-    ++ codes "  zorgwint help | --help | --version\n"
-    ++ codes "\n"
-    ++ codes "NET is the file of a network in SNDlib's native format, REPORT one that plan --report or planner_top has written, and - is\n"
-    ++ codes "standard input. --model names a model, --failures a failure list; --survive links stands for a list of each single link, and no\n"
-    ++ codes "setup is charged without a model. --splits is how often a branch tree splits at most, from 0 to 9999: by default 100 times for up\n"
-    ++ codes "to 20 nodes, 10 for up to 40, and else 0. --quiet leaves out how far the planning is. Options stand in any place, each once.\n"
-    ++ codes "After -- no word is an option.\n"
-    ++ codes "\n"
-    ++ codes "Exit statuses: 0 done, 2 these words are no command, 3 a file isn't there, 4 reading failed, 5 writing failed,\n"
-    ++ codes "6 the network is refused, 7 the model, 8 the failure list, 10 a demand is separated, 11 the report is wrong,\n"
-    ++ codes "12 a file is too long, 13 the report can't be read, 14 there is no memory\n"
 
 -- which version it is
 abbrev pub version_text : List ℕ
@@ -58,7 +33,8 @@ abbrev pub usage_message : List ℕ
 usage_message =
     codes "these words are no command; zorgwint --help tells which are\n"
     ++ codes "usage: zorgwint plan NET [--model F] [--failures F] [--survive links] [--splits N] [--report] [--quiet]\n"
-    ++ codes "       | view NET REPORT [--model F] [--failures F] [--survive links] [--csv WHAT | --state NAME] [--svg] | failures NET | help | --help | --version\n"
+    ++ codes "       | view NET REPORT [--model F] [--failures F] [--survive links] [--csv WHAT | --state NAME] [--svg]\n"
+    ++ codes "       | failures NET | help [COMMAND] | --help | --version\n"
 
 -- what is said where memory ran out
 abbrev pub memory_message : List ℕ
@@ -134,6 +110,7 @@ EndsFrontPlan files asked = EndsAfterCase files asked.case (EndsPlanForPeople as
 -- what a command comes to
 abbrev pub EndsFrontCommand : Option Files → FrontCommand → Status → List ℕ → List ℕ → Type 0
 EndsFrontCommand files Help status text message = (status ≡ Done) × (text ≡ help_text) × (message ≡ [])
+EndsFrontCommand files (HelpOn topic) status text message = (status ≡ Done) × (text ≡ topic_help topic) × (message ≡ [])
 EndsFrontCommand files Version status text message = (status ≡ Done) × (text ≡ version_text) × (message ≡ [])
 EndsFrontCommand files (Failures network) status text message = EndsFailures files network status text message
 EndsFrontCommand files (View w report form) status text message = EndsView files w report form status text message

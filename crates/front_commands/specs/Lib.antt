@@ -1,2 +1,3 @@
+pub mod HelpTexts
 pub mod Endings
 pub mod inner

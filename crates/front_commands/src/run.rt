@@ -9,7 +9,7 @@ ghost use Rattle.check_answers.specs.declared.status.Status.{Status};
 use crate::failures::failures_file;
 use crate::output::{Printed, alone, say, tell};
 use crate::plan::plan_files;
-use crate::usage::{HELP, MEMORY_MESSAGE, USAGE, VERSION};
+use crate::usage::{HELP, MEMORY_MESSAGE, USAGE, VERSION, topic_help};
 use crate::view::view_files;
 use check_answers::Status;
 use front_files::{Halt, told};
@@ -60,6 +60,7 @@ fn answer_command<R: Threads + Wait + Sync, S: Shelf, T: Teller + Sync>(
 {
     match *words {
         FrontWords::Help => own_text(alloc, HELP),
+        FrontWords::HelpOn(topic) => own_text(alloc, topic_help(topic)),
         FrontWords::Version => own_text(alloc, VERSION),
         FrontWords::Failures(network) => alone(alloc, failures_file(alloc, network, shelf)),
         FrontWords::View(view) => alone(alloc, view_files(alloc, &view, shelf)),

@@ -1,6 +1,8 @@
 ghost use Rattle.std.specs.Prelude.{◌≡◌};
 ghost use Rattle.front_commands.specs.Endings as ends;
+ghost use Rattle.front_commands.specs.HelpTexts as texts;
 
+use front_words::HelpTopic;
 use outside_io::Failed;
 
 /// How the program is used.
@@ -16,7 +18,8 @@ pub(crate) const HELP: &[u8] =
       one state, by its name; with --svg a picture of the first plan, in that state
   zorgwint failures NET
       a failure list of each single link that can fail without separating a demand; the others stand in comments
-  zorgwint help | --help | --version
+  zorgwint help [COMMAND] | --help | --version
+      this text, or how COMMAND alone is used; which version it is
 
 NET is the file of a network in SNDlib's native format, REPORT one that plan --report or planner_top has written, and - is
 standard input. --model names a model, --failures a failure list; --survive links stands for a list of each single link, and no
@@ -29,13 +32,80 @@ Exit statuses: 0 done, 2 these words are no command, 3 a file isn't there, 4 rea
 12 a file is too long, 13 the report can't be read, 14 there is no memory
 ";
 
+/// How a plan is asked for.
+pub(crate) const PLAN_HELP: &[u8] =
+    b"zorgwint plan NET [--model F] [--failures F] [--survive links] [--splits N] [--report] [--quiet]
+    a plan for NET: what to buy, loads, failures, and how near to the cheapest it is
+
+  NET               the file of a network in SNDlib's native format; - is standard input
+  --model F         the file of a planning model; without one no setup is charged
+  --failures F      the file of a failure list; without one each single link fails where the model asks for survivability, and
+                    else none
+  --survive links   each single link's failure is survived; no failure list is named beside it
+  --splits N        how often a branch tree splits at most, from 0 to 9999: by default 100 times for up to 20 nodes, 10 for up
+                    to 40, and else 0
+  --report          the report that planner_top checks and view reads, and the first lines of the tables beside it
+  --quiet           nothing is said of how far the planning is
+
+Options stand in any place, each once. After -- no word is an option.
+";
+
+/// How a view is asked for.
+pub(crate) const VIEW_HELP: &[u8] =
+    b"zorgwint view NET REPORT [--model F] [--failures F] [--survive links] [--csv WHAT | --state NAME] [--svg]
+    tables of a report of plans for NET, which is checked first: what to buy, loads, failures, and what is known of the cost
+
+  NET               the file of a network in SNDlib's native format
+  REPORT            the file of a report that plan --report or planner_top has written; one of the two files may be -, which is
+                    standard input
+  --model F         the file of the planning model that the plans are for, if there is one
+  --failures F      the file of the failure list that they are for, if there is one
+  --survive links   they are for each single link's failure; no failure list is named beside it
+  --csv WHAT        a sheet of comma-separated values, with a row for each of WHAT: links, states or flows
+  --state NAME      the loads and paths of one state: none, where nothing fails, or a failure by its name
+  --svg             a picture of the first plan, in the state that --state names, or else where nothing fails; not with --csv
+
+Options stand in any place, each once. After -- no word is an option.
+";
+
+/// How a failure list is asked for.
+pub(crate) const FAILURES_HELP: &[u8] = b"zorgwint failures NET
+    a failure list of each single link that can fail without separating a demand; the others stand in comments
+
+  NET   the file of a network in SNDlib's native format; - is standard input
+
+It takes no options. After -- no word is one, so that NET may begin with a minus.
+";
+
+/// How help is asked for.
+pub(crate) const HELP_HELP: &[u8] = b"zorgwint help [COMMAND]
+    what all commands do and take, or how COMMAND alone is used
+
+  COMMAND   plan, view, failures or help
+
+zorgwint --help is help without COMMAND, and zorgwint --version tells which version it is.
+";
+
+/// How a command is used.
+pub(crate) fn topic_help(topic: HelpTopic) -> &'static [u8]
+    ensures { result.now ≡ texts.topic_help topic }
+{
+    match topic {
+        HelpTopic::Plan => PLAN_HELP,
+        HelpTopic::View => VIEW_HELP,
+        HelpTopic::Failures => FAILURES_HELP,
+        HelpTopic::Help => HELP_HELP,
+    }
+}
+
 /// Which version it is.
 pub(crate) const VERSION: &[u8] = b"zorgwint 1\n";
 
 /// What is said of words that are no command.
 pub(crate) const USAGE: &[u8] = b"these words are no command; zorgwint --help tells which are
 usage: zorgwint plan NET [--model F] [--failures F] [--survive links] [--splits N] [--report] [--quiet]
-       | view NET REPORT [--model F] [--failures F] [--survive links] [--csv WHAT | --state NAME] [--svg] | failures NET | help | --help | --version
+       | view NET REPORT [--model F] [--failures F] [--survive links] [--csv WHAT | --state NAME] [--svg]
+       | failures NET | help [COMMAND] | --help | --version
 ";
 
 /// What is said where memory ran out.

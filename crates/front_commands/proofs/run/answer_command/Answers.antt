@@ -12,6 +12,11 @@ returns-in-Help-clause-ends g c =
     subst (λ (w : FrontWords). HasPrintedCause (EndsFrontCommand (g.S.Shelf.files c.args.shelf.now) (asked_front w)) c.own_text.result) (sym c.in-Help.is)
     c.own_text.ensures.ends
 
+pub returns-in-HelpOn-clause-ends : goal.returns-in-HelpOn-clause-ends
+returns-in-HelpOn-clause-ends g c =
+    subst (λ (w : FrontWords). HasPrintedCause (EndsFrontCommand (g.S.Shelf.files c.args.shelf.now) (asked_front w)) c.own_text-in-HelpOn.result)
+    (sym c.in-HelpOn.is) (rw c.topic_help.ensures at c.own_text-in-HelpOn.ensures.ends)
+
 pub returns-in-Failures-clause-ends : goal.returns-in-Failures-clause-ends
 returns-in-Failures-clause-ends g c =
     let files = g.S.Shelf.files c.args.shelf.now in
