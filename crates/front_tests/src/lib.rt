@@ -7,3 +7,5 @@ mod files;
 mod lists;
 #[cfg(test)]
 mod runs;
+#[cfg(test)]
+mod wide;

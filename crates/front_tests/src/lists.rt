@@ -3,7 +3,8 @@ use front_commands::Status;
 
 const USAGE: &str = "these words are no command; zorgwint --help tells which are
 usage: zorgwint plan NET [--model F] [--failures F] [--survive links] [--splits N] [--report] [--quiet]
-       | view NET REPORT [--model F] [--failures F] [--survive links] [--csv WHAT | --state NAME] [--svg] | failures NET | help | --help | --version
+       | view NET REPORT [--model F] [--failures F] [--survive links] [--csv WHAT | --state NAME] [--svg]
+       | failures NET | help [COMMAND] | --help | --version
 ";
 
 const NO_STATE: &str = "no state has the name `AC`
@@ -104,6 +105,24 @@ not survivable: state 3 CD demand D2
 const APART: &str = "apart: there is no plan, since some demands can't be carried
   without any failure no path joins the ends of demand D2
 not survivable: state 0 none demand D2
+";
+
+/// What there is of `failures`.
+const FAILURES_HELP: &str = "zorgwint failures NET
+    a failure list of each single link that can fail without separating a demand; the others stand in comments
+
+  NET   the file of a network in SNDlib's native format; - is standard input
+
+It takes no options. After -- no word is one, so that NET may begin with a minus.
+";
+
+/// What there is of `help`.
+const HELP_HELP: &str = "zorgwint help [COMMAND]
+    what all commands do and take, or how COMMAND alone is used
+
+  COMMAND   plan, view, failures or help
+
+zorgwint --help is help without COMMAND, and zorgwint --version tells which version it is.
 ";
 
 /// No fetch and no put fails.
@@ -426,6 +445,25 @@ const PLANS: [Row; 13] = [
     ("plan triangle --splits", SOUND, Status::BadWords, "", USAGE),
 ];
 
+/// Words that ask for help.
+const HELPS: [Row; 9] = [
+    ("help failures", SOUND, Status::Done, FAILURES_HELP, ""),
+    ("help help", SOUND, Status::Done, HELP_HELP, ""),
+    ("help -- failures", SOUND, Status::Done, FAILURES_HELP, ""),
+    (
+        "help failures",
+        (9, 9, 20),
+        Status::WriteFault,
+        "",
+        "writing failed: the disk is full\n",
+    ),
+    ("help version", SOUND, Status::BadWords, "", USAGE),
+    ("help plan view", SOUND, Status::BadWords, "", USAGE),
+    ("help plan --quiet", SOUND, Status::BadWords, "", USAGE),
+    ("help --version", SOUND, Status::BadWords, "", USAGE),
+    ("help --", SOUND, Status::BadWords, "", USAGE),
+];
+
 #[test]
 fn runs_come_to_their_rows(rt: HostRuntime) {
     for row in &ROWS {
@@ -443,6 +481,13 @@ fn options_stand_in_any_place(rt: HostRuntime) {
 #[test]
 fn plans_are_made(rt: HostRuntime) {
     for row in &PLANS {
+        assert!(rt; comes_to(&rt, rt.alloc(), row) == Some(true), "{}", row.0);
+    }
+}
+
+#[test]
+fn help_is_of_one_command(rt: HostRuntime) {
+    for row in &HELPS {
         assert!(rt; comes_to(&rt, rt.alloc(), row) == Some(true), "{}", row.0);
     }
 }
