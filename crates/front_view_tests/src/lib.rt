@@ -6,6 +6,10 @@ mod forms;
 #[cfg(test)]
 mod pictures;
 #[cfg(test)]
+mod printable;
+#[cfg(test)]
+mod sizes;
+#[cfg(test)]
 mod texts;
 #[cfg(test)]
 mod views;

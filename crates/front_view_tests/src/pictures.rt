@@ -16,16 +16,21 @@ const ROWS: [Row; 3] = [
         "none",
         "<svg xmlns=\"http://www.w3.org/2000/svg\" viewBox=\"0 0 9600 7200\" font-family=\"sans-serif\" font-size=\"120\">
 <style>path{fill:none;stroke-linecap:round}text{text-anchor:middle;paint-order:stroke;stroke:#fff;stroke-width:30px}
-.n,.k{text-anchor:start}.n{font-weight:bold}.lo{stroke:#2b7bba}.mi{stroke:#e08a00}.hi{stroke:#c0182b}.no{stroke-dasharray:60 50}
+.k,.n text{text-anchor:start}.n{font-weight:bold}.lo{stroke:#2b7bba}.mi{stroke:#e08a00}.hi{stroke:#c0182b}.no{stroke-dasharray:60 50}
 .out{stroke:#999;stroke-dasharray:20 50}.x{font-size:260px;font-weight:bold}.p{stroke:#7a3ea8;stroke-opacity:.35;stroke-width:140}</style>
 <rect width=\"9600\" height=\"7200\" fill=\"#fff\"/>
-<text class=\"n\" x=\"400\" y=\"280\">triangle.txt, state none</text>
-<g><path class=\"mi\" stroke-width=\"80\" d=\"M4800 600Q5967 2625 7134 4650\"/><title>AB: 2 x 10.000, cost 10.000, 12.000 of 20.000 in state AC</title><text x=\"5967\" y=\"2625\">60</text></g>
-<g><path class=\"mi\" stroke-width=\"80\" d=\"M7134 4650Q4800 4650 2466 4650\"/><title>BC: 2 x 10.000, cost 10.000, 12.000 of 20.000 in state AC</title><text x=\"4800\" y=\"4650\">60</text></g>
-<g><path class=\"mi\" stroke-width=\"80\" d=\"M4800 600Q3633 2625 2466 4650\"/><title>AC: 2 x 10.000, cost 10.000, 12.000 of 20.000 in state none</title><text x=\"3633\" y=\"2625\">60</text></g>
-<circle r=\"50\" cx=\"4800\" cy=\"600\"/><text class=\"n\" dx=\"80\" dy=\"-70\" x=\"4800\" y=\"600\">A</text>
-<circle r=\"50\" cx=\"7134\" cy=\"4650\"/><text class=\"n\" dx=\"80\" dy=\"-70\" x=\"7134\" y=\"4650\">B</text>
-<circle r=\"50\" cx=\"2466\" cy=\"4650\"/><text class=\"n\" dx=\"80\" dy=\"-70\" x=\"2466\" y=\"4650\">C</text>
+<text class=\"k n\" x=\"400\" y=\"280\">triangle.txt, state none</text>
+<g><path class=\"mi\" stroke-width=\"80\" d=\"M4800 600L7134 4650\"/><title>AB: 2 x 10.000, cost 10.000, 12.000 of 20.000 in state AC</title><text x=\"5967\" y=\"2625\">60</text></g>
+<g><path class=\"mi\" stroke-width=\"80\" d=\"M7134 4650L2466 4650\"/><title>BC: 2 x 10.000, cost 10.000, 12.000 of 20.000 in state AC</title><text x=\"4800\" y=\"4650\">60</text></g>
+<g><path class=\"mi\" stroke-width=\"80\" d=\"M4800 600L2466 4650\"/><title>AC: 2 x 10.000, cost 10.000, 12.000 of 20.000 in state none</title><text x=\"3633\" y=\"2625\">60</text></g>
+<circle r=\"50\" cx=\"4800\" cy=\"600\"/>
+<circle r=\"50\" cx=\"7134\" cy=\"4650\"/>
+<circle r=\"50\" cx=\"2466\" cy=\"4650\"/>
+<g class=\"n\" transform=\"translate(80 -70)\">
+<text x=\"4800\" y=\"600\">A</text>
+<text x=\"7134\" y=\"4650\">B</text>
+<text x=\"2466\" y=\"4650\">C</text>
+</g>
 <path class=\"lo\" stroke-width=\"50\" d=\"M400 6600H800\"/><text class=\"k\" x=\"880\" y=\"6640\">below 60 %</text>
 <path class=\"mi\" stroke-width=\"50\" d=\"M1800 6600H2200\"/><text class=\"k\" x=\"2280\" y=\"6640\">below 85 %</text>
 <path class=\"hi\" stroke-width=\"50\" d=\"M3200 6600H3600\"/><text class=\"k\" x=\"3680\" y=\"6640\">85 % and more</text>
@@ -41,17 +46,22 @@ const ROWS: [Row; 3] = [
         "AC",
         "<svg xmlns=\"http://www.w3.org/2000/svg\" viewBox=\"0 0 9600 7200\" font-family=\"sans-serif\" font-size=\"120\">
 <style>path{fill:none;stroke-linecap:round}text{text-anchor:middle;paint-order:stroke;stroke:#fff;stroke-width:30px}
-.n,.k{text-anchor:start}.n{font-weight:bold}.lo{stroke:#2b7bba}.mi{stroke:#e08a00}.hi{stroke:#c0182b}.no{stroke-dasharray:60 50}
+.k,.n text{text-anchor:start}.n{font-weight:bold}.lo{stroke:#2b7bba}.mi{stroke:#e08a00}.hi{stroke:#c0182b}.no{stroke-dasharray:60 50}
 .out{stroke:#999;stroke-dasharray:20 50}.x{font-size:260px;font-weight:bold}.p{stroke:#7a3ea8;stroke-opacity:.35;stroke-width:140}</style>
 <rect width=\"9600\" height=\"7200\" fill=\"#fff\"/>
-<text class=\"n\" x=\"400\" y=\"280\">triangle.txt, state AC</text>
-<path class=\"p\" d=\"M2111 6000Q4800 6000 7489 6000M7489 6000Q6144 3300 4800 600\"/>
-<g><path class=\"mi\" stroke-width=\"80\" d=\"M2111 6000Q4800 6000 7489 6000\"/><title>AB: 2 x 10.000, cost 10.000, 12.000 of 20.000 in state AC</title><text x=\"4800\" y=\"6000\">60</text></g>
-<g><path class=\"mi\" stroke-width=\"80\" d=\"M7489 6000Q6144 3300 4800 600\"/><title>BC: 2 x 10.000, cost 10.000, 12.000 of 20.000 in state AC</title><text x=\"6144\" y=\"3300\">60</text></g>
-<g><path class=\"mi out\" stroke-width=\"80\" d=\"M2111 6000Q3455 3300 4800 600\"/><title>AC: 2 x 10.000, cost 10.000, 12.000 of 20.000 in state none</title><text class=\"x\" x=\"3455\" y=\"3300\">&#215;</text></g>
-<circle r=\"50\" cx=\"2111\" cy=\"6000\"/><text class=\"n\" dx=\"80\" dy=\"-70\" x=\"2111\" y=\"6000\">A</text>
-<circle r=\"50\" cx=\"7489\" cy=\"6000\"/><text class=\"n\" dx=\"80\" dy=\"-70\" x=\"7489\" y=\"6000\">B</text>
-<circle r=\"50\" cx=\"4800\" cy=\"600\"/><text class=\"n\" dx=\"80\" dy=\"-70\" x=\"4800\" y=\"600\">C</text>
+<text class=\"k n\" x=\"400\" y=\"280\">triangle.txt, state AC</text>
+<path class=\"p\" d=\"M2111 6000L7489 6000M7489 6000L4800 600\"/>
+<g><path class=\"mi\" stroke-width=\"80\" d=\"M2111 6000L7489 6000\"/><title>AB: 2 x 10.000, cost 10.000, 12.000 of 20.000 in state AC; other paths: 12.000</title><text x=\"4800\" y=\"6000\">60</text></g>
+<g><path class=\"mi\" stroke-width=\"80\" d=\"M7489 6000L4800 600\"/><title>BC: 2 x 10.000, cost 10.000, 12.000 of 20.000 in state AC; other paths: 12.000</title><text x=\"6144\" y=\"3300\">60</text></g>
+<g><path class=\"mi out\" stroke-width=\"80\" d=\"M2111 6000L4800 600\"/><title>AC: 2 x 10.000, cost 10.000, 12.000 of 20.000 in state none</title><text class=\"x\" x=\"3455\" y=\"3300\">&#215;</text></g>
+<circle r=\"50\" cx=\"2111\" cy=\"6000\"/>
+<circle r=\"50\" cx=\"7489\" cy=\"6000\"/>
+<circle r=\"50\" cx=\"4800\" cy=\"600\"/>
+<g class=\"n\" transform=\"translate(80 -70)\">
+<text x=\"2111\" y=\"6000\">A</text>
+<text x=\"7489\" y=\"6000\">B</text>
+<text x=\"4800\" y=\"600\">C</text>
+</g>
 <path class=\"lo\" stroke-width=\"50\" d=\"M400 6600H800\"/><text class=\"k\" x=\"880\" y=\"6640\">below 60 %</text>
 <path class=\"mi\" stroke-width=\"50\" d=\"M1800 6600H2200\"/><text class=\"k\" x=\"2280\" y=\"6640\">below 85 %</text>
 <path class=\"hi\" stroke-width=\"50\" d=\"M3200 6600H3600\"/><text class=\"k\" x=\"3680\" y=\"6640\">85 % and more</text>
