@@ -2,3 +2,4 @@ mod Scaling
 mod Optimal
 mod Slots
 mod Steps
+mod WideShares

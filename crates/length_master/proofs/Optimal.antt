@@ -50,11 +50,11 @@ module _ (links : List Link) (pairs : List UnitPair) (cuts : List CutLine) (soun
   is_column (Slack e) l = inr (record { row = e; inside = l; named = refl; gain = refl; entry = λ k h. refl })
   is_column (Cut k) l = inl (record { cut = cut_at cuts k; listed = Contains-get_or cuts k no_line l; named = refl; gain = refl; entry = λ e h. refl })
 
-  abbrev many : HasMultiple (length links) (λ e. slice_index (unit_capacities pairs) e)
+  abbrev pub many : HasMultiple (length links) (λ e. slice_index (unit_capacities pairs) e)
   many = multiple_of (length links) (λ e. slice_index (unit_capacities pairs) e)
 
   -- how often a row of the program holds one over lengths
-  abbrev factor : Slot → ℕ
+  abbrev pub factor : Slot → ℕ
   factor (Slack e) = many.parts e
   factor (Cut k) = many.all
 
@@ -63,19 +63,19 @@ module _ (links : List Link) (pairs : List UnitPair) (cuts : List CutLine) (soun
   factor_some (Cut k) = many.some
 
   -- products with slots, in the program and over lengths
-  taken_slot : (u : ℕ → ℤ) (slot : Slot) → IsSlotInside (length links) (length cuts) slot
+  pub taken_slot : (u : ℕ → ℤ) (slot : Slot) → IsSlotInside (length links) (length cuts) slot
       → dot (length links) (taken u many.parts) (slot_entry pairs cuts slot) ≡ pos (factor slot) *ℤ dot (length links) u (slot_lengths cuts slot)
   taken_slot u (Slack e) l = taken_slack (length links) e many.parts u l
   taken_slot u (Cut k) l = taken_lengths (length links) (λ e. slice_index (unit_capacities pairs) e) many u (λ e. slice_index (cut_at cuts k).lengths e) (no_length (cut_at cuts k) (has_bound k l))
 
   module _ (rows : List KeptRow) (values : List ℕ) (den : ℕ) (basic : AreBasicValues (length links) pairs cuts rows values den) where
-    abbrev slot : ℕ → Slot
+    abbrev pub slot : ℕ → Slot
     slot j = (row_at rows j).slot
 
-    placed : (j : ℕ) → j < length links → IsPlacedRow (length links) (length cuts) (row_at rows j)
+    pub placed : (j : ℕ) → j < length links → IsPlacedRow (length links) (length cuts) (row_at rows j)
     placed j l = subst (λ n. IsPlacedRow n (length cuts) (row_at rows j)) basic.rows_count (basic.placed j (subst (λ n. j < n) (sym basic.rows_count) l))
 
-    abbrev basis : ℕ → ColumnOf MasterColumn
+    abbrev pub basis : ℕ → ColumnOf MasterColumn
     basis j = slot_column links pairs cuts (slot j)
 
     abbrev row_den : ℕ → ℤ
@@ -121,31 +121,25 @@ module _ (links : List Link) (pairs : List UnitPair) (cuts : List CutLine) (soun
       );
     }
 
-    module _ (duals : Row) (prices : AreBestPrices links pairs cuts rows duals) where
-      even : (j : ℕ) → j < length links → dot (length links) (num duals.nums) (slot_entry pairs cuts (slot j)) ≡ duals.den *ℤ slot_gain links cuts (slot j)
-      even j l =
-          subst (λ n. dot n (num duals.nums) (slot_entry pairs cuts (slot j)) ≡ duals.den *ℤ slot_gain links cuts (slot j)) prices.count
-          (prices.even j (subst (λ n. j < n) (sym basic.rows_count) l))
-
+    -- prices over a denominator that aren't negative, at which the columns of the basis gain what they cost, and no cut gains more
+    module _ (prices : ℕ → ℤ) (over : ℤ) (positive : pos 0 <ℤ over) (high : (e : ℕ) → e < length links → pos 0 ≤ℤ prices e)
+        (even : (j : ℕ) → j < length links → dot (length links) prices (slot_entry pairs cuts (slot j)) ≡ over *ℤ slot_gain links cuts (slot j))
+        (priced : (k : ℕ) → k < length cuts → (over *ℤ cut_gain links (cut_at cuts k)) ≤ℤ dot (length links) prices (cut_entry pairs (cut_at cuts k))) where
       not_less : (a b : ℤ) → b ≤ℤ a → a <ℤ b → ⊥
       not_less a b le lt = omega (arith, ints, le, lt)
 
-      cut_priced : (k : ℕ) → k < length cuts → (duals.den *ℤ cut_gain links (cut_at cuts k)) ≤ℤ dot (length links) (num duals.nums) (cut_entry pairs (cut_at cuts k))
-      cut_priced k l = subst (λ n. (duals.den *ℤ cut_gain links (cut_at cuts k)) ≤ℤ dot n (num duals.nums) (cut_entry pairs (cut_at cuts k))) prices.count (prices.none k l)
-
-      none : (c : ColumnOf MasterColumn) → IsMasterColumn links pairs cuts c → Gains (length links) (num duals.nums) duals.den c → ⊥
+      none : (c : ColumnOf MasterColumn) → IsMasterColumn links pairs cuts c → Gains (length links) prices over c → ⊥
       none c is gains = ⊎_elim
           (λ (cut : IsCutColumn links pairs cuts c).
           let at : cut_at cuts cut.listed.0 ≡ cut.cut = found cut.cut cut.listed in
           let inside : cut.listed.0 < length cuts = inside_of cut.cut cut.listed in
-          let priced = subst (λ (x : CutLine). (duals.den *ℤ cut_gain links x) ≤ℤ dot (length links) (num duals.nums) (cut_entry pairs x)) at (cut_priced cut.listed.0 inside) in
-          not_less (dot (length links) (num duals.nums) c.entry) (duals.den *ℤ c.gain)
-          (subst (λ g. (duals.den *ℤ g) ≤ℤ dot (length links) (num duals.nums) c.entry) (sym cut.gain)
-          (subst (λ d. (duals.den *ℤ cut_gain links cut.cut) ≤ℤ d) (sym (dot-same (length links) (num duals.nums) (num duals.nums) c.entry (cut_entry pairs cut.cut) (λ k l. refl) cut.entry)) priced)) gains)
+          let more = subst (λ (x : CutLine). (over *ℤ cut_gain links x) ≤ℤ dot (length links) prices (cut_entry pairs x)) at (priced cut.listed.0 inside) in
+          not_less (dot (length links) prices c.entry) (over *ℤ c.gain)
+          (subst (λ g. (over *ℤ g) ≤ℤ dot (length links) prices c.entry) (sym cut.gain)
+          (subst (λ d. (over *ℤ cut_gain links cut.cut) ≤ℤ d) (sym (dot-same (length links) prices prices c.entry (cut_entry pairs cut.cut) (λ k l. refl) cut.entry)) more)) gains)
           (λ (slack : IsSlack (length links) master_slack c).
-          let price : dot (length links) (num duals.nums) c.entry ≡ num duals.nums slack.row = dot-unit (length links) slack.row (num duals.nums) c.entry slack.inside slack.entry in
-          let high = prices.positive slack.row (subst (λ n. slack.row < n) (sym prices.count) slack.inside) in
-          slack_low (dot (length links) (num duals.nums) c.entry) (num duals.nums slack.row) duals.den c.gain price high slack.gain gains)
+          let price : dot (length links) prices c.entry ≡ prices slack.row = dot-unit (length links) slack.row prices c.entry slack.inside slack.entry in
+          slack_low (dot (length links) prices c.entry) (prices slack.row) over c.gain price (high slack.row slack.inside) slack.gain gains)
           is
         where
           slack_low : (d p den gain : ℤ) → d ≡ p → pos 0 ≤ℤ p → gain ≡ pos 0 → d <ℤ (den *ℤ gain) → ⊥
@@ -157,23 +151,35 @@ module _ (links : List Link) (pairs : List UnitPair) (cuts : List CutLine) (soun
           found : (cut : CutLine) (held : Contains cuts cut) → cut_at cuts held.0 ≡ cut
           found cut held = get_or_default cuts held.0 no_line cut held.1 ∙ held.2
 
-      best : IsBest (length links) (master_bound pairs) (IsMasterColumn links pairs cuts) basis (num duals.nums) duals.den
-      best = record { feasible = feasible; objective = (duals.positive, even); none = none }
+      pub best : IsBest (length links) (master_bound pairs) (IsMasterColumn links pairs cuts) basis prices over
+      best = record { feasible = feasible; objective = (positive, even); none = none }
+
+    module _ (duals : Row) (prices : AreBestPrices links pairs cuts rows duals) where
+      even_row : (j : ℕ) → j < length links → dot (length links) (num duals.nums) (slot_entry pairs cuts (slot j)) ≡ duals.den *ℤ slot_gain links cuts (slot j)
+      even_row j l =
+          subst (λ n. dot n (num duals.nums) (slot_entry pairs cuts (slot j)) ≡ duals.den *ℤ slot_gain links cuts (slot j)) prices.count
+          (prices.even j (subst (λ n. j < n) (sym basic.rows_count) l))
+
+      cut_priced : (k : ℕ) → k < length cuts → (duals.den *ℤ cut_gain links (cut_at cuts k)) ≤ℤ dot (length links) (num duals.nums) (cut_entry pairs (cut_at cuts k))
+      cut_priced k l = subst (λ n. (duals.den *ℤ cut_gain links (cut_at cuts k)) ≤ℤ dot n (num duals.nums) (cut_entry pairs (cut_at cuts k))) prices.count (prices.none k l)
+
+      high_row : (k : ℕ) → k < length links → pos 0 ≤ℤ num duals.nums k
+      high_row k l = prices.positive k (subst (λ n. k < n) (sym prices.count) l)
 
       pub optimal : (names : List MasterColumn) → AreNamesBelow cuts rows (length rows) names → IsMasterOptimum links pairs cuts (record { basis = names; den = den; values = values; duals = duals })
       optimal names named = record {
         basis = basis;
         names = record { count = named.count ∙ basic.rows_count; each = λ j l. named.each j (subst (λ n. j < n) (sym basic.rows_count) l) };
         optimum = record {
-          best = best;
+          best = best (num duals.nums) duals.den duals.positive high_row even_row cut_priced;
           lowest = subst (λ n. IsInLowestTerms n (num duals.nums) duals.den) prices.count duals.lowest;
           positive = some_pos den basic.some;
           values_positive = λ j l. value_high j;
           filled = filled;
-          equal = equal_value (length links) (λ j. pos (get_or values j 0)) (λ j. slot_gain links cuts (slot j)) (num duals.nums) (master_bound pairs) (λ j. slot_entry pairs cuts (slot j)) duals.den (pos den) even filled;
+          equal = equal_value (length links) (λ j. pos (get_or values j 0)) (λ j. slot_gain links cuts (slot j)) (num duals.nums) (master_bound pairs) (λ j. slot_entry pairs cuts (slot j)) duals.den (pos den) even_row filled;
         };
         narrow = basic.narrow;
         count = basic.count ∙ basic.rows_count;
         prices = prices.count;
-        positive = λ k l. prices.positive k (subst (λ n. k < n) (sym prices.count) l);
+        positive = high_row;
       }

@@ -1,1 +1,2 @@
+pub mod WideShares
 pub mod inner

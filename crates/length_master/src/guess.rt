@@ -34,7 +34,7 @@ fn are_low(raw: &[i128]) -> bool
 }
 
 /// Numbers over a denominator as a row in lowest terms, where they fit.
-fn lowered(alloc: Global, raw: &[i128], whole: i64) -> Result<Option<Row>, NoMemory>
+pub(crate) fn lowered(alloc: Global, raw: &[i128], whole: i64) -> Result<Option<Row>, NoMemory>
     ensures { IfOk result (λ found. IfSome found (λ row. length row.nums ≡ length raw.now)) }
 {
     if raw.len() == 0 || raw.len() >= 1 << 32 || whole <= 0 || whole >= 1 << 62 || !are_low(raw) {
@@ -103,7 +103,7 @@ fn names_of(
 }
 
 /// Whether there is a placed row for each link, whose rows are the inverse's, and the values fill the rows.
-fn are_values(
+pub(crate) fn are_values(
     net: &Network,
     cuts: &[CutLine],
     pairs: &[UnitPair],
@@ -125,7 +125,7 @@ fn are_values(
 }
 
 /// Whether prices aren't negative, price each column of the basis as it gains, and no cut gains more than it costs.
-fn are_prices(
+pub(crate) fn are_prices(
     net: &Network,
     cuts: &[CutLine],
     pairs: &[UnitPair],

@@ -2,14 +2,17 @@ ghost use Rattle.std.specs.Prelude.{◌≡◌, ◌≤◌, ◌<◌, ◌^◌, All,
 ghost use Rattle.metric_cut.specs.Bounded.{HaveBound};
 ghost use Rattle.master_law.specs.Terms.{AreUnitPairs, IsSameCut};
 ghost use Rattle.master_bound.specs.Answers.{IsBestOf, IsMasterAnswer};
+ghost use Rattle.length_master.specs.WideShares.{AreLeastCaps};
 
-use crate::amounts::{amounts_of, fill_slacks, units_of};
+use crate::amounts::{Numbers, amounts_of, fill_slacks, units_of};
 use crate::guess::{Guess, tested};
 use crate::line::{Line, bounds_of, lines_of, multiple_of};
+use crate::row::KeptRow;
 use crate::turning::{Basis, set_values, settle, slack_basis};
+use crate::wide_share::{least_caps, price_row};
 use master_bound::{Best, MasterFault, best_at, master, unit_pairs};
 use module_prices::UnitPair;
-use net_core::{CutLine, List, Network, NoMemory};
+use net_core::{Caps, CutLine, List, Network, NoMemory};
 use std::alloc::Global;
 
 /// The program over lengths, in which turns are taken.
@@ -21,7 +24,7 @@ struct Program {
     lines: List<Line>,
 }
 
-/// What is kept of the master programs of a planning: the basis that the last one ended with, if it passed the test.
+/// What is kept of the master programs of a planning: the basis that the last one ended with, where no column gained any more.
 #[derive(Drop)]
 pub struct KeptMaster {
     basis: Option<Basis>,
@@ -47,6 +50,20 @@ fn program_of(
     }))
 }
 
+/// What is taken of the columns of a basis, where no number is too wide.
+fn values_of(
+    alloc: Global,
+    pairs: &[UnitPair],
+    program: &Program,
+    rows: &[KeptRow],
+) -> Result<Option<Numbers>, NoMemory> {
+    let Some(mut values) = amounts_of(alloc, rows, program.all)? else {
+        return Ok(None);
+    };
+    fill_slacks(rows, program.lines.items(), pairs, &mut values);
+    Ok(Some(values))
+}
+
 /// What a basis ends with after turns, where no number is too wide.
 fn guess_of(
     alloc: Global,
@@ -56,17 +73,16 @@ fn guess_of(
 ) -> Result<Option<Guess>, NoMemory> {
     let lines = program.lines.items();
     set_values(basis.rows.items_mut(), program.bounds.items());
-    if !settle(basis, lines)? {
+    basis.settled = settle(basis, lines)?;
+    if !basis.settled {
         return Ok(None);
     }
-    let rows = basis.rows.items();
-    let Some(mut values) = amounts_of(alloc, rows, program.all)? else {
+    let Some(values) = values_of(alloc, pairs, program, basis.rows.items())? else {
         return Ok(None);
     };
     let Some(units) = units_of(alloc, &basis.prices, pairs)? else {
         return Ok(None);
     };
-    fill_slacks(rows, lines, pairs, &mut values);
     Ok(Some(Guess { values, units }))
 }
 
@@ -102,14 +118,15 @@ impl KeptMaster {
         KeptMaster { basis: None }
     }
 
-    /// The best certificate by turns from the basis that is kept, which is let go first.
-    fn again(
+    /// The best certificate by turns from a basis. It is kept where no column gains any more, though its certificate may be too wide.
+    fn turned(
         &mut self,
         alloc: Global,
         net: &Network,
         cuts: &List<CutLine>,
         pairs: &List<UnitPair>,
         program: &Program,
+        basis: Basis,
     ) -> Result<Option<Best>, NoMemory>
         requires few { length cuts.now ≤ 8192 }
         requires lengths { All (λ cut. HaveBound net.now.links cut.lengths) cuts.now }
@@ -119,42 +136,12 @@ impl KeptMaster {
         requires costs { All (λ p. p.cost < 2 ^ 40) pairs.now }
         ensures { IfOk result (λ found. IfSome found (IsBestOf net.now.links cuts.now)) }
     {
-        let Some(mut basis) = self.basis.take() else {
-            return Ok(None);
-        };
+        let mut basis = basis;
         let found = best_from(alloc, net, cuts, pairs, program, &mut basis)?;
-        self.keep(basis, &found);
-        Ok(found)
-    }
-
-    /// The best certificate by turns from the slacks.
-    fn anew(
-        &mut self,
-        alloc: Global,
-        net: &Network,
-        cuts: &List<CutLine>,
-        pairs: &List<UnitPair>,
-        program: &Program,
-    ) -> Result<Option<Best>, NoMemory>
-        requires few { length cuts.now ≤ 8192 }
-        requires lengths { All (λ cut. HaveBound net.now.links cut.lengths) cuts.now }
-        requires right { All (λ cut. cut.right < 2 ^ 84) cuts.now }
-        requires different { AllPairs (λ a b. IsSameCut a b → ⊥) cuts.now }
-        requires units { AreUnitPairs net.now.links pairs.now }
-        requires costs { All (λ p. p.cost < 2 ^ 40) pairs.now }
-        ensures { IfOk result (λ found. IfSome found (IsBestOf net.now.links cuts.now)) }
-    {
-        let mut basis = slack_basis(alloc, net.links().len())?;
-        let found = best_from(alloc, net, cuts, pairs, program, &mut basis)?;
-        self.keep(basis, &found);
-        Ok(found)
-    }
-
-    /// Keeps a basis that has led to a certificate.
-    fn keep(&mut self, basis: Basis, found: &Option<Best>) {
-        if found.is_some() {
+        if basis.settled {
             self.basis = Some(basis);
         }
+        Ok(found)
     }
 
     /// The best certificate over lengths, from the basis that is kept or else from the slacks.
@@ -176,10 +163,14 @@ impl KeptMaster {
         let Some(program) = program_of(alloc, net, cuts.items(), pairs.items())? else {
             return Ok(None);
         };
-        match self.again(alloc, net, cuts, pairs, &program)? {
-            Some(best) => Ok(Some(best)),
-            None => self.anew(alloc, net, cuts, pairs, &program),
+        if let Some(basis) = self.basis.take() {
+            let found = self.turned(alloc, net, cuts, pairs, &program, basis)?;
+            if found.is_some() {
+                return Ok(found);
+            }
         }
+        let basis = slack_basis(alloc, net.links().len())?;
+        self.turned(alloc, net, cuts, pairs, &program, basis)
     }
 
     /// The best certificate of cuts and a least share of theirs, or why there is none: as `master` answers, whatever is kept.
@@ -206,5 +197,45 @@ impl KeptMaster {
             Some(best) => Ok(best),
             None => master(alloc, net, cuts),
         }
+    }
+
+    /// The capacities of a least share of the cuts, where the basis that the last call of `best` ended with tells them: for cuts whose
+    /// share has units that are too wide, though its capacities aren't. `None` where the basis doesn't pass the test.
+    ///
+    /// It takes time in the cube of the count of links and in the lengths of the cuts, and memory in the square of the count of links and
+    /// in the lengths of the cuts.
+    pub fn least_capacities(
+        &self,
+        alloc: Global,
+        net: &Network,
+        cuts: &List<CutLine>,
+    ) -> Result<Option<Caps>, NoMemory>
+        requires few { length cuts.now ≤ 8192 }
+        requires lengths { All (λ cut. HaveBound net.now.links cut.lengths) cuts.now }
+        requires right { All (λ cut. cut.right < 2 ^ 84) cuts.now }
+        ensures { IfOk result (λ found. IfSome found (AreLeastCaps net.now.links cuts.now)) }
+    {
+        let Some(basis) = &self.basis else {
+            return Ok(None);
+        };
+        let pairs = unit_pairs(alloc, net)?;
+        let Some(program) = program_of(alloc, net, cuts.items(), pairs.items())? else {
+            return Ok(None);
+        };
+        let Some(values) = values_of(alloc, pairs.items(), &program, basis.rows.items())? else {
+            return Ok(None);
+        };
+        let Some(prices) = price_row(alloc, &basis.prices)? else {
+            return Ok(None);
+        };
+        least_caps(
+            alloc,
+            net,
+            cuts,
+            &pairs,
+            basis.rows.items(),
+            &values,
+            &prices,
+        )
     }
 }

@@ -20,5 +20,6 @@ mod row;
 mod slot;
 mod tested;
 mod turning;
+mod wide_share;
 
 pub use kept::KeptMaster;

@@ -15,6 +15,8 @@ pub(crate) struct Basis {
     pub(crate) rows: List<KeptRow>,
     /// The prices of the links' capacity; its slot, value and product mean nothing to others.
     pub(crate) prices: KeptRow,
+    /// Whether the last turns ended since no column gains.
+    pub(crate) settled: bool,
 }
 
 /// The basis of all slacks.
@@ -24,7 +26,11 @@ pub(crate) fn slack_basis(alloc: Global, links: usize) -> Result<Basis, NoMemory
         rows.push(unit_row(alloc, links, e)?)?;
     }
     let prices = unit_row(alloc, links, links)?;
-    Ok(Basis { rows, prices })
+    Ok(Basis {
+        rows,
+        prices,
+        settled: false,
+    })
 }
 
 /// Sets what is taken of each column at these bounds.
