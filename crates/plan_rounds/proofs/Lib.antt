@@ -5,6 +5,7 @@ pub mod Multiplying
 pub mod Opening
 pub mod OwnPool
 pub mod OwnTurns
+pub mod Passing
 pub mod Results
 pub mod Rights
 pub mod Seeing

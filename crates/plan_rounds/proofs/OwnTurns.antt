@@ -1,33 +1,32 @@
 -- a turn of a separator that alone writes its history
-use Rattle.std.proofs.Common.{◌≡◌, ◌≢◌, ℕ, zero, suc, ◌+◌, ◌<◌, ◌≤◌, ◌⊎◌, inl, inr, ⊎_elim, List, [], ◌∷◌, ◌++◌, All, AllPairs, Contains, get_or, length, map, take, refl, sym, ap, subst, ◌∙◌, arith}
+use Rattle.std.proofs.Common.{◌≡◌, ◌≢◌, ℕ, zero, suc, ◌+◌, ◌<◌, ◌≤◌, ◌⊎◌, inl, inr, ⊎_elim, Bool, true, false, List, [], ◌∷◌, ◌++◌, All, AllPairs, Contains, get_or, length, map, take, refl, sym, ap, subst, ◌∙◌, arith}
 use Rattle.net_core.proofs.Library.{∥∥₁_elim, props, cases_eq, get_or-map, length-map, All-append, All-contains, All-map, All-nil, All-weaker, Contains-append_cases, Contains-append_left, Contains-append_right, Contains-get_or, get_or_from_slice_get, slice_get-get_or, slice_get_within}
 use Rattle.std.proofs.lemmas.List.{length-append, take_all}
-use Rattle.plan_terms.specs.Terms.{Entry, Network, CutLine, States, Case, graph_in, Joins, IsCut, IsRight}
+use Rattle.plan_terms.specs.Terms.{Caps, Entry, Network, CutLine, States, Case, graph_in, Joins, IsCut, IsRight}
 use Rattle.module_prices.specs.declared.cheapest.UnitPair.{UnitPair}
 use Rattle.plan_terms.proofs.Lemmas.{right_once}
 use Rattle.plan_types.specs.declared.certificate.Spot.{Spot}
+use Rattle.plan_types.specs.declared.quality.Share.{Share}
 use Rattle.plan_types.specs.declared.certificate.Spot.TheVariants.{Pool, Local}
 use Rattle.cut_pool.specs.Terms.{cut_of_line, cuts_of}
-use Rattle.master_law.specs.Terms.{IsSameCut, AreUnitPairs}
+use Rattle.master_law.specs.Terms.{AreUnitPairs, IsLeastShare, IsSameCut}
 use Rattle.master_bound.specs.declared.answer.Best.{Best}
 use Rattle.plan_law.specs.WorkedLists.{AreDifferentCuts, IsBeginning}
 use Rattle.plan_law.proofs.Pairs.{pairs_append}
 use Rattle.plan_law.proofs.Rounds.{begun_worked, found_is_new, worked_cuts}
 use Rattle.turn_lock.specs.Passes.{Seen}
 use Rattle.separator.specs.Separators.{IsCutEntry, IsFullHistory, IsPartOf, IsSeenHistory, IsSeparatingCut, IsSpotIn, SeesMore, SeparatesAt, cuts_since}
-use Rattle.plan_rounds.specs.WorkedRounds.{IsBestAt, IsPoolOf, IsWorkedPool}
-use Rattle.plan_rounds.specs.inner.Alone.{HasSameCuts, IsAlone, IsPoolAfterTurn, IsPoolOfList}
+use Rattle.plan_rounds.specs.WorkedRounds.{IsPoolOf, IsWorkedPool}
+use Rattle.plan_rounds.specs.inner.Alone.{HasSameCuts, IsAlone, IsPoolAfterTurn, IsPoolAsFar, IsPoolOfList}
 use Rattle.plan_rounds.specs.inner.Answered.{AreSorted}
 use Rattle.plan_rounds.specs.inner.Listing.{AreListed}
-use Rattle.plan_rounds.specs.inner.Sharing.{IsDividedShare}
-use Rattle.plan_rounds.specs.inner.Turns.{AddsFirst, Judges}
+use Rattle.plan_rounds.specs.inner.Turns.{AddsFirst, AddsFound, Judges}
 use Rattle.plan_rounds.specs.declared.candidates.Candidates.{Candidates}
 use Rattle.plan_rounds.specs.declared.rounds.Turn.{Turn}
 use Rattle.plan_rounds.specs.declared.rounds.Turn.TheVariants.{Further, Last}
-use Rattle.plan_rounds.specs.declared.shares.ShareCaps.{ShareCaps}
 use Rattle.plan_rounds.specs.declared.sorting.Answered.{Answered}
 use Rattle.plan_rounds.proofs.OwnPool.{IsRoundOfPool, all_cuts, alone_since, few_within, pool_round}
-use Rattle.plan_rounds.proofs.Turning.{found_of}
+use Rattle.plan_rounds.proofs.Turning.{GivesNoLess, found_of}
 
 -- and so one line for a state and lengths
 line_once : (p : Case) (a b : CutLine) → IsCut p a → IsCut p b → cut_of_line a ≡ cut_of_line b → a ≡ b
@@ -65,9 +64,9 @@ pairs_differ lines different i j d ij lj same =
     different i j none ij inside (ap (λ n. record { 0 = n }) state, ap (λ x. x.1) pair)
 
 module _ (p : Case) (pairs : List UnitPair) (units : AreUnitPairs p.links pairs) (net : Network) (states : States) (past now : Seen Entry) (part : IsPartOf past.own past.history) (more : SeesMore past now) (seen : IsSeenHistory net states now) (alone : IsAlone now)
-    (best : Best) (c : ShareCaps) (a : Answered) (old : Candidates) (answered : List (ℕ × List ℕ)) (n : ℕ) (at : IsBestAt p pairs old.lines best) (is : IsDividedShare p.links pairs best.share c)
-    (separates : All (SeparatesAt p c.divided) (cuts_since past now)) (apart : AllPairs (λ x y. x.0 ≢ y.0) (cuts_since past now)) (inside : All (Contains answered) (cuts_since past now)) (found_is : map cut_of_line a.found.lines ≡ answered)
-    (sorted : AreSorted p c.divided now.history n a) (listed : AreListed p past.history old) (pool : IsPoolOfList p pairs (cuts_of past.history) old.lines) where
+    (share : Share) (caps : Caps) (a : Answered) (old : Candidates) (answered : List (ℕ × List ℕ)) (n : ℕ) (least : IsLeastShare p.links pairs old.lines share) (gives : GivesNoLess p pairs caps share)
+    (separates : All (SeparatesAt p caps) (cuts_since past now)) (apart : AllPairs (λ x y. x.0 ≢ y.0) (cuts_since past now)) (inside : All (Contains answered) (cuts_since past now)) (found_is : map cut_of_line a.found.lines ≡ answered)
+    (sorted : AreSorted p caps now.history n a) (listed : AreListed p past.history old) (pool : IsPoolOfList p pairs (cuts_of past.history) old.lines) where
   abbrev cs : List (ℕ × List ℕ)
   cs = cuts_since past now
 
@@ -75,21 +74,21 @@ module _ (p : Case) (pairs : List UnitPair) (units : AreUnitPairs p.links pairs)
   since = alone_since past now part more alone
 
   round : IsRoundOfPool p pairs pool.made (cuts_of past.history) (cuts_since past now)
-  round = pool_round p pairs c.divided (cuts_of past.history) old.lines best.share (cuts_since past now) pool at.least (λ line cut. found_of p pairs best.share c line is cut) separates apart (subst (λ xs. length xs ≤ 4096) since seen.few_cuts)
+  round = pool_round p pairs caps (cuts_of past.history) old.lines share (cuts_since past now) pool least (λ line cut. found_of p pairs share caps line gives cut) separates apart (subst (λ xs. length xs ≤ 4096) since seen.few_cuts)
 
-  worked : IsWorkedPool p now.history
+  pub worked : IsWorkedPool p now.history
   worked = record { pairs = pairs; rounds = round.rounds; lines = round.made; list = round.list; pooled = round.pooled ∙ sym since }
 
   made_cuts : All (IsCut p) round.made
   made_cuts = worked_cuts p pairs [] round.rounds round.made (All-nil (IsCut p)) round.list
 
   found_cuts : All (IsCut p) a.found.lines
-  found_cuts = All-weaker (IsSeparatingCut p c.divided) (IsCut p) (λ line cut. cut.cut) a.found.lines sorted.cuts
+  found_cuts = All-weaker (IsSeparatingCut p caps) (IsCut p) (λ line cut. cut.cut) a.found.lines sorted.cuts
 
   both_differ : AreDifferentCuts (old.lines ++ a.found.lines)
   both_differ = pairs_append (λ x y. IsSameCut x y → ⊥) old.lines a.found.lines listed.different
       (λ i j d ij lj same. sorted.states i j d ij lj same.0)
-      (λ i j d li lj same. found_is_new p pairs units old.lines best.share (get_or a.found.lines j d) (get_or old.lines i d) at.least (found_of p pairs best.share c (get_or a.found.lines j d) is (sorted.cuts j d lj)) (Contains-get_or old.lines i d li) (listed.cuts i d li) same)
+      (λ i j d li lj same. found_is_new p pairs units old.lines share (get_or a.found.lines j d) (get_or old.lines i d) least (found_of p pairs share caps (get_or a.found.lines j d) gives (sorted.cuts j d lj)) (Contains-get_or old.lines i d li) (listed.cuts i d li) same)
 
   module _ (room : length (cuts_of now.history) ≢ 4096) (same : HasSameCuts old.lines pool.made) where
     open_history : IsFullHistory now.history → ⊥
@@ -168,19 +167,33 @@ module _ (p : Case) (pairs : List UnitPair) (units : AreUnitPairs p.links pairs)
       pool.same)
       (cases_eq (length (cuts_of now.history)) 4096)
 
-  pub judged_pool : (room : ℕ) (new : Candidates) (turn : Turn) → length old.lines + room ≡ 4096 → Judges p room c.whole a best old new turn → IsPoolAfterTurn p pairs now.history new.lines turn
-  judged_pool room new turn full judges = ⊎_elim
+  -- the pool with a further round
+  pub pool_with_round : (room : ℕ) (new : Candidates) → length old.lines + room ≡ 4096 → AddsFirst room a.found old new → IsPoolOfList p pairs (cuts_of now.history) new.lines
+  pool_with_round room new full adds = record {
+    rounds = round.rounds;
+    made = round.made;
+    list = round.list;
+    pooled = round.pooled ∙ sym since;
+    same = same_or_full room new full adds;
+  }
+
+  pub judged_pool : (whole : Caps) (best : Best) (room : ℕ) (new : Candidates) (turn : Turn) → length old.lines + room ≡ 4096 → Judges p room whole a best old new turn → IsPoolAfterTurn p pairs now.history new.lines turn
+  judged_pool whole best room new turn full judges = ⊎_elim
       (λ end. subst (IsPoolAfterTurn p pairs now.history new.lines) (sym end.3) ∣ worked ∣₁)
       (⊎_elim
-      (λ further. subst (IsPoolAfterTurn p pairs now.history new.lines) (sym further.3) ∣ record {
-        rounds = round.rounds;
-        made = round.made;
-        list = round.list;
-        pooled = round.pooled ∙ sym since;
-        same = same_or_full room new full further.2;
-      } ∣₁)
+      (λ further. subst (IsPoolAfterTurn p pairs now.history new.lines) (sym further.3) ∣ pool_with_round room new full further.2 ∣₁)
       (λ end. subst (IsPoolAfterTurn p pairs now.history new.lines) (sym end.2.1) ∣ worked ∣₁))
       judges
+
+  -- the pool with the cuts that were found, if they were added
+  pub pool_as_far : (room : ℕ) (new : Candidates) (added : Bool) → length old.lines + room ≡ 4096 → AddsFound room a old new added → IsPoolAsFar p pairs now.history new.lines added
+  pool_as_far room new true full adds = ∣ pool_with_round room new full adds.0 ∣₁
+  pool_as_far room new false full same = ∣ worked ∣₁
+
+-- what is told of a pool, known once
+pub far_told : (p : Case) (pairs : List UnitPair) (h : List Entry) (lines : List CutLine) (far : Bool) → ∥ IsPoolAsFar p pairs h lines far ∥₁ → IsPoolAsFar p pairs h lines far
+far_told p pairs h lines true told = ∥∥₁_elim told (hlevel props) (λ x. x)
+far_told p pairs h lines false told = ∥∥₁_elim told (hlevel props) (λ x. x)
 
 -- what is told of a turn's pool, known once
 pub after_told : (p : Case) (pairs : List UnitPair) (h : List Entry) (lines : List CutLine) (turn : Turn) → ∥ IsPoolAfterTurn p pairs h lines turn ∥₁ → IsPoolAfterTurn p pairs h lines turn

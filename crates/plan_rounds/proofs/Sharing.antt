@@ -1,11 +1,11 @@
 -- the capacities of a share, over a common divisor of theirs
-use Rattle.std.proofs.Common.{◌≡◌, ℕ, zero, suc, ◌+◌, ◌*◌, ◌/◌, ◌<◌, List, [], ◌∷◌, ◌++◌, All, get_or, length, map, take, zip, sym, ap, subst, ◌∙◌, arith}
+use Rattle.std.proofs.Common.{◌≡◌, ℕ, zero, suc, ◌+◌, ◌*◌, ◌/◌, ◌<◌, List, [], ◌∷◌, ◌++◌, All, get_or, length, map, take, zip, refl, sym, ap, subst, ◌∙◌, arith}
 use Rattle.net_core.proofs.Library.{IsGcd, ◌∣◌, get_or-map, length-map, map-append, take_more, All-push, get_or-zip, length-zip, dvd_trans, mul-div_cancel'}
-use Rattle.plan_terms.specs.Terms.{Link}
+use Rattle.plan_terms.specs.Terms.{Caps, Link}
 use Rattle.module_prices.specs.declared.cheapest.UnitPair.{UnitPair}
 use Rattle.plan_types.specs.declared.quality.Share.{Share}
-use Rattle.master_law.specs.Terms.{share_capacities}
-use Rattle.plan_rounds.specs.inner.Sharing.{DividesAll, IsDividedShare}
+use Rattle.master_law.specs.Terms.{share_capacities, share_caps}
+use Rattle.plan_rounds.specs.inner.Sharing.{DividesAll, IsDividedCaps, IsDividedShare}
 use Rattle.plan_rounds.specs.declared.shares.ShareCaps.{ShareCaps}
 use Rattle.net_core.proofs.Numbers.{positive_divisor}
 
@@ -51,22 +51,30 @@ over_more divisor nums divided n d lt divides sofar =
     ∙ (ap (λ xs. xs ++ divisor * (get_or nums n d / divisor) ∷ []) sofar
     ∙ (ap (λ x. take n nums ++ x ∷ []) (mul-div_cancel' divisor divides) ∙ sym (take_more nums n d lt)))
 
-pub divided_share : (links : List Link) (pairs : List UnitPair) (share : Share) (nums divided : List ℕ) (divisor : ℕ) → nums ≡ share_capacities links pairs share → DividesAll share.scale nums divisor → map (λ x. divisor * x) divided ≡ nums
-    → IsDividedShare links pairs share (record { whole = record { scale = share.scale; nums = nums }; divided = record { scale = share.scale / divisor; nums = divided }; divisor = divisor })
-divided_share links pairs share nums divided divisor are all times = record {
-  whole = ap (λ xs. record { scale = share.scale; nums = xs }) are;
+abbrev caps_with : ℕ → List ℕ → Caps
+caps_with scale nums = record { scale = scale; nums = nums }
+
+pub divided_caps : (whole : Caps) (divided : List ℕ) (divisor : ℕ) → DividesAll whole.scale whole.nums divisor → map (λ x. divisor * x) divided ≡ whole.nums
+    → IsDividedCaps whole (record { whole = whole; divided = record { scale = whole.scale / divisor; nums = divided }; divisor = divisor })
+divided_caps whole divided divisor all times = record {
+  whole = refl;
   positive = all.positive;
-  times = let scale = mul-div_cancel' divisor all.of_scale in cc (scale, times);
+  times = same_caps _ _ _ _ (mul-div_cancel' divisor all.of_scale) times;
 }
+  where
+    same_caps : (a b : ℕ) (xs ys : List ℕ) → a ≡ b → xs ≡ ys → caps_with a xs ≡ caps_with b ys
+    same_caps a b xs ys scale nums = cc (scale, nums)
 
 -- the divided capacities have a positive scale and a number for each link
-pub divided_scale : (links : List Link) (pairs : List UnitPair) (share : Share) (c : ShareCaps) → 0 < share.scale → IsDividedShare links pairs share c → 0 < c.divided.scale
-divided_scale links pairs share c some is = positive c.divisor c.divided.scale (ap (λ k. k.scale) is.times ∙ ap (λ k. k.scale) is.whole)
+pub divided_scale : (caps : Caps) (c : ShareCaps) → 0 < caps.scale → IsDividedCaps caps c → 0 < c.divided.scale
+divided_scale caps c some is = positive c.divisor c.divided.scale (ap (λ k. k.scale) is.times ∙ ap (λ k. k.scale) is.whole)
   where
-    positive : (d s : ℕ) → d * s ≡ share.scale → 0 < s
+    positive : (d s : ℕ) → d * s ≡ caps.scale → 0 < s
     positive d zero e = absurd (omega (arith, e, some))
     positive d (suc s) e = omega arith
 
+pub divided_length : (caps : Caps) (c : ShareCaps) → IsDividedCaps caps c → length c.divided.nums ≡ length caps.nums
+divided_length caps c is = sym (length-map c.divided.nums (λ n. c.divisor * n)) ∙ (ap (λ k. length k.nums) is.times ∙ ap (λ k. length k.nums) is.whole)
+
 pub divided_count : (links : List Link) (pairs : List UnitPair) (share : Share) (c : ShareCaps) → length pairs ≡ length links → length share.units ≡ length links → IsDividedShare links pairs share c → length c.divided.nums ≡ length links
-divided_count links pairs share c same units is =
-    sym (length-map c.divided.nums (λ n. c.divisor * n)) ∙ (ap (λ k. length k.nums) is.times ∙ (ap (λ k. length k.nums) is.whole ∙ capacities_count links pairs share same units))
+divided_count links pairs share c same units is = divided_length (share_caps links pairs share) c is ∙ capacities_count links pairs share same units

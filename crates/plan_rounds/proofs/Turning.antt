@@ -23,7 +23,7 @@ use Rattle.separator.specs.Separators.{IsSeparatingCut}
 use Rattle.plan_rounds.specs.WorkedRounds.{AreWorkedRounds, EndsBy, IsBestAt, IsBestOfLast, IsCarriedOrWide, StandAtSpots, AreCarriedOrWide}
 use Rattle.plan_rounds.specs.inner.Answered.{AreSorted}
 use Rattle.plan_rounds.specs.inner.Listing.{AreListed}
-use Rattle.plan_rounds.specs.inner.Sharing.{IsDividedShare, IsQualityAt}
+use Rattle.plan_rounds.specs.inner.Sharing.{IsDividedCaps, IsDividedShare, IsQualityAt}
 use Rattle.plan_rounds.specs.inner.Turns.{AddsFirst, IsFurther, IsTurnOf, Judges}
 use Rattle.plan_rounds.specs.declared.candidates.Candidates.{Candidates}
 use Rattle.plan_rounds.specs.declared.rounds.Turn.{Turn}
@@ -81,7 +81,7 @@ stand_append h xs ys ss ts first second = record {
 module _ (p : Case) (pairs : List UnitPair) where
   -- ---- the share of the best certificate
 
-  proper : (cuts : List CutLine) (share : Share) → IsLeastShare p.links pairs cuts share → IsProperShare p.links share
+  pub proper : (cuts : List CutLine) (share : Share) → IsLeastShare p.links pairs cuts share → IsProperShare p.links share
   proper cuts share least = record {
     positive = let some = least.best.objective.0 in let same = least.scale in omega (arith, ints, some, same);
     long = least.count;
@@ -91,11 +91,21 @@ module _ (p : Case) (pairs : List UnitPair) where
   pub best_scale : (cuts : List CutLine) (best : Best) → IsBestAt p pairs cuts best → 0 < best.share.scale
   best_scale cuts best at = (proper cuts best.share at.least).positive
 
-  -- a cut that the divided capacities violate is found at the share
-  pub found_of : (share : Share) (c : ShareCaps) (line : CutLine) → IsDividedShare p.links pairs share c → IsSeparatingCut p c.divided line → IsFoundCut p pairs share line
-  found_of share c line is cut = record {
+  -- what the capacities violate, the share violates
+  abbrev pub GivesNoLess : Caps → Share → Type 0
+  GivesNoLess caps share = (line : CutLine) → Violates caps line → Violates (share_caps p.links pairs share) line
+
+  pub divided_gives : (caps : Caps) (c : ShareCaps) (line : CutLine) → IsDividedCaps caps c → Violates c.divided line → Violates caps line
+  divided_gives caps c line is violated = subst (λ k. Violates k line) (is.times ∙ is.whole) ((divided_are_violated c.divisor c.divided line is.positive).0 violated)
+
+  pub share_gives : (share : Share) (c : ShareCaps) → IsDividedShare p.links pairs share c → GivesNoLess c.divided share
+  share_gives share c is line violated = divided_gives (share_caps p.links pairs share) c line is violated
+
+  -- a cut that such capacities violate is found at the share
+  pub found_of : (share : Share) (caps : Caps) (line : CutLine) → GivesNoLess caps share → IsSeparatingCut p caps line → IsFoundCut p pairs share line
+  found_of share caps line gives cut = record {
     is_cut = cut.cut;
-    violated = subst (λ k. Violates k line) (is.times ∙ is.whole) ((divided_are_violated c.divisor c.divided line is.positive).0 cut.violated);
+    violated = gives line cut.violated;
     lengths = cut.lengths;
     priced = cut.priced;
     kept = cut.keeps;
@@ -134,22 +144,28 @@ module _ (p : Case) (pairs : List UnitPair) where
 
   -- ---- what the answers of the states come to
 
-  module _ (h : List Entry) (n room : ℕ) (before : Option Best) (best : Best) (c : ShareCaps) (a : Answered) (old : Candidates)
-      (units : AreUnitPairs p.links pairs) (at : IsBestAt p pairs old.lines best) (is : IsDividedShare p.links pairs best.share c) (sorted : AreSorted p c.divided h n a) where
-    found : All (IsFoundCut p pairs best.share) a.found.lines
-    found = All-weaker (IsSeparatingCut p c.divided) (IsFoundCut p pairs best.share) (λ line cut. found_of best.share c line is cut) a.found.lines sorted.cuts
+  pub taken_some : (m l : ℕ) → 0 < m → 0 < l → 0 < min m l
+  taken_some m l some more = omega (arith, some, more)
+
+  pub taken_few : (m l : ℕ) → min m l ≤ m
+  taken_few m l = omega arith
+
+  module _ (h : List Entry) (n room : ℕ) (share : Share) (caps : Caps) (a : Answered) (old : Candidates)
+      (units : AreUnitPairs p.links pairs) (least : IsLeastShare p.links pairs old.lines share) (gives : GivesNoLess caps share) (sorted : AreSorted p caps h n a) where
+    pub found : All (IsFoundCut p pairs share) a.found.lines
+    found = All-weaker (IsSeparatingCut p caps) (IsFoundCut p pairs share) (λ line cut. found_of share caps line gives cut) a.found.lines sorted.cuts
 
     -- as many as there is room for
-    round : IsRound p pairs old.lines (record { share = best.share; cuts = take room a.found.lines })
-    round = short_round p pairs old.lines (record { share = best.share; cuts = a.found.lines }) room (record { least = at.least; found = found; states = sorted.states })
+    pub round : IsRound p pairs old.lines (record { share = share; cuts = take room a.found.lines })
+    round = short_round p pairs old.lines (record { share = share; cuts = a.found.lines }) room (record { least = least; found = found; states = sorted.states })
 
-    listed_round : (new : Candidates) → ∥ IsNetwork p.nodes p.links ∥₁ → length p.nodes ≤ 128 → AreDemands (length p.nodes) p.demands → AreListed p h old → AddsFirst room a.found old new → AreListed p h new
+    pub listed_round : (new : Candidates) → ∥ IsNetwork p.nodes p.links ∥₁ → length p.nodes ≤ 128 → AreDemands (length p.nodes) p.demands → AreListed p h old → AddsFirst room a.found old new → AreListed p h new
     listed_round new checked few belong are adds = record {
       cuts = subst (λ ls. All (IsCut p) ls) (sym adds.lines) (All-append (IsCut p) old.lines cuts are.cuts are_cuts);
       low = subst (λ ls. All (λ (l : CutLine). l.right < 2 ^ 84) ls) (sym adds.lines) (All-append (λ (l : CutLine). l.right < 2 ^ 84) old.lines cuts are.low are_low);
       different = subst (λ ls. AllPairs (λ x y. IsSameCut x y → ⊥) ls) (sym adds.lines) (pairs_append (λ x y. IsSameCut x y → ⊥) old.lines cuts are.different
           (λ i j d ij lj same. round.states i j d ij lj same.0)
-          (λ i j d li lj same. found_is_new p pairs units old.lines best.share (get_or cuts j d) (get_or old.lines i d) at.least (round.found j d lj) (Contains-get_or old.lines i d li) (are.cuts i d li) same));
+          (λ i j d li lj same. found_is_new p pairs units old.lines share (get_or cuts j d) (get_or old.lines i d) least (round.found j d lj) (Contains-get_or old.lines i d li) (are.cuts i d li) same));
       spots = subst (λ ss. StandAtSpots h new.lines ss) (sym adds.spots) (subst (λ ls. StandAtSpots h ls (old.spots ++ take room a.found.spots)) (sym adds.lines)
           (stand_append h old.lines cuts old.spots (take room a.found.spots) are.spots (stand_take h room a.found.lines a.found.spots sorted.spots)));
     }
@@ -158,21 +174,20 @@ module _ (p : Case) (pairs : List UnitPair) where
         cuts = take room a.found.lines
 
         are_cuts : All (IsCut p) cuts
-        are_cuts = All-weaker (IsFoundCut p pairs best.share) (IsCut p) (λ line f. f.is_cut) cuts round.found
+        are_cuts = All-weaker (IsFoundCut p pairs share) (IsCut p) (λ line f. f.is_cut) cuts round.found
 
         are_low : All (λ l. l.right < 2 ^ 84) cuts
         are_low k d lt =
             let line = get_or cuts k d in
             right_low (graph_in p line.state.0) checked few p.demands belong line.lengths (All-take HasShortLengths room a.found.lines sorted.short k d lt) line.right (are_cuts k d lt).right
 
-    some_found : 0 < length a.found.lines → (line : CutLine) × IsFoundCut p pairs best.share line
+    pub some_found : 0 < length a.found.lines → (line : CutLine) × IsFoundCut p pairs share line
     some_found some = let none : CutLine = record { state = record { 0 = 0 }; lengths = []; right = 0 } in (get_or a.found.lines 0 none, found 0 none some)
 
-    taken_some : (m l : ℕ) → 0 < m → 0 < l → 0 < min m l
-    taken_some m l some more = omega (arith, some, more)
-
-    taken_few : (m l : ℕ) → min m l ≤ m
-    taken_few m l = omega arith
+  module _ (h : List Entry) (n room : ℕ) (before : Option Best) (best : Best) (c : ShareCaps) (a : Answered) (old : Candidates)
+      (units : AreUnitPairs p.links pairs) (at : IsBestAt p pairs old.lines best) (is : IsDividedShare p.links pairs best.share c) (sorted : AreSorted p c.divided h n a) where
+    abbrev gives : GivesNoLess c.divided best.share
+    gives = share_gives best.share c is
 
     -- evidence at the divided capacities is evidence at the share
     wide_within : (s : ℕ) (evidence : Evidence) → IsEvidenceHere (graph_in p s) p.demands c.divided evidence → IsCarriedOrWide p pairs best s
@@ -198,7 +213,7 @@ module _ (p : Case) (pairs : List UnitPair) where
     judged_turn new turn all judges = ⊎_elim
         (λ full.
         subst (IsTurnOf p pairs room before old.lines new.lines) (sym full.3)
-        (ap (λ (x : Candidates). x.lines) full.2, (full.1, let f = some_found full.0 in record { best_of = at; further = f.0; found = f.1 })))
+        (ap (λ (x : Candidates). x.lines) full.2, (full.1, let f = some_found h n room best.share c.divided a old units at.least gives sorted full.0 in record { best_of = at; further = f.0; found = f.1 })))
         (⊎_elim
         (λ further.
         subst (IsTurnOf p pairs room before old.lines new.lines) (sym further.3) (record {
@@ -207,7 +222,7 @@ module _ (p : Case) (pairs : List UnitPair) where
           lines = further.2.lines;
           some = subst (λ k. 0 < k) (sym (length-take room a.found.lines)) (taken_some room (length a.found.lines) further.1 further.0);
           few = subst (λ k. k ≤ room) (sym (length-take room a.found.lines)) (taken_few room (length a.found.lines));
-          round = round;
+          round = round h n room best.share c.divided a old units at.least gives sorted;
         }))
         (λ end.
         subst (IsTurnOf p pairs room before old.lines new.lines) (sym end.2.1) (
@@ -222,7 +237,7 @@ module _ (p : Case) (pairs : List UnitPair) where
     judged_listed new turn checked few belong are judges = ⊎_elim
         (λ full. subst (AreListed p h) (sym full.2) are)
         (⊎_elim
-        (λ further. listed_round new checked few belong are further.2)
+        (λ further. listed_round h n room best.share c.divided a old units at.least gives sorted new checked few belong are further.2)
         (λ end. subst (AreListed p h) (sym end.1) are))
         judges
 
@@ -248,42 +263,44 @@ module _ (p : Case) (pairs : List UnitPair) where
   pub working_begins : (pool lines : List CutLine) → AreUnitPairs p.links pairs → IsBeginning p pool lines → length lines ≤ length pool + 4096 → IsWorking p pairs pool lines None
   working_begins pool lines units begins few = record { rounds = []; list = begun_worked p pairs units pool lines begins few; last = refl }
 
-  pub working_on : (pool lines new : List CutLine) (before : Option Best) (room : ℕ) (best : Best) → All (IsCut p) pool → length lines + room ≤ length pool + 4096 → IsWorking p pairs pool lines before
-      → IsFurther p pairs room before lines new best → IsWorking p pairs pool new (Some best)
-  working_on pool lines new before room best known fits w f = subst (λ ls. IsWorking p pairs pool ls (Some best)) (sym f.lines) (record {
-    rounds = here ∷ w.rounds;
+  pub working_on : (pool lines new : List CutLine) (before : Option Best) (room : ℕ) (best : Best) → All (IsCut p) pool → length lines + room ≤ length pool + 4096 → (rounds : List Round)
+      → (list : IsWorkedList p pairs pool rounds lines) → IsFurther p pairs room before lines new best → IsWorking p pairs pool new (Some best)
+  working_on pool lines new before room best known fits rounds list f = subst (λ ls. IsWorking p pairs pool ls (Some best)) (sym f.lines) (record {
+    rounds = here ∷ rounds;
     list = record {
-      units = w.list.units;
-      start = w.list.start;
-      begins = w.list.begins;
-      are_rounds = (subst (λ cs. IsRound p pairs cs here) w.list.whole f.round, w.list.are_rounds);
-      whole = ap (λ cs. cs ++ f.found) w.list.whole;
+      units = list.units;
+      start = list.start;
+      begins = list.begins;
+      are_rounds = (subst (λ cs. IsRound p pairs cs here) list.whole f.round, list.are_rounds);
+      whole = ap (λ cs. cs ++ f.found) list.whole;
       added = longer.added;
       following = longer.following;
       few = longer.few;
       different = longer.different;
     };
-    last = (refl, subst (λ cs. IsBestAt p pairs cs best) w.list.whole f.best_of);
+    last = (refl, subst (λ cs. IsBestAt p pairs cs best) list.whole f.best_of);
   })
     where
       here : Round
       here = record { share = best.share; cuts = f.found }
 
-      longer : IsWorkedList p pairs pool (here ∷ w.rounds) (lines ++ f.found)
-      longer = worked_on p pairs pool w.rounds lines known w.list here f.round (omega (arith, fits, f.few))
+      longer : IsWorkedList p pairs pool (here ∷ rounds) (lines ++ f.found)
+      longer = worked_on p pairs pool rounds lines known list here f.round (omega (arith, fits, f.few))
 
-  pub working_ends : (h : List Entry) (pool : List CutLine) (c : Candidates) (before best : Option Best) (room : ℕ) (quality : Quality) → AreListed p h c → length c.lines + room ≡ length pool + 4096 → IsWorking p pairs pool c.lines before
-      → EndsBy p pairs c.lines (room ≡ 0) (λ b. b ≡ before) best quality → AreWorkedRounds p h pool (record { lines = c.lines; spots = c.spots; best = best; quality = quality })
-  working_ends h pool c before best room quality are fits w e = record {
+  -- an end of the rounds, where IsLast says what is known of the best certificate before this list's
+  pub working_ends : (IsLast : Option Best → Type 0) (h : List Entry) (pool : List CutLine) (c : Candidates) (best : Option Best) (room : ℕ) (quality : Quality) → AreListed p h c → length c.lines + room ≡ length pool + 4096 → (rounds : List Round)
+      → (list : IsWorkedList p pairs pool rounds c.lines) → ((b : Option Best) → IsLast b → IsBestOfLast p pairs list.start rounds b) → EndsBy p pairs c.lines (room ≡ 0) IsLast best quality
+      → AreWorkedRounds p h pool (record { lines = c.lines; spots = c.spots; best = best; quality = quality })
+  working_ends IsLast h pool c best room quality are fits rounds list last e = record {
     pairs = pairs;
-    rounds = w.rounds;
-    list = w.list;
+    rounds = rounds;
+    list = list;
     low = are.low;
     spots = are.spots;
-    ends = ends_as c.lines (room ≡ 0) (length c.lines ≡ length pool + 4096) (λ b. b ≡ before) (IsBestOfLast p pairs w.list.start w.rounds) best quality
+    ends = ends_as c.lines (room ≡ 0) (length c.lines ≡ length pool + 4096) IsLast (IsBestOfLast p pairs list.start rounds) best quality
         (λ none. omega (arith, none, fits))
         (λ long. omega (arith, long, fits))
-        (λ b same. subst (IsBestOfLast p pairs w.list.start w.rounds) (sym same) w.last)
+        last
         e;
   }
 

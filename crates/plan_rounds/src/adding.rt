@@ -3,6 +3,8 @@ ghost use Rattle.plan_rounds.specs.inner.Turns.{AddsFirst};
 
 use crate::candidates::Candidates;
 use net_core::{List, NoMemory};
+use std::alloc::Global;
+use std::mem;
 
 /// Puts the first items of a list after those of another.
 fn add_items<T: Drop>(items: List<T>, most: usize, into: &mut List<T>) -> Result<(), NoMemory>
@@ -27,4 +29,17 @@ pub fn add_first(
     let Candidates { lines, spots } = found;
     add_items(lines, room, &mut candidates.lines)?;
     add_items(spots, room, &mut candidates.spots)
+}
+
+/// Takes off the cuts that came after the first so many, with their spots.
+pub fn take_back(alloc: Global, count: usize, candidates: &mut Candidates) -> Result<(), NoMemory>
+    ensures lines { OnOk result (candidates.new.lines ≡ take count candidates.old.lines) }
+    ensures spots { OnOk result (candidates.new.spots ≡ take count candidates.old.spots) }
+{
+    let mut all = Candidates {
+        lines: List::new(alloc),
+        spots: List::new(alloc),
+    };
+    mem::swap(candidates, &mut all);
+    add_first(all, count, candidates)
 }

@@ -20,5 +20,6 @@ mod rounds;
 mod shares;
 mod sorting;
 mod undivided;
+mod wide_rounds;
 
 pub use rounds::{Worked, work_rounds};

@@ -2,26 +2,28 @@ ghost use Rattle.std.specs.Prelude.{◌≡◌, ◌≢◌, ◌+◌, ◌≤◌, �
 ghost use Rattle.plan_terms.specs.Terms.{case_of, IsSurvivable};
 ghost use Rattle.route_law.specs.Terms.{caps_times};
 ghost use Rattle.master_law.specs.Terms.{AreUnitPairs};
+ghost use Rattle.master_bound.specs.Answers.{IsEvidenceOf};
 ghost use Rattle.master_bound.specs.declared.answer.Best.{Best};
 ghost use Rattle.separator.specs.Separators.{AreAnswersUntilCut, AreRoundAnswers, AreStateAnswers, SeesMore, SeparatesAt, cuts_answered, cuts_since};
 ghost use Rattle.plan_rounds.specs.WorkedRounds.{AreWorkedRounds, IsBestAt, IsPoolOf, IsWorkedAlone};
 ghost use Rattle.plan_rounds.specs.inner.Alone.{PoolsRounds, PoolsTurn};
 ghost use Rattle.plan_rounds.specs.inner.Answered.{AreRoutedStates, IsEvidenceOfState};
 ghost use Rattle.plan_rounds.specs.inner.Listing.{AreListed, GoesOn};
-ghost use Rattle.plan_rounds.specs.inner.Turns.{AddsFirst, EndsAt, EndsTooWide, IsTurnOf, Judges, WorksOn};
+ghost use Rattle.plan_rounds.specs.inner.Turns.{AddsFirst, EndsAt, IsTurnAfter, IsTurnOf, Judges, WorksOn};
 ghost use Rattle.plan_rounds.specs.declared.rounds.Turn.TheVariants.{Further};
 
-use crate::adding::add_first;
+use crate::adding::{add_first, take_back};
 use crate::candidates::Candidates;
 use crate::certificates::best_so_far;
 use crate::fractional::quality_at;
 use crate::openings::open_states;
 use crate::shares::{ShareCaps, share_caps};
 use crate::sorting::{Answered, sorted};
+use crate::wide_rounds::pass_wide;
 use length_master::KeptMaster;
 use master_bound::{Best, MasterFault, unit_pairs};
 use module_prices::UnitPair;
-use net_core::{Caps, CutLine, Instance, List, NoMemory};
+use net_core::{Caps, CutLine, Evidence, Instance, List, NoMemory};
 use outside_io::RoundFigures;
 use plan_types::{Cause, Quality, Spot};
 use separator::{Separate, StateAnswer};
@@ -52,7 +54,7 @@ pub enum Turn {
 }
 
 /// Drops a value of any type. Such a call is much cheaper to prove than a drop of a large record at each exit of a function.
-fn discard<T: Drop>(_value: T) {}
+pub(crate) fn discard<T: Drop>(_value: T) {}
 
 /// The end at a share, by what the states answer.
 fn ended(
@@ -134,7 +136,7 @@ fn judge(
 }
 
 /// What states answer at capacities: all of them in the first round, as tests of gates and of shown lengths want it, and later some.
-fn answers_at<S: Separate>(
+pub(crate) fn answers_at<S: Separate>(
     instance: &Instance,
     caps: &Caps,
     is_first: bool,
@@ -199,16 +201,46 @@ fn ask<S: Separate>(
     judge(alloc, instance, room, best, caps, answered, candidates)
 }
 
-/// The end where there is no best certificate: a number is too wide for it, and the one before it stays.
-fn too_wide(fault: MasterFault, before: Option<Best>) -> Result<Turn, NoMemory>
-    ensures { IfOk result (λ turn. EndsTooWide fault before turn) }
+/// One turn where the certificate of the cuts so far is too wide, by this evidence: further ones come at the capacities of their least
+/// shares, until a certificate isn't, and then a turn at that one. Where none comes to be, the end at the cuts as they are.
+fn turn_past_wide<S: Separate>(
+    alloc: Global,
+    instance: &Instance,
+    pairs: &List<UnitPair>,
+    room: usize,
+    round: u32,
+    before: Option<Best>,
+    evidence: Evidence,
+    kept: &mut KeptMaster,
+    separator: &mut S,
+    candidates: &mut Candidates,
+) -> Result<Turn, NoMemory>
+    requires network { instance.now.net.now ≡ (S.frame separator.old).network }
+    requires states { instance.now.states.now ≡ (S.frame separator.old).states }
+    requires survivable { IsSurvivable (case_of instance.now) }
+    requires pairs { AreUnitPairs instance.now.net.now.links pairs.now }
+    requires listed { ∥ AreListed (case_of instance.now) (S.seen_of separator.old).history candidates.old ∥₁ }
+    requires few { length candidates.old.lines + room ≤ 8192 }
+    requires evidence { IsEvidenceOf instance.now.net.now.links candidates.old.lines evidence }
+    ensures on { GoesOn (S.frame separator.old) (S.frame separator.new) (S.seen_of separator.old) (S.seen_of separator.new) }
+    ensures listed { OnOk result ∥ AreListed (case_of instance.now) (S.seen_of separator.new).history candidates.new ∥₁ }
+    ensures turn { IfOk result (λ turn. ∥ IsTurnAfter (case_of instance.now) pairs.now room before candidates.old.lines candidates.new.lines turn ∥₁) }
+    ensures alone { IfOk result (λ turn. PoolsTurn (case_of instance.now) pairs.now room (S.seen_of separator.old)
+        (S.seen_of separator.new) candidates.old.lines candidates.new.lines turn) }
 {
-    match fault {
-        MasterFault::Wide(evidence) => {
-            Ok(Turn::Last(before, Quality::Loose(Cause::Wide(evidence))))
-        }
-        MasterFault::NoMemory => Err(NoMemory),
-    }
+    let count = candidates.lines.len();
+    let most = count + room;
+    let found = pass_wide(alloc, instance, pairs, most, kept, separator, candidates)?;
+    let Some(best) = found else {
+        take_back(alloc, count, candidates)?;
+        return Ok(Turn::Last(before, Quality::Loose(Cause::Wide(evidence))));
+    };
+    discard(evidence);
+    discard(before);
+    let rest = most - candidates.lines.len();
+    ask(
+        alloc, instance, pairs, rest, best, round, separator, candidates,
+    )
 }
 
 /// One turn: the best certificate of the cuts so far, and what the states answer at its share. The one before is for the end where
@@ -229,10 +261,10 @@ fn take_turn<S: Separate>(
     requires survivable { IsSurvivable (case_of instance.now) }
     requires pairs { AreUnitPairs instance.now.net.now.links pairs.now }
     requires listed { ∥ AreListed (case_of instance.now) (S.seen_of separator.old).history candidates.old ∥₁ }
-    requires few { length candidates.old.lines ≤ 8192 }
+    requires few { length candidates.old.lines + room ≤ 8192 }
     ensures on { GoesOn (S.frame separator.old) (S.frame separator.new) (S.seen_of separator.old) (S.seen_of separator.new) }
     ensures listed { OnOk result ∥ AreListed (case_of instance.now) (S.seen_of separator.new).history candidates.new ∥₁ }
-    ensures turn { IfOk result (λ turn. ∥ IsTurnOf (case_of instance.now) pairs.now room before candidates.old.lines candidates.new.lines turn ∥₁) }
+    ensures turn { IfOk result (λ turn. ∥ IsTurnAfter (case_of instance.now) pairs.now room before candidates.old.lines candidates.new.lines turn ∥₁) }
     ensures alone { IfOk result (λ turn. PoolsTurn (case_of instance.now) pairs.now room (S.seen_of separator.old)
         (S.seen_of separator.new) candidates.old.lines candidates.new.lines turn) }
 {
@@ -240,7 +272,10 @@ fn take_turn<S: Separate>(
         Ok(best) => ask(
             alloc, instance, pairs, room, best, round, separator, candidates,
         ),
-        Err(fault) => too_wide(fault, before),
+        Err(MasterFault::Wide(evidence)) => turn_past_wide(
+            alloc, instance, pairs, room, round, before, evidence, kept, separator, candidates,
+        ),
+        Err(MasterFault::NoMemory) => Err(NoMemory),
     }
 }
 

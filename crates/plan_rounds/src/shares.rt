@@ -1,7 +1,7 @@
 ghost use Rattle.std.specs.Prelude.{◌≡◌, ◌+◌, ◌*◌, ◌<◌, ◌≤◌, ◌^◌, All, IfOk, length, map};
 ghost use Rattle.std.specs.Int.{◌∣◌};
 ghost use Rattle.master_law.specs.Terms.{AreUnitPairs, share_capacities};
-ghost use Rattle.plan_rounds.specs.inner.Sharing.{DividesAll, IsDividedShare};
+ghost use Rattle.plan_rounds.specs.inner.Sharing.{DividesAll, IsDividedCaps, IsDividedShare};
 
 use checked_fraction::gcd;
 use module_prices::UnitPair;
@@ -9,7 +9,7 @@ use net_core::{Caps, Link, List, Network, NoMemory};
 use plan_types::Share;
 use std::alloc::Global;
 
-/// The capacities of a share, and the same in lowest terms: scale and numbers over the divisor.
+/// Capacities of a share, and the same in lowest terms: scale and numbers over the divisor.
 #[derive(Drop)]
 pub struct ShareCaps {
     pub whole: Caps,
@@ -72,6 +72,21 @@ fn numbers_over(alloc: Global, nums: &[u128], divisor: u64) -> Result<List<u128>
     Ok(divided)
 }
 
+/// Capacities, and the same in lowest terms.
+pub fn divided_caps(alloc: Global, whole: Caps) -> Result<ShareCaps, NoMemory>
+    requires { 0 < whole.scale }
+    ensures { IfOk result (IsDividedCaps whole) }
+{
+    let divisor = common_divisor(whole.scale, whole.nums.items());
+    let nums = numbers_over(alloc, whole.nums.items(), divisor)?;
+    let scale = whole.scale / divisor;
+    Ok(ShareCaps {
+        whole,
+        divided: Caps { scale, nums },
+        divisor,
+    })
+}
+
 /// The capacities of a share: each link has its pre-installed capacity and its units of its unit pair.
 pub fn share_caps(
     alloc: Global,
@@ -86,17 +101,11 @@ pub fn share_caps(
     ensures { IfOk result (IsDividedShare net.now.links pairs.now share.now) }
 {
     let nums = share_numbers(alloc, net.links().items(), pairs.items(), share)?;
-    let divisor = common_divisor(share.scale, nums.items());
-    let divided = numbers_over(alloc, nums.items(), divisor)?;
-    Ok(ShareCaps {
-        whole: Caps {
+    divided_caps(
+        alloc,
+        Caps {
             scale: share.scale,
             nums,
         },
-        divided: Caps {
-            scale: share.scale / divisor,
-            nums: divided,
-        },
-        divisor,
-    })
+    )
 }

@@ -1,5 +1,5 @@
 -- a history that a separator writes alone
-use Rattle.std.specs.Prelude.{◌≡◌, ℕ, ◌+◌, ◌≤◌, ◌⊎◌, List, [], All, Contains, length, map}
+use Rattle.std.specs.Prelude.{◌≡◌, ℕ, ◌+◌, ◌≤◌, ◌⊎◌, Bool, true, false, List, [], All, Contains, length, map}
 use Rattle.plan_terms.specs.Terms.{Entry, CutLine, Case}
 use Rattle.module_prices.specs.declared.cheapest.UnitPair.{UnitPair}
 use Rattle.cut_pool.specs.Terms.{cut_of_line, cuts_of}
@@ -47,6 +47,16 @@ IsPoolAfterTurn p pairs h lines (Last best quality) = ∥ IsWorkedPool p h ∥�
 abbrev pub PoolsTurn : Case → List UnitPair → ℕ → (old new : Seen Entry) → (lines lines_now : List CutLine) → Turn → Type 0
 PoolsTurn p pairs room old new lines lines_now turn =
     IsAlone new → length lines + room ≡ 4096 → ∥ IsPoolOfList p pairs (cuts_of old.history) lines ∥₁ → IsPoolAfterTurn p pairs new.history lines_now turn
+
+-- the pool is that of the list, or it is a worked list at least
+abbrev pub IsPoolAsFar : Case → List UnitPair → List Entry → List CutLine → Bool → Type 0
+IsPoolAsFar p pairs h lines true = ∥ IsPoolOfList p pairs (cuts_of h) lines ∥₁
+IsPoolAsFar p pairs h lines false = ∥ IsWorkedPool p h ∥₁
+
+-- what a separator that is alone has pooled after a round, or after several
+abbrev pub PoolsAsFar : Case → List UnitPair → ℕ → (old new : Seen Entry) → (lines lines_now : List CutLine) → Bool → Type 0
+PoolsAsFar p pairs most old new lines lines_now far =
+    IsAlone new → most ≡ 4096 → ∥ IsPoolOfList p pairs (cuts_of old.history) lines ∥₁ → IsPoolAsFar p pairs new.history lines_now far
 
 -- and what of all turns after what the list begins with
 abbrev pub PoolsRounds : Case → ℕ → (old new : Seen Entry) → List CutLine → Type 0

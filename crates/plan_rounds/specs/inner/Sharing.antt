@@ -12,11 +12,15 @@ use Rattle.master_law.specs.Terms.{share_caps}
 use Rattle.plan_rounds.specs.inner.Answered.{AreRoutedStates, IsEvidenceOfState}
 use Rattle.plan_rounds.specs.declared.shares.ShareCaps.{ShareCaps}
 
--- the share's capacities, and the same over a divisor of scale and numbers
-pub record IsDividedShare (links : List Link) (pairs : List UnitPair) (share : Share) (c : ShareCaps) : Type 0 where
-  pub whole : c.whole ≡ share_caps links pairs share
+-- capacities, and the same over a divisor of scale and numbers
+pub record IsDividedCaps (caps : Caps) (c : ShareCaps) : Type 0 where
+  pub whole : c.whole ≡ caps
   pub positive : 0 < c.divisor
   pub times : caps_times c.divisor c.divided ≡ c.whole
+
+-- the share's capacities, and the same over such a divisor
+abbrev pub IsDividedShare : List Link → List UnitPair → Share → ShareCaps → Type 0
+IsDividedShare links pairs share c = IsDividedCaps (share_caps links pairs share) c
 
 -- the number divides the scale and each of the numbers
 pub record DividesAll (scale : ℕ) (nums : List ℕ) (d : ℕ) : Type 0 where

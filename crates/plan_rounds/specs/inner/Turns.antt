@@ -1,15 +1,13 @@
 -- one turn of the rounds: the best certificate of the cuts, and what the states answer at its share
-use Rattle.std.specs.Prelude.{◌≡◌, ℕ, ◌+◌, ◌<◌, ◌≤◌, ◌⊎◌, ◌++◌, List, All, Option, Some, length, take}
-use Rattle.plan_terms.specs.Terms.{Evidence, Entry, Caps, CutLine, Case, IsCut}
+use Rattle.std.specs.Prelude.{◌≡◌, ℕ, ◌+◌, ◌<◌, ◌≤◌, ◌⊎◌, ◌++◌, Bool, true, false, List, All, Option, None, Some, length, take}
+use Rattle.plan_terms.specs.Terms.{Entry, Caps, CutLine, Case, IsCut}
 use Rattle.module_prices.specs.declared.cheapest.UnitPair.{UnitPair}
-use Rattle.plan_types.specs.declared.quality.Cause.TheVariants as causes
+use Rattle.plan_types.specs.declared.certificate.Spot.{Spot}
 use Rattle.plan_types.specs.declared.quality.Cause.TheVariants.{Cuts}
 use Rattle.plan_types.specs.declared.quality.Quality.{Quality}
 use Rattle.plan_types.specs.declared.quality.Quality.TheVariants.{Loose}
 use Rattle.master_bound.specs.declared.answer.Best.{Best}
-use Rattle.master_bound.specs.declared.answer.MasterFault.{MasterFault}
-use Rattle.master_bound.specs.declared.answer.MasterFault.TheVariants.{Wide}
-use Rattle.plan_law.specs.WorkedLists.{IsBeginning, IsRound}
+use Rattle.plan_law.specs.WorkedLists.{AreRounds, IsBeginning, IsRound, Round, after_rounds}
 use Rattle.plan_rounds.specs.WorkedRounds.{AreWorkedRounds, EndsBy, IsBestAt}
 use Rattle.plan_rounds.specs.inner.Sharing.{IsQualityAt}
 use Rattle.plan_rounds.specs.declared.candidates.Candidates.{Candidates}
@@ -50,9 +48,49 @@ module _ (p : Case) (pairs : List UnitPair) (room : ℕ) (before : Option Best) 
   IsTurnOf new (Further best) = IsFurther new best
   IsTurnOf new (Last best quality) = (new ≡ old) × EndsBy p pairs old (room ≡ 0) (λ b. b ≡ before) best quality
 
--- where the master's number is too wide, the best certificate before it is the last
-abbrev pub EndsTooWide : MasterFault → Option Best → Turn → Type 0
-EndsTooWide fault before turn = (evidence : Evidence) × (fault ≡ Wide evidence) × (turn ≡ Last before (Loose (causes.Wide evidence)))
+-- ---- where a certificate is too wide
+
+-- rounds lead from a list of cuts to another, of no more than `most`
+pub record ArePassed (p : Case) (pairs : List UnitPair) (most : ℕ) (old new : List CutLine) : Type 0 where
+  pub rounds : List Round
+  pub are_rounds : AreRounds p pairs old rounds
+  pub whole : new ≡ after_rounds old rounds
+  pub few : length new ≤ most
+
+-- cuts and spots have come after those of before
+pub record Extends (old new : Candidates) : Type 0 where
+  pub more_lines : List CutLine
+  pub more_spots : List Spot
+  pub lines : new.lines ≡ old.lines ++ more_lines
+  pub spots : new.spots ≡ old.spots ++ more_spots
+
+-- the first cuts that were found have come to the list, or it is as it was
+abbrev pub AddsFound : ℕ → Answered → Candidates → Candidates → Bool → Type 0
+AddsFound room a old new true = AddsFirst room a.found old new × (0 < room) × (0 < length a.found.lines)
+AddsFound room a old new false = new ≡ old
+
+module _ (p : Case) (pairs : List UnitPair) where
+  -- a round of at least one cut has come to the list, or the list is as it was
+  abbrev pub AddsRound : ℕ → Candidates → Candidates → Bool → Type 0
+  AddsRound room old new true = (round : Round) × IsRound p pairs old.lines round × (new.lines ≡ old.lines ++ round.cuts) × (0 < length round.cuts) × (length round.cuts ≤ room) × Extends old new
+  AddsRound room old new false = new ≡ old
+
+  -- further cuts, or an end that no evidence of the program brings
+  abbrev pub IsOpenTurn : ℕ → (mid new : List CutLine) → Turn → Type 0
+  IsOpenTurn room mid new (Further best) = IsFurther p pairs room None mid new best
+  IsOpenTurn room mid new (Last best quality) = (new ≡ mid) × EndsBy p pairs mid (room ≡ 0) (λ b. ⊥) best quality
+
+  -- such a turn after rounds, which leave so much room
+  pub record IsLaterTurn (room : ℕ) (old new : List CutLine) (turn : Turn) : Type 0 where
+    pub mid : List CutLine
+    pub rest : ℕ
+    pub passed : ArePassed p pairs (length old + room) old mid
+    pub fits : length mid + rest ≡ length old + room
+    pub after : IsOpenTurn rest mid new turn
+
+  -- a turn at a certificate of the list, or one after rounds at least shares that are too wide
+  abbrev pub IsTurnAfter : ℕ → Option Best → (old new : List CutLine) → Turn → Type 0
+  IsTurnAfter room before old new turn = IsTurnOf p pairs room before old new turn ⊎ IsLaterTurn room old new turn
 
 -- from a beginning of any pool that leaves room for 4,096 cuts, the rounds of that pool
 abbrev pub WorksOn : Case → List Entry → ℕ → List CutLine → Worked → Type 0

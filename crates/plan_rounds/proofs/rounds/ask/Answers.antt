@@ -7,7 +7,7 @@ use Rattle.plan_rounds.proofs.OwnTurns.{after_told, judged_pool}
 use Rattle.plan_rounds.proofs.Results.{if_ok, on_if}
 use Rattle.plan_rounds.proofs.Seeing.{goes_none}
 use Rattle.plan_rounds.proofs.Sharing.{divided_count}
-use Rattle.plan_rounds.proofs.Turning.{judged_listed, judged_turn}
+use Rattle.plan_rounds.proofs.Turning.{judged_listed, judged_turn, share_gives}
 use Rattle.plan_rounds.proofs.rounds.ask.Goals as goal
 
 pub returns-in_err-caps-clause-on : goal.returns-in_err-caps-clause-on
@@ -74,6 +74,6 @@ returns-clause-alone g c =
     ∥∥₁_elim (g.met.S.Separate.seen before) (hlevel props) (λ seen_before.
     ∥∥₁_map (g.met.S.Separate.seen now) (λ seen.
     judged_pool p pairs c.requires.pairs (g.S.Separate.frame now).network (g.S.Separate.frame now).states (g.S.Separate.seen_of before) (g.S.Separate.seen_of now) seen_before.own_among answers.more seen alone
-    c.args.best c.in_ok-caps.caps c.in_ok-answered.answered c.args.candidates.now (cuts_answered c.in_ok-answers.answers) n c.requires.best c.in_ok-caps.ensures separates answers.different answers.answered c.in_ok-answered.ensures.found
-    (c.in_ok-answered.ensures.sorted p c.in_ok-caps.caps.divided (g.S.Separate.seen_of now).history are_answers) listed pool c.args.room c.judge.new.candidates turn full judges)))))))))
+    c.args.best.share c.in_ok-caps.caps.divided c.in_ok-answered.answered c.args.candidates.now (cuts_answered c.in_ok-answers.answers) n c.requires.best.least (share_gives p pairs c.args.best.share c.in_ok-caps.caps c.in_ok-caps.ensures) separates answers.different answers.answered c.in_ok-answered.ensures.found
+    (c.in_ok-answered.ensures.sorted p c.in_ok-caps.caps.divided (g.S.Separate.seen_of now).history are_answers) listed pool c.in_ok-caps.caps.whole c.args.best c.args.room c.judge.new.candidates turn full judges)))))))))
     c.judge.ensures

@@ -1,14 +1,14 @@
-use Rattle.std.proofs.Common.{◌≡◌, ◌-◌, ◌≤◌, List, ap, arith, length, subst, sym, ◌∙◌}
+use Rattle.std.proofs.Common.{◌≡◌, ◌+◌, ◌-◌, ◌≤◌, ap, arith, length, subst, sym, ◌∙◌}
 use Rattle.net_core.proofs.Library.{∥∥₁_elim, ∥∥₁_map, props}
-use Rattle.plan_terms.specs.Terms.{CutLine, case_of}
-use Rattle.plan_rounds.specs.WorkedRounds.{EndsBy}
+use Rattle.plan_terms.specs.Terms.{case_of}
 use Rattle.plan_rounds.specs.inner.Alone.{PoolsTurn}
-use Rattle.plan_rounds.specs.inner.Turns.{IsTurnOf}
+use Rattle.plan_rounds.specs.inner.Turns.{IsTurnAfter}
 use Rattle.plan_rounds.specs.declared.rounds.Turn.TheVariants.{Further, Last}
 use Rattle.plan_rounds.proofs.OwnPool.{alone_before}
 use Rattle.plan_rounds.proofs.OwnTurns.{pool_begins}
 use Rattle.plan_rounds.proofs.Seeing.{goes_both, goes_none}
-use Rattle.plan_rounds.proofs.Turning.{IsWorking, further_room, working_begins, working_ends, working_on}
+use Rattle.plan_rounds.proofs.Passing.{turn_ends, turn_further, turn_room}
+use Rattle.plan_rounds.proofs.Turning.{working_begins}
 use Rattle.plan_rounds.proofs.rounds.turns.Goals as goal
 
 pub loop-kept-init : goal.loop-kept-init
@@ -30,7 +30,9 @@ pub take_turn-requires-clause-listed : goal.take_turn-requires-clause-listed
 take_turn-requires-clause-listed g c = c.loop-kept.invariant.1
 
 pub take_turn-requires-clause-few : goal.take_turn-requires-clause-few
-take_turn-requires-clause-few g c = let le : length c.loop-kept.candidates.lines ≤ 8192 = omega (arith, c.loop-kept.invariant.2, c.requires.few) in le
+take_turn-requires-clause-few g c =
+    let le : length c.loop-kept.candidates.lines + (c.args.most - c.len.result) ≤ 8192 = let few = c.loop-kept.invariant.2 in let most = c.requires.few in let len = c.len.ensures in omega (arith, few, most, len) in
+    le
 
 pub returns-in_err-best-clause-on : goal.returns-in_err-best-clause-on
 returns-in_err-best-clause-on g c = goes_both _ _ _ _ _ _ c.loop-kept.invariant.0 c.in_err-best.ensures.on
@@ -46,12 +48,12 @@ loop-kept-preserved g c =
     let best = c.in-Further.best in
     let room = c.args.most - c.len.result in
     let is : room ≡ c.args.most - length old = ap (λ n. c.args.most - n) c.len.ensures in
-    let further = subst (λ t. ∥ IsTurnOf p pairs room before old new t ∥₁) c.in-Further.is c.in_ok-best.ensures.turn in (
+    let further = subst (λ t. ∥ IsTurnAfter p pairs room before old new t ∥₁) c.in-Further.is c.in_ok-best.ensures.turn in (
       goes_both _ _ _ _ _ _ so_far.0 c.in_ok-best.ensures.on,
       c.in_ok-best.ensures.listed,
-      ∥∥₁_elim further (hlevel props) (λ f. (further_room p pairs room c.args.most before old new best is so_far.2 f).0),
+      ∥∥₁_elim further (hlevel props) (λ f. (turn_room p pairs room c.args.most before old new best is so_far.2 f).0),
       λ pool same known begins. ∥∥₁_elim further (hlevel props) (λ f.
-          ∥∥₁_map (so_far.3 pool same known begins) (λ w. working_on p pairs pool old new before room best known (omega (arith, same, is, so_far.2)) w f)),
+          ∥∥₁_map (so_far.3 pool same known begins) (λ w. turn_further p pairs pool old new before room best known (omega (arith, same, is, so_far.2)) w f)),
       λ alone most begins same.
           let here = c.loop-kept.separator in
           let now = c.take_turn.new.separator in
@@ -71,8 +73,8 @@ loop-kept-smaller g c =
     let before = c.loop-kept.before in
     let room = c.args.most - c.len.result in
     let is : room ≡ c.args.most - length old = ap (λ n. c.args.most - n) c.len.ensures in
-    let further = subst (λ t. ∥ IsTurnOf p pairs room before old new t ∥₁) c.in-Further.is c.in_ok-best.ensures.turn in
-    ∥∥₁_elim further (hlevel props) (λ f. (further_room p pairs room c.args.most before old new c.in-Further.best is c.loop-kept.invariant.2 f).1)
+    let further = subst (λ t. ∥ IsTurnAfter p pairs room before old new t ∥₁) c.in-Further.is c.in_ok-best.ensures.turn in
+    ∥∥₁_elim further (hlevel props) (λ f. (turn_room p pairs room c.args.most before old new c.in-Further.best is c.loop-kept.invariant.2 f).1)
 
 pub returns-in-Last-clause-on : goal.returns-in-Last-clause-on
 returns-in-Last-clause-on g c = goes_both _ _ _ _ _ _ c.loop-kept.invariant.0 c.in_ok-best.ensures.on
@@ -89,13 +91,10 @@ returns-in-Last-clause-worked g c pool same known begins =
     let quality = c.in-Last.quality in
     let room = c.args.most - c.len.result in
     let is : room ≡ c.args.most - length old = ap (λ n. c.args.most - n) c.len.ensures in
-    let last = subst (λ t. ∥ IsTurnOf p pairs room before old new.lines t ∥₁) c.in-Last.is c.in_ok-best.ensures.turn in
-    ∥∥₁_elim last (hlevel props) (λ e. ∥∥₁_elim c.in_ok-best.ensures.listed (hlevel props) (λ are.
+    let last = subst (λ t. ∥ IsTurnAfter p pairs room before old new.lines t ∥₁) c.in-Last.is c.in_ok-best.ensures.turn in
+    ∥∥₁_elim last (hlevel props) (λ turn. ∥∥₁_elim c.in_ok-best.ensures.listed (hlevel props) (λ are.
     ∥∥₁_map (so_far.3 pool same known begins) (λ w.
-    working_ends p pairs (g.S.Separate.seen_of c.take_turn.new.separator).history pool new before best room quality are
-    (let long = ap length e.0 in omega (arith, long, is, same, so_far.2))
-    (subst (λ (ls : List CutLine). IsWorking p pairs pool ls before) (sym e.0) w)
-    (subst (λ (ls : List CutLine). EndsBy p pairs ls (room ≡ 0) (λ b. b ≡ before) best quality) (sym e.0) e.1))))
+    turn_ends p pairs (g.S.Separate.seen_of c.take_turn.new.separator).history pool old new before best room quality known are (omega (arith, is, same, so_far.2)) w turn)))
 
 pub returns-in-Last-clause-alone : goal.returns-in-Last-clause-alone
 returns-in-Last-clause-alone g c alone most begins same =
