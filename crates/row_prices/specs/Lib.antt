@@ -1,0 +1,4 @@
+pub mod inner
+pub mod KeyPaths
+pub mod Laws
+pub mod PathRows
