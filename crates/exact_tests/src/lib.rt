@@ -10,6 +10,8 @@ mod optima;
 #[cfg(test)]
 mod packing;
 #[cfg(test)]
+mod priced_rows;
+#[cfg(test)]
 mod rows;
 #[cfg(test)]
 mod wide_flows;

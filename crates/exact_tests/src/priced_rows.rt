@@ -1,0 +1,263 @@
+use net_core::{
+    Caps, LinkId, List, NoMemory, Path, Problem, RouteColumn, RouteTask, StateId, Surviving,
+};
+use row_prices::{PathRow, priced_numbers};
+use std::alloc::Global;
+use worked_networks::{DemandRow, LinkRow, TEN, network, problem};
+
+/// A column and its row: a demand and its path, or a link and no path for the link's slack; the row's numbers and their denominator.
+type Kept = (u32, &'static [u32], &'static [i64], i64);
+
+/// Demands on the triangle, a key for each, and rows; a row's place, and the lengths that it gives.
+#[derive(Clone, Copy)]
+struct Case {
+    demands: &'static [DemandRow],
+    keys: &'static [&'static [u32]],
+    rows: &'static [Kept],
+    at: usize,
+    lengths: Option<&'static [u32]>,
+}
+
+/// The links AB, BC and AC.
+const TRIANGLE: [LinkRow; 3] = [(0, 1, 0, &TEN), (1, 2, 0, &TEN), (0, 2, 0, &TEN)];
+
+/// From A to C, and from A to B.
+const ONE_DEMAND: [DemandRow; 1] = [(0, 2, 12000)];
+
+const TWO_DEMANDS: [DemandRow; 2] = [(0, 2, 12000), (0, 1, 4000)];
+
+/// The key AC with the path over B, and the slacks of BC and AC.
+const OVER_B: [Kept; 3] = [
+    (0, &[0, 1], &[1, 0, 0], 1),
+    (1, &[], &[-1, 1, 0], 1),
+    (2, &[], &[1, 0, 1], 1),
+];
+
+/// The key over B with the path AC, and the slacks of BC and AB.
+const OVER_AC: [Kept; 3] = [
+    (0, &[2], &[0, 0, 1], 1),
+    (1, &[], &[0, 1, 1], 1),
+    (0, &[], &[1, 0, 1], 1),
+];
+
+/// The keys AC and AB with the paths around the triangle, and the slack of AC.
+const AROUND: [Kept; 3] = [
+    (0, &[0, 1], &[1, 1, 0], 2),
+    (1, &[2, 1], &[-1, 1, 0], 2),
+    (2, &[], &[1, 0, 1], 1),
+];
+
+/// All slacks.
+const SLACKS: [Kept; 3] = [
+    (0, &[], &[1, 0, 0], 1),
+    (1, &[], &[0, 1, 0], 1),
+    (2, &[], &[0, 0, 1], 1),
+];
+
+/// The first rows again, the second of them with a wrong number, and the third over twice its denominator.
+const WRONG: [Kept; 3] = [
+    (0, &[0, 1], &[1, 0, 0], 1),
+    (1, &[], &[0, 1, 0], 1),
+    (2, &[], &[1, 0, 1], 1),
+];
+
+const DOUBLED: [Kept; 3] = [
+    (0, &[0, 1], &[1, 0, 0], 1),
+    (1, &[], &[-1, 1, 0], 1),
+    (2, &[], &[2, 0, 2], 2),
+];
+
+/// Worked out by hand.
+const CASES: [Case; 14] = [
+    Case {
+        demands: &ONE_DEMAND,
+        keys: &[&[2]],
+        rows: &OVER_B,
+        at: 2,
+        lengths: Some(&[1, 0, 1]),
+    },
+    // The key has the length 0, a number is below 0, and there is no such row.
+    Case {
+        demands: &ONE_DEMAND,
+        keys: &[&[2]],
+        rows: &OVER_B,
+        at: 0,
+        lengths: None,
+    },
+    Case {
+        demands: &ONE_DEMAND,
+        keys: &[&[2]],
+        rows: &OVER_B,
+        at: 1,
+        lengths: None,
+    },
+    Case {
+        demands: &ONE_DEMAND,
+        keys: &[&[2]],
+        rows: &OVER_B,
+        at: 3,
+        lengths: None,
+    },
+    // The keys are those of other rows, or no path of the demand, or missing.
+    Case {
+        demands: &ONE_DEMAND,
+        keys: &[&[0, 1]],
+        rows: &OVER_B,
+        at: 2,
+        lengths: None,
+    },
+    Case {
+        demands: &ONE_DEMAND,
+        keys: &[&[0]],
+        rows: &OVER_B,
+        at: 2,
+        lengths: None,
+    },
+    Case {
+        demands: &ONE_DEMAND,
+        keys: &[],
+        rows: &OVER_B,
+        at: 2,
+        lengths: None,
+    },
+    Case {
+        demands: &ONE_DEMAND,
+        keys: &[&[0, 1]],
+        rows: &OVER_AC,
+        at: 1,
+        lengths: Some(&[0, 1, 1]),
+    },
+    Case {
+        demands: &ONE_DEMAND,
+        keys: &[&[0, 1]],
+        rows: &OVER_AC,
+        at: 2,
+        lengths: Some(&[1, 0, 1]),
+    },
+    Case {
+        demands: &TWO_DEMANDS,
+        keys: &[&[2], &[0]],
+        rows: &AROUND,
+        at: 0,
+        lengths: Some(&[1, 1, 0]),
+    },
+    Case {
+        demands: &TWO_DEMANDS,
+        keys: &[&[2], &[0]],
+        rows: &AROUND,
+        at: 2,
+        lengths: Some(&[1, 0, 1]),
+    },
+    // The path over B is shorter than the key.
+    Case {
+        demands: &ONE_DEMAND,
+        keys: &[&[2]],
+        rows: &SLACKS,
+        at: 2,
+        lengths: None,
+    },
+    Case {
+        demands: &ONE_DEMAND,
+        keys: &[&[2]],
+        rows: &WRONG,
+        at: 2,
+        lengths: None,
+    },
+    Case {
+        demands: &ONE_DEMAND,
+        keys: &[&[2]],
+        rows: &DOUBLED,
+        at: 2,
+        lengths: None,
+    },
+];
+
+/// A path of these links.
+fn path(alloc: Global, links: &[u32]) -> Result<Path, NoMemory> {
+    let mut path = List::new(alloc);
+    for link in links {
+        path.push(LinkId(*link))?;
+    }
+    Ok(path)
+}
+
+/// The keys of a case.
+fn keys_of(alloc: Global, case: &Case) -> Result<List<Path>, NoMemory> {
+    let mut keys = List::new(alloc);
+    for i in 0..case.keys.len() {
+        keys.push(path(alloc, case.keys[i])?)?;
+    }
+    Ok(keys)
+}
+
+/// A column and its row.
+fn row_of(alloc: Global, kept: &Kept) -> Result<PathRow, NoMemory> {
+    let column = if kept.1.len() == 0 {
+        RouteColumn::LinkSlack(LinkId(kept.0))
+    } else {
+        RouteColumn::Carry(kept.0, path(alloc, kept.1)?)
+    };
+    Ok(PathRow {
+        column,
+        nums: List::from_slice(alloc, kept.2)?,
+        den: kept.3,
+    })
+}
+
+/// The rows of a case.
+fn rows_of(alloc: Global, case: &Case) -> Result<List<PathRow>, NoMemory> {
+    let mut rows = List::new(alloc);
+    for i in 0..case.rows.len() {
+        rows.push(row_of(alloc, &case.rows[i])?)?;
+    }
+    Ok(rows)
+}
+
+/// Whether a case's row gives what is expected, on a network of three links.
+fn is_met_on(alloc: Global, p: &Problem, caps: &Caps, case: &Case) -> bool {
+    let (Ok(keys), Ok(rows)) = (keys_of(alloc, case), rows_of(alloc, case)) else {
+        return false;
+    };
+    if caps.nums.len() != p.net.links().len() {
+        return false;
+    }
+    let task = RouteTask {
+        graph: Surviving {
+            net: &p.net,
+            states: &p.states,
+            state: StateId(0),
+        },
+        demands: &p.demands,
+        caps,
+    };
+    match (
+        priced_numbers(alloc, &task, keys.items(), rows.items(), case.at),
+        case.lengths,
+    ) {
+        (Ok(Some(found)), Some(lengths)) => found.items() == lengths,
+        (Ok(None), None) => true,
+        _ => false,
+    }
+}
+
+/// Whether a case's row gives what is expected.
+fn is_met(alloc: Global, case: &Case) -> bool {
+    let Ok(net) = network(alloc, 3, &TRIANGLE) else {
+        return false;
+    };
+    let (Ok(p), Ok(nums)) = (
+        problem(alloc, net, case.demands),
+        List::filled(alloc, 0u128, 3),
+    ) else {
+        return false;
+    };
+    let caps = Caps { scale: 1, nums };
+    is_met_on(alloc, &p, &caps, case)
+}
+
+#[test]
+fn priced_rows(rt: HostRuntime) {
+    for i in 0..CASES.len() {
+        assert!(rt; is_met(rt.alloc(), &CASES[i]));
+    }
+}
