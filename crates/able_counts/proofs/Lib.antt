@@ -1,3 +1,2 @@
 pub mod FoundForms
-pub mod Repairing
 pub mod Testing

@@ -8,8 +8,9 @@ use Rattle.simplex_law.specs.Terms.{ColumnOf}
 use Rattle.route_law.specs.Terms.{ArePricedLengths, ArePricedSomewhere, IsCarrying, IsRouteColumn}
 use Rattle.flow_router.specs.Answers.{IsViolatedCut}
 use Rattle.metric_cut.specs.declared.cut.Cut.{Cut}
-use Rattle.node_sets.specs.Boundaries.{IsBoundaryCut, boundary_lengths}
-use Rattle.separator.specs.Findings.{IsFoundCutOf}
+use Rattle.node_sets.specs.Boundaries.{IsBoundaryCut}
+use Rattle.row_cuts.specs.FoundCuts.{IsFoundCutOf}
+use Rattle.row_cuts.proofs.Founds.{boundary_found}
 
 -- ---- the same links under other states
 
@@ -186,11 +187,7 @@ module _ (g : Graph) (network : ∥ IsNetwork g.nodes g.links ∥₁) (demands :
     violated = is.violated;
   }
 
--- a violated cut of a set of nodes
-pub boundary_found : (g : Graph) (demands : List Demand) (caps : Caps) (cut : Cut) → IsBoundaryCut g demands caps cut → IsFoundCutOf g demands caps cut
-boundary_found g demands caps cut is = record { of = is.of; lengths = boundary_lengths is.is_member g.links; priced = is.priced; keeps = is.keeps; violated = is.violated }
-
--- so it is of a set that may be found, of the same surviving graph
+-- a violated cut of a set of nodes that may be found is one of priced lengths, in the same surviving graph
 pub boundary_may_be : (g h : Graph) (demands : List Demand) (caps : Caps) (found : Option Cut) → g ≡ h → IfSome found (IsBoundaryCut g demands caps) → IfSome found (IsFoundCutOf h demands caps)
 boundary_may_be g h demands caps None same is = tt
 boundary_may_be g h demands caps (Some cut) same is = boundary_found h demands caps cut (subst (λ (k : Graph). IsBoundaryCut k demands caps cut) same is)

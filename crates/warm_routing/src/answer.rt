@@ -6,6 +6,6 @@ use net_core::Routing;
 pub enum WarmAnswer {
     /// This routing carries them.
     Routed(Routing),
-    /// The capacities violate this cut of a set of nodes.
+    /// The capacities violate this cut, of a set of nodes or of a row of the basis.
     Violated(Cut),
 }

@@ -1,6 +1,6 @@
 use crate::column::{Column, beyond_key};
 use crate::searching::Waiting;
-use crate::share::{Share, is_short, need_of};
+use crate::share::{Share, is_counted, need_of};
 use crate::shortage::Shortage;
 use net_core::{List, Path};
 
@@ -40,7 +40,7 @@ fn slope_of(shortage: &Shortage, keys: &[Path], shares: &[Share], waiting: &Wait
         waiting.demand,
         waiting.path.items(),
     );
-    if is_short(shares, waiting.demand) {
+    if is_counted(shares, waiting.demand) {
         slope.wrapping_add(shortage.den)
     } else {
         slope

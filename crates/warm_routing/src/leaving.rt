@@ -49,23 +49,28 @@ fn push_point(points: &mut List<Point>, point: Option<Point>) -> Result<(), NoMe
     Ok(())
 }
 
-/// The points of all rows and keys.
+/// The points of all rows and keys but those that are short and don't count, if these are to be left out.
 pub(crate) fn points_of(
     alloc: Global,
     rows: &[BasisRow],
     shares: &[Share],
     needs: &[i128],
     entering: Option<usize>,
+    alone: bool,
 ) -> Result<List<Point>, NoMemory> {
     let mut points = List::from_vec(Vec::with_capacity(alloc, rows.len())?);
     for i in 0..rows.len() {
         let row = &rows[i];
-        let point = point_of(Role::Row(i), row.value, row.product as i128, row.den);
-        push_point(&mut points, point)?;
+        if !alone || row.value >= 0 || row.weight != 0 {
+            let point = point_of(Role::Row(i), row.value, row.product as i128, row.den);
+            push_point(&mut points, point)?;
+        }
     }
     for share in shares {
-        let point = point_of(Role::Key(*share), share.value, share.product, share.den);
-        push_point(&mut points, point)?;
+        if !alone || share.value >= 0 {
+            let point = point_of(Role::Key(*share), share.value, share.product, share.den);
+            push_point(&mut points, point)?;
+        }
     }
     if let Some(demand) = entering {
         if place_of(shares, demand) == shares.len() {

@@ -5,7 +5,7 @@
 //! let mut router = WarmRouter::new(alloc);
 //! match router.ask(&task, 1_000)? {
 //!     Some(WarmAnswer::Routed(routing)) => ..,    // flows over one denominator that carry the demands
-//!     Some(WarmAnswer::Violated(cut)) => ..,      // a cut of a set of nodes that the capacities violate
+//!     Some(WarmAnswer::Violated(cut)) => ..,      // a cut of a set of nodes, or of a row of the basis, that the capacities violate
 //!     None => ..,                                 // it isn't known
 //! }
 //! ```
@@ -14,9 +14,11 @@
 mod answer;
 mod basis;
 mod column;
+mod cut_of_row;
 mod entering;
 mod leaving;
 mod numbers;
+mod one_row;
 mod router;
 mod routing;
 mod row;

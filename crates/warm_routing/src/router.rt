@@ -1,24 +1,26 @@
 ghost use Rattle.std.specs.Prelude.{◌<◌, IfOk, IfSome};
 ghost use Rattle.plan_terms.specs.Terms.{graph_of};
-ghost use Rattle.node_sets.specs.Boundaries.{IsBoundaryCut};
+ghost use Rattle.row_cuts.specs.FoundCuts.{IsFoundCutOf};
 ghost use Rattle.warm_routing.specs.WarmAnswers.{IsWarmAnswer};
 ghost use Rattle.warm_routing.specs.inner.Steps.{IsSoundChoice, IsSoundStep};
 
 use crate::answer::WarmAnswer;
 use crate::basis::Basis;
+use crate::cut_of_row::cut_at;
 use crate::entering::{Entrant, entering_path, entering_slack};
 use crate::leaving::{fixed_point, leaving, points_of};
+use crate::one_row::{Aim, aimed, clear, set_weights};
 use crate::routing::routing_of;
 use crate::row::set_values;
 use crate::searching::{Waiting, collect, given, set_lengths};
 use crate::share::{Share, set_losses, shares_of};
-use crate::shortage::{Shortage, short_in_all, shortage_of, weigh};
+use crate::shortage::{Shortage, is_short, short_in_all, shortage_of};
 use crate::start::{bounds_of, first_basis, needs_of};
 use crate::turning::{set_products, turn};
 use flow_mending::if_routed;
 use flow_mending::reach::Reach;
 use metric_cut::Cut;
-use net_core::{List, NoMemory, RouteColumn, RouteTask};
+use net_core::{List, NoMemory, RouteColumn, RouteTask, StateId, Surviving};
 use node_sets::threshold_set;
 use std::alloc::Global;
 
@@ -36,12 +38,14 @@ struct Question {
     needs: List<i128>,
     waiting: List<Waiting>,
     reach: Reach,
+    /// Whether one row counts alone, and searches take all links.
+    alone: bool,
 }
 
 /// How the search for an answer goes on.
 #[derive(Drop)]
 enum Step {
-    /// A column has entered.
+    /// The basis has changed, or what counts in it.
     Turned,
     /// There is this answer.
     Done(WarmAnswer),
@@ -60,7 +64,7 @@ enum Choice {
 /// A violated cut of a set of nodes that are near under the slopes.
 fn near_set(alloc: Global, task: &RouteTask, slopes: &[i64]) -> Result<Option<Cut>, NoMemory>
     requires scale { 0 < task.now.caps.now.scale }
-    ensures { IfOk result (λ o. IfSome o (IsBoundaryCut (graph_of task.now.graph) task.now.demands.now task.now.caps.now)) }
+    ensures { IfOk result (λ o. IfSome o (IsFoundCutOf (graph_of task.now.graph) task.now.demands.now task.now.caps.now)) }
 {
     let mut lengths = List::filled(alloc, 0, task.graph.net.links().len())?;
     set_lengths(lengths.items_mut(), slopes);
@@ -85,7 +89,7 @@ fn search(
     let reach = &mut question.reach;
     let found = collect(alloc, task, shortage, keys, shares, needs, reach)?;
     question.waiting = found.waiting;
-    if given(slopes, question.bounds.items()) < found.asked {
+    if !question.alone && given(slopes, question.bounds.items()) < found.asked {
         if let Some(cut) = near_set(alloc, task, slopes)? {
             return Ok(Choice::Done(WarmAnswer::Violated(cut)));
         }
@@ -133,8 +137,14 @@ fn enter(
     let entering = column.demand();
     let needs = question.needs.items();
     set_losses(shares, basis.rows.items(), entering);
-    let mut points = points_of(alloc, basis.rows.items(), shares, needs, entering)?;
-    let Some(role) = leaving(&mut points, fixed_point(slope as i128, den)) else {
+    let alone = question.alone;
+    let mut points = points_of(alloc, basis.rows.items(), shares, needs, entering, alone)?;
+    let falls = if alone {
+        0
+    } else {
+        fixed_point(slope as i128, den)
+    };
+    let Some(role) = leaving(&mut points, falls) else {
         return Ok(false);
     };
     let turned = turn(alloc, basis, &role, column)?.is_some();
@@ -163,6 +173,75 @@ fn routed(
     }
 }
 
+/// From now on one row counts alone, and searches take all links of the network.
+fn leave_alone(
+    alloc: Global,
+    task: &RouteTask,
+    basis: &mut Basis,
+    question: &mut Question,
+) -> Result<(), NoMemory> {
+    let whole = Surviving {
+        net: task.graph.net,
+        states: task.graph.states,
+        state: StateId(0),
+    };
+    question.reach = Reach::new(alloc, &whole)?;
+    question.alone = true;
+    clear(basis.rows.items_mut());
+    Ok(())
+}
+
+/// What is done where nothing enters: one row counts alone from now on, and where one does already, its cut is the answer.
+fn end_search(
+    alloc: Global,
+    task: &RouteTask,
+    basis: &mut Basis,
+    question: &mut Question,
+) -> Result<Step, NoMemory>
+    requires scale { 0 < task.now.caps.now.scale }
+    ensures { IfOk result (IsSoundStep (graph_of task.now.graph) task.now.demands.now task.now.caps.now) }
+{
+    if !question.alone {
+        leave_alone(alloc, task, basis, question)?;
+        return Ok(Step::Turned);
+    }
+    let Some(at) = aimed(basis.rows.items()) else {
+        return Ok(Step::GivenUp);
+    };
+    match cut_at(alloc, task, basis, at)? {
+        Some(cut) => Ok(Step::Done(WarmAnswer::Violated(cut))),
+        None => Ok(Step::GivenUp),
+    }
+}
+
+/// A turn, or an answer, by what the rows that count are short of.
+fn go_on(
+    alloc: Global,
+    task: &RouteTask,
+    basis: &mut Basis,
+    question: &mut Question,
+    shares: &mut [Share],
+) -> Result<Step, NoMemory>
+    requires scale { 0 < task.now.caps.now.scale }
+    ensures { IfOk result (IsSoundStep (graph_of task.now.graph) task.now.demands.now task.now.caps.now) }
+{
+    let links = question.bounds.len();
+    let Some(shortage) = shortage_of(alloc, basis.rows.items(), links)? else {
+        return Ok(Step::GivenUp);
+    };
+    match choose(alloc, task, basis, &shortage, shares, question)? {
+        Choice::Enters(entrant) => {
+            if enter(alloc, basis, question, shares, shortage.den, entrant)? {
+                Ok(Step::Turned)
+            } else {
+                Ok(Step::GivenUp)
+            }
+        }
+        Choice::Done(answer) => Ok(Step::Done(answer)),
+        Choice::Nothing => end_search(alloc, task, basis, question),
+    }
+}
+
 /// One step: an answer where nothing is short, else a turn.
 fn advance(
     alloc: Global,
@@ -178,23 +257,13 @@ fn advance(
         return Ok(Step::GivenUp);
     };
     let shares = shares.items_mut();
-    if !weigh(basis.rows.items_mut(), shares) {
+    if !is_short(basis.rows.items(), shares) {
         return routed(alloc, task, basis, shares, needs);
     }
-    let links = question.bounds.len();
-    let Some(shortage) = shortage_of(alloc, basis.rows.items(), links)? else {
-        return Ok(Step::GivenUp);
-    };
-    match choose(alloc, task, basis, &shortage, shares, question)? {
-        Choice::Enters(entrant) => {
-            if enter(alloc, basis, question, shares, shortage.den, entrant)? {
-                Ok(Step::Turned)
-            } else {
-                Ok(Step::GivenUp)
-            }
-        }
-        Choice::Done(answer) => Ok(Step::Done(answer)),
-        Choice::Nothing => Ok(Step::GivenUp),
+    match set_weights(alloc, basis, shares, question.alone)? {
+        Aim::Set => go_on(alloc, task, basis, question, shares),
+        Aim::Exchanged => Ok(Step::Turned),
+        Aim::Wide => Ok(Step::GivenUp),
     }
 }
 
@@ -275,14 +344,15 @@ impl WarmRouter {
             needs,
             waiting: List::new(self.alloc),
             reach,
+            alone: false,
         })
     }
 
     /// Whether capacities carry the demands in a state; `None` where it isn't known: after so many turns, where a number is too wide, and
-    /// where no set of nodes shows why not.
+    /// where neither a set of nodes nor a row of the basis shows why not.
     ///
-    /// Each turn takes time in the square of the links, and some take a search from each node; a cut takes the time of `threshold_set`. It
-    /// keeps a path for each demand and a number for each link with each link.
+    /// Each turn takes time in the square of the links, and some take a search from each node; a cut takes the time of `threshold_set`
+    /// or of `row_cut`. It keeps a path for each demand and a number for each link with each link.
     pub fn ask(&mut self, task: &RouteTask, turns: u32) -> Result<Option<WarmAnswer>, NoMemory>
         requires scale { 0 < task.now.caps.now.scale }
         ensures { IfOk result (λ o. IfSome o (IsWarmAnswer (graph_of task.now.graph) task.now.demands.now task.now.caps.now)) }

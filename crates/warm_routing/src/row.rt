@@ -160,5 +160,6 @@ pub(crate) fn ready(row: &mut BasisRow) -> Option<()> {
 pub(crate) fn entered(row: &mut BasisRow, column: Column) -> Option<()> {
     row.column = column;
     row.den = row.product;
+    row.weight = 0;
     lower(row)
 }

@@ -91,7 +91,7 @@ fn prices_of(
     }
     let all = prices.items_mut();
     for share in shares {
-        if share.value < 0 && share.demand < all.len() {
+        if share.counts && share.demand < all.len() {
             all[share.demand] = all[share.demand].wrapping_sub(shortage.den);
         }
     }

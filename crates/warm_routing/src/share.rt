@@ -12,6 +12,8 @@ pub(crate) struct Share {
     pub value: i128,
     /// What the key loses to a unit of the column that enters.
     pub product: i128,
+    /// Whether its value counts in what is short.
+    pub counts: bool,
 }
 
 /// The place of a demand's share, which is past the end where there is none.
@@ -24,10 +26,10 @@ pub(crate) fn place_of(shares: &[Share], demand: usize) -> usize {
     shares.len()
 }
 
-/// Whether a demand's key has a negative value.
-pub(crate) fn is_short(shares: &[Share], demand: usize) -> bool {
+/// Whether the value of a demand's key counts in what is short.
+pub(crate) fn is_counted(shares: &[Share], demand: usize) -> bool {
     let at = place_of(shares, demand);
-    at < shares.len() && shares[at].value < 0
+    at < shares.len() && shares[at].counts
 }
 
 /// Takes a row's part away.
@@ -59,6 +61,7 @@ pub(crate) fn whole_share(needs: &[i128], demand: usize, entering: Option<usize>
         den: 1,
         value: need_of(needs, demand),
         product: if entering == Some(demand) { 1 } else { 0 },
+        counts: false,
     }
 }
 

@@ -16,21 +16,26 @@ pub(crate) struct Shortage {
 /// How often a row's value counts.
 fn weight_of(row: &BasisRow, shares: &[Share]) -> i64 {
     let own = if row.value < 0 { 1 } else { 0 };
-    if row.share < shares.len() && shares[row.share].value < 0 {
+    if row.share < shares.len() && shares[row.share].counts {
         own - 1
     } else {
         own
     }
 }
 
-/// Whether some value is negative, each row's weight set by that.
-pub(crate) fn weigh(rows: &mut [BasisRow], shares: &[Share]) -> bool {
-    let mut short = false;
+/// Whether some value is negative.
+pub(crate) fn is_short(rows: &[BasisRow], shares: &[Share]) -> bool {
+    rows.iter().any(|row| row.value < 0) || shares.iter().any(|share| share.value < 0)
+}
+
+/// Lets all values count that are negative.
+pub(crate) fn weigh_all(rows: &mut [BasisRow], shares: &mut [Share]) {
+    for k in 0..shares.len() {
+        shares[k].counts = shares[k].value < 0;
+    }
     for i in 0..rows.len() {
         rows[i].weight = weight_of(&rows[i], shares);
-        short = short || rows[i].value < 0;
     }
-    short || shares.iter().any(|share| share.value < 0)
 }
 
 /// What a value is below 0, with 20 bits after the point.

@@ -44,7 +44,7 @@ fn move_values(rows: &mut [BasisRow], need: i128) {
 }
 
 /// The place of a demand's row of least denominator.
-fn row_of(rows: &[BasisRow], demand: usize) -> Option<usize> {
+pub(crate) fn row_of(rows: &[BasisRow], demand: usize) -> Option<usize> {
     let mut found = None;
     let mut least = i64::MAX;
     for i in 0..rows.len() {
@@ -66,7 +66,11 @@ fn take(nums: &mut [i64], other: &[i64], times: i64) {
 }
 
 /// The row of a demand's key, where it is a column of the block and one of the demand's rows isn't.
-fn key_row(alloc: Global, rows: &[BasisRow], share: &Share) -> Result<List<i64>, NoMemory> {
+pub(crate) fn key_row(
+    alloc: Global,
+    rows: &[BasisRow],
+    share: &Share,
+) -> Result<List<i64>, NoMemory> {
     let mut nums = List::filled(alloc, 0, rows.len())?;
     for row in rows {
         if row.column.demand() == Some(share.demand) {
@@ -78,7 +82,12 @@ fn key_row(alloc: Global, rows: &[BasisRow], share: &Share) -> Result<List<i64>,
 }
 
 /// Exchanges the path of a row and its demand's key.
-fn exchange(row: &mut BasisRow, keys: &mut [Path], nums: List<i64>, share: &Share) -> Option<()> {
+pub(crate) fn exchange(
+    row: &mut BasisRow,
+    keys: &mut [Path],
+    nums: List<i64>,
+    share: &Share,
+) -> Option<()> {
     let at = share.demand;
     if let Column::Carry(_, path) = &mut row.column {
         if at < keys.len() {

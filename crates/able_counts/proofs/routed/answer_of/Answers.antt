@@ -1,10 +1,9 @@
 use Rattle.std.proofs.Common.{subst}
 use Rattle.warm_routing.specs.WarmAnswers.{IsWarmAnswer}
-use Rattle.able_counts.proofs.Repairing.{boundary_found}
 use Rattle.able_counts.proofs.routed.answer_of.Goals as goal
 
 pub returns-in-Violated : goal.returns-in-Violated
-returns-in-Violated c g demands caps is = boundary_found g demands caps c.in-Violated.cut (subst (IsWarmAnswer g demands caps) c.in-Violated.is is)
+returns-in-Violated c g demands caps is = subst (IsWarmAnswer g demands caps) c.in-Violated.is is
 
 pub returns-in-Routed : goal.returns-in-Routed
 returns-in-Routed c g demands caps is = subst (IsWarmAnswer g demands caps) c.in-Routed.is is

@@ -1,0 +1,2 @@
+pub mod FoundCuts
+pub mod inner

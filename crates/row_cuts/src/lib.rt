@@ -1,0 +1,7 @@
+//! The cut of a row of a kept basis, where the row is priced and a state's capacities violate the cut.
+#![tactic(auto)]
+
+mod of_rows;
+mod violated;
+
+pub use of_rows::row_cut;

@@ -1,0 +1,53 @@
+ghost use Rattle.std.specs.Prelude.{◌<◌, IfOk, IfSome};
+ghost use Rattle.plan_terms.specs.Terms.{graph_of};
+ghost use Rattle.row_cuts.specs.FoundCuts.{IsFoundCutOf};
+
+use crate::basis::Basis;
+use crate::column::Column;
+use crate::row::BasisRow;
+use metric_cut::Cut;
+use net_core::{Copied, LinkId, List, NoMemory, RouteColumn, RouteTask};
+use row_cuts::row_cut;
+use row_prices::PathRow;
+use std::alloc::Global;
+
+/// A column as one of a routing program.
+fn route_column(column: &Column) -> Result<RouteColumn, NoMemory> {
+    match column {
+        Column::Slack(link) => {
+            let link = (*link).min(u32::MAX as usize) as u32;
+            Ok(RouteColumn::LinkSlack(LinkId(link)))
+        }
+        Column::Carry(demand, path) => {
+            let demand = (*demand).min(u32::MAX as usize) as u32;
+            Ok(RouteColumn::Carry(demand, path.copy()?))
+        }
+    }
+}
+
+/// A copy of the rows, without their values.
+fn path_rows(alloc: Global, rows: &[BasisRow]) -> Result<List<PathRow>, NoMemory> {
+    let mut copies = List::from_vec(Vec::with_capacity(alloc, rows.len())?);
+    for row in rows {
+        copies.push(PathRow {
+            column: route_column(&row.column)?,
+            nums: row.nums.copy()?,
+            den: row.den,
+        })?;
+    }
+    Ok(copies)
+}
+
+/// The cut of the row at a place of the basis, where it is priced and the capacities violate the cut.
+pub(crate) fn cut_at(
+    alloc: Global,
+    task: &RouteTask,
+    basis: &Basis,
+    at: usize,
+) -> Result<Option<Cut>, NoMemory>
+    requires scale { 0 < task.now.caps.now.scale }
+    ensures { IfOk result (λ o. IfSome o (IsFoundCutOf (graph_of task.now.graph) task.now.demands.now task.now.caps.now)) }
+{
+    let rows = path_rows(alloc, basis.rows.items())?;
+    row_cut(alloc, task, basis.keys.items(), rows.items(), at)
+}
