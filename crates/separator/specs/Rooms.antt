@@ -9,6 +9,6 @@ pub record IsRoomOver (caps roomy : Caps) : Type 0 where
   pub scale : 0 < roomy.scale
   pub at_least : (e : ℕ) → e < length caps.nums → slice_index caps.nums e * roomy.scale ≤ slice_index roomy.nums e * caps.scale
 
--- the sets grow at capacities with room over these, or at these
+-- where capacities come with the sets, they have room over these
 abbrev pub HasRoomOver : Caps → RoomySets → Type 0
 HasRoomOver caps sets = IfSome sets.room (IsRoomOver caps)
