@@ -22,6 +22,8 @@ mod node_sets;
 mod plan_swaps;
 mod proof_order;
 mod share_covers;
+mod row_cuts;
+mod row_prices;
 mod short_paths;
 mod simplex_core;
 mod table_maker;
@@ -62,6 +64,7 @@ mod metric_cut {
 
     
     pub use cut::{Cut, CutFault};
+    pub use keep::divisor_of_lengths;
     pub use openings::opening;
     pub use keep::divisor_of_lengths;
     pub use own_bounds::{fixed_along, own_bound};

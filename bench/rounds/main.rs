@@ -15,6 +15,8 @@ mod master_bound;
 mod module_prices;
 mod net_core;
 mod node_sets;
+mod row_cuts;
+mod row_prices;
 mod short_paths;
 mod simplex_core;
 mod warm_routing;
@@ -39,6 +41,7 @@ mod metric_cut {
     pub mod violation;
 
     pub use cut::{Cut, CutFault};
+    pub use keep::divisor_of_lengths;
     pub use openings::opening;
     pub use own_bounds::{fixed_along, own_bound};
     pub use violation::violated_by;

@@ -15,6 +15,8 @@ mod net_core;
 mod node_sets;
 mod plan_swaps;
 mod share_covers;
+mod row_cuts;
+mod row_prices;
 mod short_paths;
 mod simplex_core;
 mod trim_plan;
@@ -41,6 +43,7 @@ mod metric_cut {
 
     
     pub use cut::{Cut, CutFault};
+    pub use keep::divisor_of_lengths;
     pub use openings::opening;
     pub use own_bounds::{fixed_along, own_bound};
     pub use violation::violated_by;
