@@ -5,7 +5,8 @@ ghost use Rattle.share_covers.specs.inner.Decided.{decided};
 ghost use Rattle.share_covers.specs.inner.Widened.{widened};
 
 use crate::covers::{Installed, cover_share};
-use crate::routes::{InstalledRoutes, route_installed};
+use crate::routes::InstalledRoutes;
+use crate::shared_routes::route_covers;
 use module_choice::Fallback;
 use net_core::{Counts, Evidence, Instance, List, NoMemory, Routing};
 use plan_types::{Cause, Quality, Share};
@@ -74,7 +75,13 @@ fn decided(
 /// fallback plan are too wide in a state.
 ///
 /// On three parallel links of modules of 1.00 for 1.00 the fallback plan for a demand of 10.00 costs 20.00; for a share of 5000 units on
-/// each link the covers are chosen, five modules each for 15.00. It takes time and memory as `cover_share` and `route_installed` do.
+/// each link the covers are chosen, five modules each for 15.00.
+///
+/// Where the quality is tight, each state has the greedy routing within the covers if that carries all demands, else the share's: this fits as
+/// well, over a denominator that is the share's scale times as large, in lowest terms. It takes time and memory as `cover_share` does, as
+/// `greedy` of `greedy_router` for each state, and in the length of the share's routings. Where the quality is loose, where one of these
+/// denominators is 2^62 or more, or where such a routing has more flows than there are links and demands together, it takes time and memory
+/// as `route_installed` does beside that.
 pub fn choose(
     alloc: Global,
     instance: &Instance,
@@ -94,6 +101,6 @@ pub fn choose(
     if fallback.cost < installed.cost {
         return Ok(keep_fallback(fallback, quality));
     }
-    let answer = route_installed(alloc, instance, &installed.counts)?;
+    let answer = route_covers(alloc, instance, &quality, &installed.counts)?;
     Ok(decided(answer, installed, fallback, quality))
 }

@@ -15,6 +15,7 @@ mod covers;
 pub mod law;
 mod needs;
 mod routes;
+mod shared_routes;
 
 pub use choice::{Chosen, choose};
 pub use covers::{Installed, cover_share};
