@@ -12,11 +12,13 @@ mod key_paths;
 mod key_rows;
 mod length_master;
 mod master_bound;
+mod module_choice;
 mod module_prices;
 mod net_core;
 mod node_sets;
 mod row_cuts;
 mod row_prices;
+mod share_covers;
 mod short_paths;
 mod simplex_core;
 mod warm_routing;
@@ -70,7 +72,10 @@ use length_master::KeptMaster;
 use master_bound::{Best, master};
 use metric_cut::{Cut, opening};
 use module_prices::unit_pair;
-use net_core::{Caps, Copied, CutLine, Demand, Demands, Global, Instance, Link, List, Module, Network, NodeId, RouteTask, StateId, States};
+use net_core::{Caps, Copied, CutLine, Demand, Demands, Global, Instance, Link, List, Module, Network, NodeId, RouteTask, Routing, StateId, States};
+use plan_types::{Fractional, Quality, Share};
+use share_covers::shared_routes::route_covers;
+use share_covers::{InstalledRoutes, cover_share};
 use node_sets::{RoundSets, grown_set, round_set};
 use separator::roomy_sets::{NO_ROOM, set_in_state, sets_of_round};
 use separator::warm_start::KnownStates;
@@ -147,6 +152,27 @@ fn caps_of(net: &Network, best: &Best) -> Caps {
     Caps { scale: (share.scale as u128 / common) as u64, nums: List::from_vec(nums) }
 }
 
+/// Capacities in lowest terms.
+fn lowest(caps: Caps) -> Caps {
+    let common = caps.nums.items().iter().fold(caps.scale as u128, |d, n| gcd(d, *n));
+    let nums = caps.nums.items().iter().map(|n| n / common).collect::<std::vec::Vec<_>>();
+    Caps { scale: (caps.scale as u128 / common) as u64, nums: List::from_vec(nums) }
+}
+
+/// The time of modules that cover the share and of routings within them, in millionths of a second.
+fn covering(instance: &Instance, best: Best, caps: &Caps, routings: std::vec::Vec<(u32, Routing)>) -> i64 {
+    let begin = clock();
+    let installed = cover_share(Global, instance.net, &best.share).unwrap();
+    let mut routings = routings;
+    routings.sort_by_key(|(s, _)| *s);
+    let routings = List::from_vec(routings.into_iter().map(|(_, routing)| routing).collect::<std::vec::Vec<_>>());
+    let share = Share { units: List::new(Global), scale: caps.scale };
+    let quality = Quality::Tight(Fractional { share, routings });
+    let answer = route_covers(Global, instance, &quality, &installed.counts).unwrap();
+    assert!(matches!(answer, InstalledRoutes::Routed(_)));
+    clock() - begin
+}
+
 fn main() {
     let words: std::vec::Vec<String> = std::env::args().collect();
     let (net, demands) = read(&std::fs::read_to_string(&words[1]).unwrap());
@@ -162,18 +188,28 @@ fn main() {
     let mut basis = KeptMaster::new();
     let mut kept = KnownStates::new(Global);
     let (opening, mut rounds, mut bounding, mut separating) = (cuts.len(), 0, 0, 0);
-    let (mut first, mut tests, mut level) = (0, 0, 0);
+    let (mut first, mut tests, mut level, mut wide) = (0, 0, 0, 0);
     loop {
         let begin = clock();
         let answer = if way == "kept" || way == "room" { basis.best(Global, &net, &cuts) } else { master(Global, &net, &cuts) };
-        let Ok(best) = answer else { panic!("the master program is wide") };
         let found = clock();
-        let caps = caps_of(&net, &best);
+        let caps = match &answer {
+            Ok(best) => caps_of(&net, best),
+            Err(_) => {
+                wide += 1;
+                let found = basis.least_capacities(Global, &net, &cuts).unwrap();
+                lowest(found.expect("the master program is wide"))
+            }
+        };
+        let mut routings = vec![];
         let mut further = vec![];
         if way == "each" || rounds == 0 {
             for s in 0..states.count() {
                 tests += 1;
-                further.extend(cut_in(kept.separate_state(&instance, StateId(s), &caps).unwrap()));
+                match kept.separate_state(&instance, StateId(s), &caps).unwrap() {
+                    RouteAnswer::Routed(routing) => routings.push((s, routing)),
+                    answer => further.extend(cut_in(answer)),
+                }
             }
         } else {
             further = if way == "room" { roomy_sets_at(&instance, &caps, &mut level) } else { sets_at(&instance, &caps, way == "grown") };
@@ -181,7 +217,10 @@ fn main() {
                 for k in 0..states.count() {
                     let s = (first + k) % states.count();
                     tests += 1;
-                    further.extend(cut_in(kept.route_state(&instance, StateId(s), &caps).unwrap()));
+                    match kept.route_state(&instance, StateId(s), &caps).unwrap() {
+                        RouteAnswer::Routed(routing) => routings.push((s, routing)),
+                        answer => further.extend(cut_in(answer)),
+                    }
                     if !further.is_empty() {
                         first = s;
                         break;
@@ -193,13 +232,16 @@ fn main() {
         bounding += found - begin;
         separating += clock() - found;
         if further.is_empty() {
+            let Ok(best) = answer else { panic!("the last master program is wide") };
             let (raw, ms) = (format!("{}/{}", best.raw_num, best.raw_den), |t: i64| t as f64 / 1e3);
             let (nodes, links, count, bits) = (net.nodes.len(), net.links.len(), demands.len(), best.share.scale.ilog2() + 1);
+            let covering = covering(&instance, best, &caps, routings);
             println!(
-                "| {nodes} | {links} | {count} | {raw} | {rounds} | {} ({opening}) | {bits} | {tests} | {:.0} | {:.0} |",
+                "| {nodes} | {links} | {count} | {raw} | {rounds} | {} ({opening}) | {bits} | {tests} | {wide} | {:.0} | {:.0} | {:.0} |",
                 cuts.len(),
                 ms(bounding),
-                ms(separating)
+                ms(separating),
+                ms(covering)
             );
             return;
         }
