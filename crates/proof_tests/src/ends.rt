@@ -15,7 +15,13 @@ const ENDS: [(&[u8], u64); 8] = [
 
 /// The first text whose end isn't there.
 fn first_wrong() -> Option<usize> {
-    ENDS.iter().position(|(text, end)| report_end(text) != *end)
+    for i in 0..ENDS.len() {
+        let (text, end) = ENDS[i];
+        if report_end(text) != end {
+            return Some(i);
+        }
+    }
+    None
 }
 
 #[test]

@@ -1,6 +1,7 @@
 //! A tree over table lines, damaged line by line and number by number, with what comes of each damage, as it was worked out by hand.
+use crate::rows::worked;
 use crate::tables::Said::{Checked, Fault};
-use crate::texts::{changed, read, worked};
+use crate::texts::{changed, read};
 use crate::trees::answer_to;
 use net_core::Problem;
 use report_words::fault::ReportRefusal;
@@ -33,12 +34,13 @@ enum Said {
 /// The place of a line, what stands in its place, and what comes of it.
 type Damage = (usize, &'static [u8], Said);
 
-/// The tree as it stands; then each line left out; each doubled; and each number raised and lowered by one, or another kind of table.
+/// The tree as it stands, and each line left out.
 ///
+/// Here and below each line is also doubled, and each number raised and lowered by one, or another kind of table taken.
 /// A cut that isn't one takes away what stands over it. A table with a weight too few doesn't hold, nor does a failing one over a line that
 /// isn't robust. A length of 1 on AB too prices its modules at their cost. A divisor of 9999 leaves two modules in place of three. With the
 /// numerator 4999 the value is 14.999, and over the denominator 2 it is 12.500, which are 15.00 in whole modules.
-const ROWS: [Damage; 82] = [
+const LEFT_OUT: [Damage; 11] = [
     (10, b"", Checked(Accepted)),
     (0, b"", Fault(23, "limit")),
     (1, b"", Fault(46, "limit")),
@@ -50,6 +52,10 @@ const ROWS: [Damage; 82] = [
     (7, b"", Checked(Rejected(2))),
     (8, b"", Checked(Rejected(2))),
     (9, b"", Fault(186, "ended")),
+];
+
+/// Each line doubled.
+const DOUBLED: [Damage; 10] = [
     (
         0,
         b"# box-cut 0 0 12000 0 1 1\n# box-cut 0 0 12000 0 1 1\n",
@@ -88,6 +94,10 @@ const ROWS: [Damage; 82] = [
         Checked(Rejected(3)),
     ),
     (9, b"# above 15.000\n# above 15.000\n", Fault(203, "limit")),
+];
+
+/// The numbers of the cuts.
+const CUTS: [Damage; 19] = [
     (0, b"# box-cut 1 0 12000 0 1 1\n", Fault(23, "limit")),
     (0, b"# box-cut 0 1 12000 0 1 1\n", Checked(Rejected(2))),
     (0, b"# box-cut 0 0 12001 0 1 1\n", Checked(Rejected(2))),
@@ -107,6 +117,10 @@ const ROWS: [Damage; 82] = [
     (1, b"# box-cut 1 1 12000 0 1 1\n", Checked(Rejected(1))),
     (1, b"# box-cut 1 1 12000 0 0 2\n", Checked(Rejected(1))),
     (1, b"# box-cut 1 1 12000 0 0 0\n", Checked(Rejected(1))),
+];
+
+/// The numbers of the divided lines.
+const LINES: [Damage; 15] = [
     (2, b"# line 3 10000 1 0\n", Fault(72, "limit")),
     (2, b"# line 1 10000 1 0\n", Fault(72, "limit")),
     (2, b"# line 2 10001 1 0\n", Checked(Accepted)),
@@ -122,6 +136,10 @@ const ROWS: [Damage; 82] = [
     (3, b"# line 3 5000 0 1\n", Checked(Rejected(1))),
     (3, b"# line 3 5000 1 2\n", Checked(Rejected(1))),
     (3, b"# line 3 5000 1 0\n", Checked(Rejected(1))),
+];
+
+/// The numbers of the table lines, and another kind.
+const TABLES: [Damage; 14] = [
     (4, b"# table 5 2 failing 1\n", Fault(110, "limit")),
     (4, b"# table 3 2 failing 1\n", Fault(110, "limit")),
     (4, b"# table 4 3 failing 1\n", Checked(Rejected(2))),
@@ -136,6 +154,10 @@ const ROWS: [Damage; 82] = [
     (5, b"# table 5 3 plain 2\n", Checked(Accepted)),
     (5, b"# table 5 3 plain 0\n", Checked(Rejected(1))),
     (5, b"# table 5 3 failing 1\n", Checked(Rejected(1))),
+];
+
+/// The numbers of the nodes, and of what the tree shows.
+const NODES: [Damage; 13] = [
     (6, b"# split AC 1 1\n", Checked(Rejected(0))),
     (6, b"# split AC 0 2\n", Checked(Rejected(1))),
     (6, b"# split AC 0 0\n", Checked(Accepted)),
@@ -166,16 +188,56 @@ fn is_said(alloc: Global, p: &Problem, row: &Damage) -> bool {
     }
 }
 
+/// The first row of which something else comes on the triangle.
+fn first_unsaid(alloc: Global, p: &Problem, rows: &[Damage]) -> Option<usize> {
+    for i in 0..rows.len() {
+        if !is_said(alloc, p, &rows[i]) {
+            return Some(i);
+        }
+    }
+    None
+}
+
 /// The first row of which something else comes.
-fn first_wrong(alloc: Global) -> Option<usize> {
-    match worked(alloc) {
-        None => Some(ROWS.len()),
-        Some(p) => ROWS.iter().position(|row| !is_said(alloc, &p, row)),
+fn first_wrong(alloc: Global, rows: &[Damage]) -> Option<usize> {
+    match worked(alloc, 0) {
+        None => Some(rows.len()),
+        Some(p) => first_unsaid(alloc, &p, rows),
     }
 }
 
 #[test]
+fn lines_left_out_are_found(rt: HostRuntime) {
+    let wrong = first_wrong(rt.alloc(), &LEFT_OUT);
+    assert!(rt; wrong.is_none(), "row {}", wrong.unwrap_or(0));
+}
+
+#[test]
+fn doubled_lines_are_found(rt: HostRuntime) {
+    let wrong = first_wrong(rt.alloc(), &DOUBLED);
+    assert!(rt; wrong.is_none(), "row {}", wrong.unwrap_or(0));
+}
+
+#[test]
+fn damaged_cuts_are_found(rt: HostRuntime) {
+    let wrong = first_wrong(rt.alloc(), &CUTS);
+    assert!(rt; wrong.is_none(), "row {}", wrong.unwrap_or(0));
+}
+
+#[test]
+fn damaged_lines_are_found(rt: HostRuntime) {
+    let wrong = first_wrong(rt.alloc(), &LINES);
+    assert!(rt; wrong.is_none(), "row {}", wrong.unwrap_or(0));
+}
+
+#[test]
 fn damaged_tables_are_found(rt: HostRuntime) {
-    let wrong = first_wrong(rt.alloc());
+    let wrong = first_wrong(rt.alloc(), &TABLES);
+    assert!(rt; wrong.is_none(), "row {}", wrong.unwrap_or(0));
+}
+
+#[test]
+fn damaged_nodes_are_found(rt: HostRuntime) {
+    let wrong = first_wrong(rt.alloc(), &NODES);
     assert!(rt; wrong.is_none(), "row {}", wrong.unwrap_or(0));
 }

@@ -2,7 +2,6 @@ use net_core::{Bytes, List, NoMemory, Problem};
 use proof_reader::{ReadTree, read_tree};
 use report_words::fault::ReportRefusal;
 use std::alloc::Global;
-use worked_networks::{problem, triangle};
 
 /// What a report ends with, before its tree.
 const REPORT: &[u8] = b"OUTCOMES ( )\n";
@@ -41,11 +40,6 @@ pub(crate) const LINED_TREE: [&[u8]; 8] = [
     b"# spent 2 1 0 2 1\n",
     b"# above 25.000\n",
 ];
-
-/// The triangle of links AB, BC and AC with modules of 10.00 for 5.00, a demand of 12.00 from A to C, and the failure of each link alone.
-pub(crate) fn worked(alloc: Global) -> Option<Problem> {
-    problem(alloc, triangle(alloc, 0).ok()?, &[(0, 2, 12000)]).ok()
-}
 
 /// A tree's lines below the end of a report, with others in the place of one.
 pub(crate) fn changed(

@@ -1,7 +1,8 @@
 //! What trees say that were read, and what a check of trees says of them.
-use crate::texts::{LINED_TREE, TREE, changed, read, worked};
+use crate::rows::worked;
+use crate::texts::{LINED_TREE, TREE, changed, read};
+use crate::tree_rows::{answer_of, plan_of};
 use net_core::{CutLine, Evidence, List, Problem, WideKind};
-use plan_types::{Cause, Certificate, Plan, Quality};
 use proof_reader::ReadTree;
 use std::alloc::Global;
 use tree_check::TreeAnswer::{Accepted, Rejected};
@@ -157,24 +158,44 @@ fn is_node(node: &Node, row: &NodeRow) -> bool {
     }
 }
 
+/// Whether cuts are told, in their order.
+fn are_cuts(cuts: &[CutLine], rows: &[CutRow]) -> bool {
+    for i in 0..rows.len() {
+        match cuts.get(i) {
+            Some(cut) if is_cut(cut, &rows[i]) => {}
+            _ => return false,
+        }
+    }
+    cuts.len() == rows.len()
+}
+
+/// Whether further lines are told, in their order.
+fn are_lines(lines: &[Line], rows: &[LineRow]) -> bool {
+    for i in 0..rows.len() {
+        match lines.get(i) {
+            Some(line) if is_line(line, &rows[i]) => {}
+            _ => return false,
+        }
+    }
+    lines.len() == rows.len()
+}
+
+/// Whether nodes are told, in their order.
+fn are_nodes(nodes: &[Node], rows: &[NodeRow]) -> bool {
+    for i in 0..rows.len() {
+        match nodes.get(i) {
+            Some(node) if is_node(node, &rows[i]) => {}
+            _ => return false,
+        }
+    }
+    nodes.len() == rows.len()
+}
+
 /// Whether a tree says what a row does.
 fn is_said(tree: &ReadTree, row: &TreeRow) -> bool {
-    let (cuts, lines, nodes) = (tree.cuts.items(), tree.lines.items(), tree.tree.items());
-    cuts.len() == row.cuts.len()
-        && cuts
-            .iter()
-            .zip(row.cuts)
-            .all(|(cut, told)| is_cut(cut, told))
-        && lines.len() == row.lines.len()
-        && lines
-            .iter()
-            .zip(row.lines)
-            .all(|(line, told)| is_line(line, told))
-        && nodes.len() == row.nodes.len()
-        && nodes
-            .iter()
-            .zip(row.nodes)
-            .all(|(node, told)| is_node(node, told))
+    are_cuts(tree.cuts.items(), row.cuts)
+        && are_lines(tree.lines.items(), row.lines)
+        && are_nodes(tree.tree.items(), row.nodes)
         && tree.verdict == row.verdict
 }
 
@@ -190,50 +211,37 @@ fn tree_of(
     read(alloc, p, text.items()).ok()
 }
 
-/// Whether these lines are read as a row says.
-fn says(alloc: Global, lines: &[&[u8]], row: &TreeRow) -> bool {
-    match worked(alloc) {
-        Some(p) => match tree_of(alloc, &p, lines, lines.len(), b"") {
-            Some(tree) => is_said(&tree, row),
-            None => false,
-        },
+/// Whether these lines are read on the triangle as a row says.
+fn says_on(alloc: Global, p: &Problem, lines: &[&[u8]], row: &TreeRow) -> bool {
+    match tree_of(alloc, p, lines, lines.len(), b"") {
+        Some(tree) => is_said(&tree, row),
         None => false,
     }
 }
 
-/// A plan that costs 30.00, and nothing else.
-fn plan(alloc: Global) -> Plan {
-    Plan {
-        version: 0,
-        position: 0,
-        demands: List::new(alloc),
-        counts: List::new(alloc),
-        cost: 30000,
-        routings: List::new(alloc),
-        certificate: Certificate {
-            den: 1,
-            lines: List::new(alloc),
-        },
-        raw_num: 0,
-        raw_den: 1,
-        bound: 0,
-        quality: Quality::Loose(Cause::Cuts),
+/// Whether these lines are read as a row says.
+fn says(alloc: Global, lines: &[&[u8]], row: &TreeRow) -> bool {
+    match worked(alloc, 0) {
+        Some(p) => says_on(alloc, &p, lines, row),
+        None => false,
+    }
+}
+
+/// A plan that costs 30.00, with a tree.
+fn proof_of(alloc: Global, tree: ReadTree) -> Proof {
+    Proof {
+        plan: plan_of(alloc, 30000),
+        cuts: tree.cuts,
+        lines: tree.lines,
+        tree: tree.tree,
+        verdict: tree.verdict,
     }
 }
 
 /// What a check says of a tree of such a plan.
 pub(crate) fn answer_to(alloc: Global, p: &Problem, tree: ReadTree) -> Option<TreeAnswer> {
-    let proof = Proof {
-        plan: plan(alloc),
-        cuts: tree.cuts,
-        lines: tree.lines,
-        tree: tree.tree,
-        verdict: tree.verdict,
-    };
-    if proof.tree.len() >= 1000 {
-        return None;
-    }
-    Some(check_tree(alloc, &p.net, &p.states, &p.demands, &proof))
+    let proof = proof_of(alloc, tree);
+    answer_of(alloc, p, &proof)
 }
 
 /// Whether a check says this of the triangle's tree, with others in the place of one line.
@@ -244,13 +252,22 @@ fn is_checked(alloc: Global, p: &Problem, place: usize, by: &[u8], answer: TreeA
     }
 }
 
+/// The first row of which a check says something else on the triangle.
+fn first_unlike(alloc: Global, p: &Problem) -> Option<usize> {
+    for i in 0..CHECKED.len() {
+        let (place, by, answer) = CHECKED[i];
+        if !is_checked(alloc, p, place, by, answer) {
+            return Some(i);
+        }
+    }
+    None
+}
+
 /// The first row of which a check says something else.
 fn first_wrong(alloc: Global) -> Option<usize> {
-    match worked(alloc) {
+    match worked(alloc, 0) {
         None => Some(CHECKED.len()),
-        Some(p) => CHECKED.iter().position(|(place, by, answer)| !is_checked(
-            alloc, &p, *place, by, *answer,
-        )),
+        Some(p) => first_unlike(alloc, &p),
     }
 }
 

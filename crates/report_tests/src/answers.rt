@@ -1,3 +1,4 @@
+use crate::texts::joined;
 use net_core::{Bytes, Copied, Link, List, Network, Notes, Places, Problem};
 use plan_checker::{CheckAnswer, Finding, check_plan};
 use plan_types::Outcome;
@@ -81,10 +82,7 @@ pub(crate) type Change = (&'static str, &'static str, u32, Finding);
 /// The text with one part in place of another, from where that stands first.
 fn replaced(alloc: Global, text: &str, part: &str, by: &str) -> Option<Bytes> {
     let (front, rest) = text.split_once(part)?;
-    let mut changed = List::from_slice(alloc, front.as_bytes()).ok()?;
-    changed.append(by.as_bytes()).ok()?;
-    changed.append(rest.as_bytes()).ok()?;
-    Some(changed)
+    joined(alloc, front.as_bytes(), by.as_bytes(), rest.as_bytes())
 }
 
 /// What a check says of a report with one part in place of another.

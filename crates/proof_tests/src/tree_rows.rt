@@ -1,10 +1,8 @@
-use net_core::{
-    Caps, CutLine, Evidence, LinkId, List, NoMemory, Problem, RouteColumn, StateId, WideKind,
-};
+use crate::rows::{CutRow, cuts, terms, worked};
+use net_core::{Caps, Evidence, LinkId, List, NoMemory, Problem, RouteColumn, StateId, WideKind};
 use plan_types::{Cause, Certificate, Plan, Quality};
 use std::alloc::Global;
-use tree_check::{BoxCert, Line, Multiplier, Node, Proof, TreeAnswer, Verdict, check_tree};
-use worked_networks::{problem, triangle};
+use tree_check::{BoxCert, Line, Node, Proof, TreeAnswer, Verdict, check_tree};
 
 /// Lines of a certificate: indices of cuts with their numerators.
 pub(crate) type LineRow = (u32, u64);
@@ -20,9 +18,6 @@ pub(crate) enum NodeRow {
     Stuck(u128, u32, &'static [u128]),
 }
 
-/// A cut: its state, its lengths and its right side.
-pub(crate) type CutRow = (u32, &'static [u32], u128);
-
 /// A divided line: its divisor, and indices of earlier lines with their numerators.
 pub(crate) type DividedRow = (u128, &'static [LineRow]);
 
@@ -36,21 +31,10 @@ pub(crate) struct Named<'a> {
 /// A tree with its verdict, and what a check says of it.
 pub(crate) type TreeRow = (&'static [NodeRow], Verdict, TreeAnswer);
 
-fn multipliers(alloc: Global, rows: &[LineRow]) -> Result<List<Multiplier>, NoMemory> {
-    let mut lines = List::new(alloc);
-    for (cut, num) in rows {
-        lines.push(Multiplier {
-            cut: *cut,
-            num: *num,
-        })?;
-    }
-    Ok(lines)
-}
-
 fn certificate(alloc: Global, den: u128, rows: &[LineRow]) -> Result<BoxCert, NoMemory> {
     Ok(BoxCert {
         den,
-        lines: multipliers(alloc, rows)?,
+        lines: terms(alloc, rows)?,
     })
 }
 
@@ -89,39 +73,26 @@ fn node(alloc: Global, row: &NodeRow) -> Result<Node, NoMemory> {
     }
 }
 
-fn nodes(alloc: Global, rows: &[NodeRow]) -> Result<List<Node>, NoMemory> {
-    let mut tree = List::new(alloc);
+fn put_nodes(alloc: Global, tree: &mut List<Node>, rows: &[NodeRow]) -> Result<(), NoMemory> {
     for row in rows {
         tree.push(node(alloc, row)?)?;
     }
-    Ok(tree)
-}
-
-fn cuts(alloc: Global, rows: &[CutRow]) -> Result<List<CutLine>, NoMemory> {
-    let mut cuts = List::new(alloc);
-    for (state, lengths, right) in rows {
-        cuts.push(CutLine {
-            state: StateId(*state),
-            lengths: List::from_slice(alloc, lengths)?,
-            right: *right,
-        })?;
-    }
-    Ok(cuts)
+    Ok(())
 }
 
 fn divided(alloc: Global, rows: &[DividedRow]) -> Result<List<Line>, NoMemory> {
     let mut lines = List::new(alloc);
-    for (divisor, terms) in rows {
+    for (divisor, rows) in rows {
         lines.push(Line::Divided {
             divisor: *divisor,
-            terms: multipliers(alloc, terms)?,
+            terms: terms(alloc, rows)?,
         })?;
     }
     Ok(lines)
 }
 
 /// A plan of this cost and nothing else.
-fn plan_of(alloc: Global, cost: u128) -> Plan {
+pub(crate) fn plan_of(alloc: Global, cost: u128) -> Plan {
     Plan {
         version: 0,
         position: 0,
@@ -140,30 +111,53 @@ fn plan_of(alloc: Global, cost: u128) -> Plan {
     }
 }
 
-/// The triangle of links with modules of 10.00 for 5.00, a demand of 12.00 from A to C, and the failure of each link alone.
-fn worked(alloc: Global) -> Option<Problem> {
-    problem(alloc, triangle(alloc, 0).ok()?, &[(0, 2, 12000)]).ok()
+/// A plan of this cost, and an empty tree with this verdict.
+fn empty_proof(alloc: Global, cost: u128, verdict: Verdict) -> Proof {
+    Proof {
+        plan: plan_of(alloc, cost),
+        cuts: List::new(alloc),
+        lines: List::new(alloc),
+        tree: List::new(alloc),
+        verdict,
+    }
 }
 
-fn proof(alloc: Global, cost: u128, named: &Named, row: &TreeRow) -> Result<Proof, NoMemory> {
-    Ok(Proof {
-        plan: plan_of(alloc, cost),
-        cuts: cuts(alloc, named.cuts)?,
-        lines: divided(alloc, named.lines)?,
-        tree: nodes(alloc, row.0)?,
-        verdict: row.1,
-    })
+/// Puts cuts, lines and nodes into an empty tree.
+fn fill(alloc: Global, made: &mut Proof, named: &Named, rows: &[NodeRow]) -> Result<(), NoMemory> {
+    made.cuts = cuts(alloc, named.cuts)?;
+    made.lines = divided(alloc, named.lines)?;
+    put_nodes(alloc, &mut made.tree, rows)
+}
+
+/// What a check says of a plan with a tree; nothing where the tree has a thousand nodes or more.
+pub(crate) fn answer_of(alloc: Global, p: &Problem, proof: &Proof) -> Option<TreeAnswer> {
+    if proof.tree.len() < 1000 {
+        Some(check_tree(alloc, &p.net, &p.states, &p.demands, proof))
+    } else {
+        None
+    }
 }
 
 /// Whether a check says this of a tree on the triangle.
 fn is_answered(alloc: Global, p: &Problem, cost: u128, named: &Named, row: &TreeRow) -> bool {
-    match proof(alloc, cost, named, row) {
-        Ok(made) => {
-            made.tree.len() < 1000
-                && check_tree(alloc, &p.net, &p.states, &p.demands, &made) == row.2
+    let mut made = empty_proof(alloc, cost, row.1);
+    fill(alloc, &mut made, named, row.0).is_ok() && answer_of(alloc, p, &made) == Some(row.2)
+}
+
+/// The first tree of which a check doesn't say on the triangle what its row does.
+fn first_unlike(
+    alloc: Global,
+    p: &Problem,
+    cost: u128,
+    named: &Named,
+    rows: &[TreeRow],
+) -> Option<usize> {
+    for i in 0..rows.len() {
+        if !is_answered(alloc, p, cost, named, &rows[i]) {
+            return Some(i);
         }
-        Err(_) => false,
     }
+    None
 }
 
 /// The first tree of which a check doesn't say what its row does.
@@ -173,10 +167,8 @@ pub(crate) fn first_wrong(
     named: &Named,
     rows: &[TreeRow],
 ) -> Option<usize> {
-    match worked(alloc) {
+    match worked(alloc, 0) {
         None => Some(rows.len()),
-        Some(p) => rows
-            .iter()
-            .position(|row| !is_answered(alloc, &p, cost, named, row)),
+        Some(p) => first_unlike(alloc, &p, cost, named, rows),
     }
 }

@@ -1,5 +1,6 @@
-use crate::rows::NodeRow::Closed;
-use crate::rows::{CutRow, DividedRow, Named, TreeRow, first_wrong};
+use crate::rows::CutRow;
+use crate::tree_rows::NodeRow::Closed;
+use crate::tree_rows::{DividedRow, Named, TreeRow, first_wrong};
 use std::alloc::Global;
 use tree_check::TreeAnswer::{Accepted, Rejected};
 use tree_check::Verdict::Cheapest;
@@ -35,7 +36,7 @@ const KEPT: [&[DividedRow]; 4] = [
 
 /// Lines of which one is left out, doubled, moved, or changed in one number. A link that counts twice in line 6 is priced above its cost,
 /// fewer than six modules in all cost less than 30.00, and a line over itself or a later one is none.
-const BROKEN: [&[DividedRow]; 17] = [
+const BROKEN: [&[DividedRow]; 10] = [
     &[AB, BC, ALL],
     &[AC, AB, BC],
     &[AC, AC, AB, BC, ALL],
@@ -46,6 +47,10 @@ const BROKEN: [&[DividedRow]; 17] = [
     &[(10000, &[(0, 0)]), AB, BC, ALL],
     &[(10000, &[(0, 2)]), AB, BC, ALL],
     &[(10000, &[(1, 1)]), AB, BC, ALL],
+];
+
+/// The same of the line over all three.
+const BROKEN_SUMS: [&[DividedRow]; 7] = [
     &[AC, AB, BC, (0, &[(3, 1), (4, 1), (5, 1)])],
     &[AC, AB, BC, (2, &[(3, 1), (4, 1), (5, 1)])],
     &[AC, AB, BC, (1, &[(3, 0), (4, 1), (5, 1)])],
@@ -71,6 +76,13 @@ fn changed_lines_prove_what_they_still_say(rt: HostRuntime) {
 #[test]
 fn damaged_lines_are_found(rt: HostRuntime) {
     for lines in &BROKEN {
+        assert!(rt; is_said(rt.alloc(), lines, &DAMAGED));
+    }
+}
+
+#[test]
+fn damaged_sums_are_found(rt: HostRuntime) {
+    for lines in &BROKEN_SUMS {
         assert!(rt; is_said(rt.alloc(), lines, &DAMAGED));
     }
 }

@@ -1,7 +1,7 @@
 use crate::rows::LineRow::{Divided, Failing, Plain};
 use crate::rows::{CutRow, LineRow, instance_of, tested, worked};
 use line_check::{Inequality, Tested};
-use net_core::{List, Module, Problem};
+use net_core::{Instance, List, Module, Problem};
 use std::alloc::Global;
 use worked_networks::{DemandRow, LinkRow, network, problem};
 
@@ -227,14 +227,28 @@ fn able_codes(alloc: Global, tried: Tried) -> Option<List<u64>> {
     Some(codes)
 }
 
-/// Whether some counts don't meet some line that holds.
-fn is_some_unmet(codes: &[u64], all: &[Tested]) -> bool {
-    for t in all {
-        if t.sound && codes.iter().any(|code| !are_met(&t.line, *code)) {
-            return true;
+/// Whether all these counts meet a line.
+fn are_all_met(line: &Inequality, codes: &[u64]) -> bool {
+    for code in codes {
+        if !are_met(line, *code) {
+            return false;
         }
     }
-    false
+    true
+}
+
+/// How many lines hold; none where some counts don't meet one of them.
+fn number_of_held(all: &[Tested], codes: &[u64]) -> Option<usize> {
+    let mut held = 0usize;
+    for t in all {
+        if t.sound {
+            if !are_all_met(&t.line, codes) {
+                return None;
+            }
+            held = held.saturating_add(1);
+        }
+    }
+    Some(held)
 }
 
 pub(crate) fn problem_of(alloc: Global, tried: Tried) -> Option<Problem> {
@@ -251,20 +265,37 @@ pub(crate) fn problem_of(alloc: Global, tried: Tried) -> Option<Problem> {
     }
 }
 
+/// How many lines of one divisor hold; none where some counts don't meet one of them.
+fn number_held_of(
+    alloc: Global,
+    instance: &Instance,
+    codes: &[u64],
+    cuts: &[CutRow],
+    divisor: u128,
+) -> Option<usize> {
+    let all = tested(alloc, instance, cuts, &lines_over(divisor))?;
+    number_of_held(all.items(), codes)
+}
+
+/// How many lines of all divisors hold; none where some counts don't meet one of them.
+fn number_held_by(
+    alloc: Global,
+    instance: &Instance,
+    codes: &[u64],
+    cuts: &[CutRow],
+) -> Option<usize> {
+    let mut held = 0usize;
+    for divisor in &DIVISORS {
+        held = held.saturating_add(number_held_of(alloc, instance, codes, cuts, *divisor)?);
+    }
+    Some(held)
+}
+
 /// How many lines hold, of all divisors; none where some able counts don't meet one of them.
 fn number_held(alloc: Global, tried: Tried, cuts: &[CutRow]) -> Option<usize> {
     let p = problem_of(alloc, tried)?;
     let codes = able_codes(alloc, tried)?;
-    let mut held = 0usize;
-    for divisor in &DIVISORS {
-        let all = tested(alloc, &instance_of(&p), cuts, &lines_over(*divisor))?;
-        if is_some_unmet(codes.items(), all.items()) {
-            return None;
-        }
-        let sound = all.items().iter().filter(|t| t.sound).count();
-        held = held.saturating_add(sound);
-    }
-    Some(held)
+    number_held_by(alloc, &instance_of(&p), codes.items(), cuts)
 }
 
 #[test]

@@ -1,4 +1,4 @@
-use net_core::{LinkId, List};
+use net_core::LinkId;
 use plan_view::{LinkRow, LoadRow, StateRow};
 
 /// The capacity of a link, its load without failures, its greatest load, the state of that, the use there in per cent, and its cost.
@@ -32,32 +32,40 @@ fn is_state_row(at: usize, row: &StateRow, want: &StateWant) -> bool {
         && row.part == want.4
 }
 
-/// Whether all rows are as wanted.
-pub(crate) fn are_link_rows(rows: &List<LinkRow>, wants: &[LinkWant]) -> bool {
-    rows.len() == wants.len()
-        && rows
-            .items()
-            .iter()
-            .zip(wants.iter())
-            .enumerate()
-            .all(|(at, (row, want))| is_link_row(at, row, want))
+/// Whether the row is that of the link at this place, with the load and the use that are wanted.
+fn is_load_row(at: usize, row: &LoadRow, want: &LoadWant) -> bool {
+    row.link.0 as usize == at && row.load == want.0 && row.used == want.1
 }
 
 /// Whether all rows are as wanted.
-pub(crate) fn are_state_rows(rows: &List<StateRow>, wants: &[StateWant]) -> bool {
+pub(crate) fn are_link_rows(rows: &[LinkRow], wants: &[LinkWant]) -> bool {
+    for at in 0..wants.len() {
+        match rows.get(at) {
+            Some(row) if is_link_row(at, row, &wants[at]) => {}
+            _ => return false,
+        }
+    }
     rows.len() == wants.len()
-        && rows
-            .items()
-            .iter()
-            .zip(wants.iter())
-            .enumerate()
-            .all(|(at, (row, want))| is_state_row(at, row, want))
 }
 
 /// Whether all rows are as wanted.
-pub(crate) fn are_load_rows(rows: &List<LoadRow>, wants: &[LoadWant]) -> bool {
+pub(crate) fn are_state_rows(rows: &[StateRow], wants: &[StateWant]) -> bool {
+    for at in 0..wants.len() {
+        match rows.get(at) {
+            Some(row) if is_state_row(at, row, &wants[at]) => {}
+            _ => return false,
+        }
+    }
     rows.len() == wants.len()
-        && rows.items().iter().zip(wants.iter()).enumerate().all(|(at, (row, want))| {
-            row.link.0 as usize == at && row.load == want.0 && row.used == want.1
-        })
+}
+
+/// Whether all rows are as wanted.
+pub(crate) fn are_load_rows(rows: &[LoadRow], wants: &[LoadWant]) -> bool {
+    for at in 0..wants.len() {
+        match rows.get(at) {
+            Some(row) if is_load_row(at, row, &wants[at]) => {}
+            _ => return false,
+        }
+    }
+    rows.len() == wants.len()
 }

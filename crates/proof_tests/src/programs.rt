@@ -1,7 +1,7 @@
 //! Tests of the program of a box, against optima that were worked out by hand.
 use box_program::{Lines, Solution, common_unit, solved};
 use line_check::{Inequality, Tested};
-use net_core::{List, Module, NoMemory};
+use net_core::{Link, List, Module, NoMemory};
 use std::alloc::Global;
 use tree_check::{Boxed, Span};
 use worked_networks::{LinkRow, network};
@@ -95,18 +95,31 @@ fn told(solution: &Solution) -> Found {
     )
 }
 
+/// What is found of a program of these lines in a box, where the plan costs 100.000.
+fn found_in(alloc: Global, links: &[Link], tested: &[Tested], boxed: &Boxed) -> Option<Found> {
+    let lines = Lines {
+        tested,
+        first: 0,
+        unit: common_unit(tested),
+    };
+    match solved(alloc, links, 100_000, lines, boxed) {
+        Ok(Some(solution)) => Some(told(&solution)),
+        Ok(None) => None,
+        Err(NoMemory) => None,
+    }
+}
+
+/// What is found of a program over these links.
+fn found_on(alloc: Global, links: &[Link], asked: &Asked) -> Option<Found> {
+    let boxed: Boxed = nested(alloc, asked.0).ok()?;
+    let tested = lines(alloc, asked.1).ok()?;
+    found_in(alloc, links, tested.items(), &boxed)
+}
+
 /// What is found of a program, where the plan costs 100.000.
 fn found(alloc: Global, asked: &Asked) -> Option<Found> {
     let net = network(alloc, 2, &LINK).ok()?;
-    let boxed: Boxed = nested(alloc, asked.0).ok()?;
-    let tested = lines(alloc, asked.1).ok()?;
-    let lines = Lines {
-        tested: tested.items(),
-        first: 0,
-        unit: common_unit(tested.items()),
-    };
-    let solution = solved(alloc, net.links().items(), 100_000, lines, &boxed).ok()?;
-    Some(told(&solution?))
+    found_on(alloc, net.links().items(), asked)
 }
 
 #[test]

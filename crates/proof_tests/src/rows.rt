@@ -1,5 +1,5 @@
 use line_check::tested::tested_lines;
-use line_check::{Line, Multiplier, TableKind, Tested};
+use line_check::{Inequality, Line, Multiplier, TableKind, Tested};
 use net_core::{CutLine, Instance, List, NoMemory, Problem, StateId};
 use std::alloc::Global;
 use worked_networks::{problem, triangle};
@@ -17,8 +17,8 @@ pub(crate) enum LineRow {
     Failing(u32, &'static [u32]),
 }
 
-/// What is expected of a line: the coefficients of links of one module each, and the right side; none where it doesn't hold.
-pub(crate) type Expected = Option<(&'static [u128], u128)>;
+/// What is expected of a line: the coefficients of three links of one module each, and the right side; none where it doesn't hold.
+pub(crate) type Expected = Option<([u128; 3], u128)>;
 
 pub(crate) fn cuts(alloc: Global, rows: &[CutRow]) -> Result<List<CutLine>, NoMemory> {
     let mut cuts = List::new(alloc);
@@ -32,7 +32,8 @@ pub(crate) fn cuts(alloc: Global, rows: &[CutRow]) -> Result<List<CutLine>, NoMe
     Ok(cuts)
 }
 
-fn terms(alloc: Global, rows: &[(u32, u64)]) -> Result<List<Multiplier>, NoMemory> {
+/// Terms of a line: indices of earlier ones with their numerators.
+pub(crate) fn terms(alloc: Global, rows: &[(u32, u64)]) -> Result<List<Multiplier>, NoMemory> {
     let mut terms = List::new(alloc);
     for (cut, num) in rows {
         terms.push(Multiplier {
@@ -84,6 +85,17 @@ pub(crate) fn instance_of(p: &Problem) -> Instance {
     }
 }
 
+/// Lines, tested after cuts.
+fn tested_after(
+    alloc: Global,
+    instance: &Instance,
+    cut_rows: &[CutRow],
+    lines: &[Line],
+) -> Option<List<Tested>> {
+    let cuts = cuts(alloc, cut_rows).ok()?;
+    tested_lines(alloc, instance, cuts.items(), lines).ok()
+}
+
 /// Cuts and lines, tested.
 pub(crate) fn tested(
     alloc: Global,
@@ -91,9 +103,8 @@ pub(crate) fn tested(
     cut_rows: &[CutRow],
     line_rows: &[LineRow],
 ) -> Option<List<Tested>> {
-    let cuts = cuts(alloc, cut_rows).ok()?;
     let lines = lines(alloc, line_rows).ok()?;
-    tested_lines(alloc, instance, cuts.items(), lines.items()).ok()
+    tested_after(alloc, instance, cut_rows, lines.items())
 }
 
 /// Whether the coefficients of links of one module each are these.
@@ -109,17 +120,48 @@ fn are_coefs(found: &[List<u128>], coefs: &[u128]) -> bool {
     true
 }
 
+/// Whether an inequality has these coefficients and this right side, and nothing is given.
+fn is_inequality(line: &Inequality, wanted: &([u128; 3], u128)) -> bool {
+    line.given == 0 && line.right == wanted.1 && are_coefs(line.coefs.items(), wanted.0.as_slice())
+}
+
 /// Whether a line is as expected.
 fn is_expected(tested: &Tested, expected: &Expected) -> bool {
     match expected {
         None => !tested.sound,
-        Some((coefs, right)) => {
-            tested.sound
-                && tested.line.given == 0
-                && tested.line.right == *right
-                && are_coefs(tested.line.coefs.items(), coefs)
+        Some(wanted) => tested.sound && is_inequality(&tested.line, wanted),
+    }
+}
+
+/// The lines of rows that expect something of them.
+fn lines_of(alloc: Global, rows: &[(LineRow, Expected)]) -> Result<List<Line>, NoMemory> {
+    let mut lines = List::new(alloc);
+    for (row, _) in rows {
+        lines.push(line(alloc, row)?)?;
+    }
+    Ok(lines)
+}
+
+/// The same lines, tested after cuts.
+fn tested_of(
+    alloc: Global,
+    instance: &Instance,
+    cut_rows: &[CutRow],
+    rows: &[(LineRow, Expected)],
+) -> Option<List<Tested>> {
+    let lines = lines_of(alloc, rows).ok()?;
+    tested_after(alloc, instance, cut_rows, lines.items())
+}
+
+/// The first row whose line, so many places after the first one, isn't as expected.
+fn first_unlike(all: &[Tested], first: usize, rows: &[(LineRow, Expected)]) -> Option<usize> {
+    for i in 0..rows.len() {
+        match all.get(first.saturating_add(i)) {
+            Some(tested) if is_expected(tested, &rows[i].1) => {}
+            _ => return Some(i),
         }
     }
+    None
 }
 
 /// The first line that isn't as expected, where each comes after the cuts and all lines before it.
@@ -132,18 +174,8 @@ pub(crate) fn first_wrong(
     let Some(p) = worked(alloc, fixed) else {
         return Some(rows.len());
     };
-    let mut line_rows: Vec<LineRow> = Vec::new(alloc);
-    for (row, _) in rows {
-        if line_rows.push(*row).is_err() {
-            return Some(rows.len());
-        }
+    match tested_of(alloc, &instance_of(&p), cut_rows, rows) {
+        Some(all) => first_unlike(all.items(), cut_rows.len(), rows),
+        None => Some(rows.len()),
     }
-    let Some(all) = tested(alloc, &instance_of(&p), cut_rows, &line_rows) else {
-        return Some(rows.len());
-    };
-    let first = cut_rows.len();
-    (0..rows.len()).find(|i| {
-        let at = first + *i;
-        at >= all.len() || !is_expected(&all.items()[at], &rows[*i].1)
-    })
 }

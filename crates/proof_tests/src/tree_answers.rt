@@ -1,5 +1,6 @@
-use crate::rows::NodeRow::{Closed, Empty, Spent, Split, Stuck};
-use crate::rows::{CutRow, DividedRow, Named, TreeRow, first_wrong};
+use crate::rows::CutRow;
+use crate::tree_rows::NodeRow::{Closed, Empty, Spent, Split, Stuck};
+use crate::tree_rows::{DividedRow, Named, TreeRow, first_wrong};
 use tree_check::TreeAnswer::{Accepted, Rejected};
 use tree_check::Verdict::{Above, Cheapest};
 
@@ -16,7 +17,7 @@ const CUTS: [CutRow; 6] = [
 
 /// Two modules on each link cost 30.00. Fewer on AC leave A apart from C where AB fails, and fewer on AB where AC fails; of BC a half
 /// and a tenth of a module remain, so that the last box has the value 26.00, which is 30.00 in whole modules.
-const ROWS: [TreeRow; 27] = [
+const ROWS: [TreeRow; 14] = [
     (
         &[
             Split(2, 0, 1),
@@ -137,6 +138,10 @@ const ROWS: [TreeRow; 27] = [
         Cheapest,
         Rejected(4),
     ),
+];
+
+/// Further trees on the triangle.
+const FURTHER_ROWS: [TreeRow; 13] = [
     (
         &[
             Split(2, 0, 1),
@@ -248,6 +253,16 @@ fn trees_are_answered(rt: HostRuntime) {
         lines: &[],
     };
     let wrong = first_wrong(rt.alloc(), 30000, &named, &ROWS);
+    assert!(rt; wrong.is_none(), "row {}", wrong.unwrap_or(0));
+}
+
+#[test]
+fn further_trees_are_answered(rt: HostRuntime) {
+    let named = Named {
+        cuts: &CUTS,
+        lines: &[],
+    };
+    let wrong = first_wrong(rt.alloc(), 30000, &named, &FURTHER_ROWS);
     assert!(rt; wrong.is_none(), "row {}", wrong.unwrap_or(0));
 }
 

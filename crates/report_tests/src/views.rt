@@ -226,9 +226,9 @@ fn are_seen(alloc: Global, instance: &Instance, plan: &Plan, worked: &Worked) ->
     let loads = load_rows(alloc, instance, plan, 1).ok()?;
     let whole = plan_summary(alloc, instance, plan).ok()?;
     Some(
-        are_link_rows(&links, &worked.links)
-            && are_state_rows(&states, worked.states)
-            && are_load_rows(&loads, &worked.loads)
+        are_link_rows(links.items(), &worked.links)
+            && are_state_rows(states.items(), worked.states)
+            && are_load_rows(loads.items(), &worked.loads)
             && whole == worked.whole,
     )
 }
@@ -244,19 +244,20 @@ fn is_seen(alloc: Global, instance: &Instance, plan: &Plan, worked: &Worked) -> 
     }
 }
 
+/// Whether what people read of a row's plan for an instance is as wanted.
+fn is_right_for(alloc: Global, instance: &Instance, worked: &Worked) -> Option<bool> {
+    let text = worked.report.as_bytes();
+    let report = read_report(alloc, instance.net, instance.states, text).ok()?;
+    match report.outcomes.items().first()? {
+        Outcome::Planned { plan, .. } => is_seen(alloc, instance, plan, worked),
+        Outcome::Unsurvivable { .. } => None,
+    }
+}
+
 /// Whether what people read of a row's plan is as wanted.
 fn is_right(alloc: Global, worked: &Worked) -> Option<bool> {
     let p = problem_of(alloc, worked)?;
-    let report = read_report(alloc, &p.net, &p.states, worked.report.as_bytes()).ok()?;
-    let instance = Instance {
-        net: &p.net,
-        states: &p.states,
-        demands: &p.demands,
-    };
-    match report.outcomes.items().first()? {
-        Outcome::Planned { plan, .. } => is_seen(alloc, &instance, plan, worked),
-        Outcome::Unsurvivable { .. } => None,
-    }
+    is_right_for(alloc, &p.instance(), worked)
 }
 
 /// How many rows are right, up to the first that isn't.

@@ -2,7 +2,7 @@ use crate::able::{PARALLEL_CUTS, TRIANGLE_CUTS, Tried, problem_of};
 use crate::rows::LineRow::{Divided, Failing, Plain};
 use crate::rows::{CutRow, LineRow, cuts, instance_of, tested};
 use line_check::{Line, Multiplier, TableKind, Tested};
-use net_core::{CutLine, List};
+use net_core::{CutLine, Instance, List};
 use std::alloc::Global;
 use table_maker::{Part, TableTask, narrow_lines, set_cuts, table_lines};
 
@@ -42,22 +42,33 @@ const SETS: [SetsRow; 6] = [
     ),
 ];
 
+/// Whether a cut is that of a row.
+fn is_cut(found: &CutLine, row: &CutRow) -> bool {
+    found.state.0 == row.0 && found.lengths.items() == row.1 && found.right == row.2
+}
+
 /// Whether cuts are those of rows, in this order.
 fn are_cuts(found: &[CutLine], rows: &[CutRow]) -> bool {
+    for i in 0..rows.len() {
+        match found.get(i) {
+            Some(cut) if is_cut(cut, &rows[i]) => {}
+            _ => return false,
+        }
+    }
     found.len() == rows.len()
-        && (0..found.len()).all(|i| {
-            found[i].state.0 == rows[i].0
-                && found[i].lengths.items() == rows[i].1
-                && found[i].right == rows[i].2
-        })
+}
+
+/// Whether the further cuts of a row are found on a network; none where memory is out.
+fn are_sets_found_on(alloc: Global, instance: &Instance, row: &SetsRow) -> Option<bool> {
+    let known = cuts(alloc, row.0).ok()?;
+    let found = set_cuts(alloc, instance, known.items()).ok()?;
+    Some(are_cuts(found.items(), row.1))
 }
 
 /// Whether the further cuts of a row are found; none where memory is out.
 fn are_sets_found(alloc: Global, row: &SetsRow) -> Option<bool> {
     let p = problem_of(alloc, Tried::Triangle)?;
-    let known = cuts(alloc, row.0).ok()?;
-    let found = set_cuts(alloc, &instance_of(&p), known.items()).ok()?;
-    Some(are_cuts(found.items(), row.1))
+    are_sets_found_on(alloc, &instance_of(&p), row)
 }
 
 /// A network with cuts and lines over them.
@@ -136,8 +147,17 @@ const NARROW: [NarrowRow; 4] = [
 /// What a point has of modules, by link and place, over a denominator.
 type PointRow = (&'static [(usize, usize, u128)], u128);
 
+/// What a table line is made of.
+#[derive(Clone, Copy)]
+enum Place {
+    Triangle,
+    AtC,
+    WhereBcFails,
+    ThreeLinks,
+}
+
 /// Table lines over what is given: the point, the greatest weight, how many at most, and those that are made.
-type TableRow = (&'static Given, PointRow, u32, usize, &'static [LineRow]);
+type TableRow = (Place, PointRow, u32, usize, &'static [LineRow]);
 
 /// 0.6 of a module on BC and on AC.
 const LITTLE: PointRow = (&[(1, 0, 6), (2, 0, 6)], 10);
@@ -150,74 +170,90 @@ const LITTLE: PointRow = (&[(1, 0, 6), (2, 0, 6)], 10);
 ///
 /// Over the three links the kinds cost 5000 and 9000. Covers cost 14000 at least by one of each kind, and where a largest one has failed
 /// 20000, by four small ones: in parts of 20 the weights are 8 and 13, and 5 and 9, over which four small ones weigh 20.
-const TABLES: [TableRow; 18] = [
-    (&AT_C, LITTLE, 20, 9, &[Failing(1, &[7]), Plain(1, &[10])]),
-    (&AT_C, LITTLE, 20, 1, &[Failing(1, &[7])]),
-    (&AT_C, LITTLE, 20, 0, &[]),
+const TABLES_AT_C: [TableRow; 12] = [
     (
-        &AT_C,
+        Place::AtC,
+        LITTLE,
+        20,
+        9,
+        &[Failing(1, &[7]), Plain(1, &[10])],
+    ),
+    (Place::AtC, LITTLE, 20, 1, &[Failing(1, &[7])]),
+    (Place::AtC, LITTLE, 20, 0, &[]),
+    (
+        Place::AtC,
         (&[(1, 0, 1), (2, 0, 1)], 1),
         20,
         9,
         &[Failing(1, &[7])],
     ),
     (
-        &AT_C,
+        Place::AtC,
         (&[(1, 0, 20), (2, 0, 9)], 10),
         20,
         9,
         &[Failing(1, &[7])],
     ),
-    (&AT_C, (&[(2, 0, 299999)], 100000), 20, 9, &[]),
-    (&AT_C, (&[(1, 0, 1), (2, 0, 2)], 1), 20, 9, &[]),
+    (Place::AtC, (&[(2, 0, 299999)], 100000), 20, 9, &[]),
+    (Place::AtC, (&[(1, 0, 1), (2, 0, 2)], 1), 20, 9, &[]),
     (
-        &AT_C,
+        Place::AtC,
         (&[(0, 0, 9), (2, 1, 9), (3, 0, 9), (1, 0, 1), (2, 0, 1)], 1),
         20,
         9,
         &[Failing(1, &[7])],
     ),
-    (&AT_C, (&[], 0), 20, 9, &[]),
-    (&AT_C, LITTLE, 0, 9, &[]),
-    (&AT_C, LITTLE, 1, 9, &[Failing(1, &[1]), Plain(1, &[1])]),
+    (Place::AtC, (&[], 0), 20, 9, &[]),
+    (Place::AtC, LITTLE, 0, 9, &[]),
     (
-        &AT_C,
+        Place::AtC,
+        LITTLE,
+        1,
+        9,
+        &[Failing(1, &[1]), Plain(1, &[1])],
+    ),
+    (
+        Place::AtC,
         LITTLE,
         4294967295,
         9,
         &[Failing(1, &[1431655765]), Plain(1, &[2147483648])],
     ),
+];
+
+/// The same of the other networks.
+const OTHER_TABLES: [TableRow; 6] = [
     (
-        &WHERE_BC_FAILS,
+        Place::WhereBcFails,
         (&[(2, 0, 1)], 1),
         20,
         9,
         &[Plain(1, &[10])],
     ),
-    (&TRIANGLE, LITTLE, 20, 9, &[]),
+    (Place::Triangle, LITTLE, 20, 9, &[]),
     (
-        &THREE_LINKS,
+        Place::ThreeLinks,
         (&[], 1),
         20,
         9,
         &[Plain(1, &[8, 13]), Failing(1, &[5, 9])],
     ),
     (
-        &THREE_LINKS,
+        Place::ThreeLinks,
         (&[(0, 1, 1), (1, 1, 1)], 1),
         20,
         9,
         &[Failing(1, &[5, 9])],
     ),
     (
-        &THREE_LINKS,
+        Place::ThreeLinks,
         (&[(0, 1, 1)], 1),
         14,
         9,
         &[Failing(1, &[4, 7]), Plain(1, &[5, 9])],
     ),
     (
-        &THREE_LINKS,
+        Place::ThreeLinks,
         (&[(0, 1, 1), (1, 1, 1), (2, 0, 1)], 1),
         20,
         9,
@@ -227,8 +263,13 @@ const TABLES: [TableRow; 18] = [
 
 /// Whether a line has terms.
 fn are_terms(found: &[Multiplier], terms: &[(u32, u64)]) -> bool {
+    for i in 0..terms.len() {
+        match found.get(i) {
+            Some(term) if (term.cut, term.num) == terms[i] => {}
+            _ => return false,
+        }
+    }
     found.len() == terms.len()
-        && (0..found.len()).all(|i| found[i].cut == terms[i].0 && found[i].num == terms[i].1)
 }
 
 /// Whether a line is a table line of these.
@@ -262,16 +303,37 @@ fn is_line(line: &Line, row: &LineRow) -> bool {
 
 /// Whether lines are those of rows, in this order.
 fn are_lines(found: &[Line], rows: &[LineRow]) -> bool {
-    found.len() == rows.len() && (0..found.len()).all(|i| is_line(&found[i], &rows[i]))
+    for i in 0..rows.len() {
+        match found.get(i) {
+            Some(line) if is_line(line, &rows[i]) => {}
+            _ => return false,
+        }
+    }
+    found.len() == rows.len()
+}
+
+/// Whether these narrow lines are made of lines; none where memory is out.
+fn are_narrow_of(
+    alloc: Global,
+    instance: &Instance,
+    all: &[Tested],
+    made: &[LineRow],
+) -> Option<bool> {
+    let found = narrow_lines(alloc, instance, all).ok()?;
+    Some(are_lines(found.items(), made))
+}
+
+/// Whether a row's narrow lines are made on a network; none where memory is out.
+fn are_narrow_on(alloc: Global, instance: &Instance, row: &NarrowRow) -> Option<bool> {
+    let (given, made) = row;
+    let all = tested(alloc, instance, given.cuts, given.lines)?;
+    are_narrow_of(alloc, instance, all.items(), made)
 }
 
 /// Whether a row's narrow lines are made; none where memory is out.
 fn are_narrow_made(alloc: Global, row: &NarrowRow) -> Option<bool> {
-    let (given, made) = row;
-    let p = problem_of(alloc, given.tried)?;
-    let all = tested(alloc, &instance_of(&p), given.cuts, given.lines)?;
-    let found = narrow_lines(alloc, &instance_of(&p), all.items()).ok()?;
-    Some(are_lines(found.items(), made))
+    let p = problem_of(alloc, row.0.tried)?;
+    are_narrow_on(alloc, &instance_of(&p), row)
 }
 
 fn parts(alloc: Global, rows: &[(usize, usize, u128)]) -> Option<List<Part>> {
@@ -287,21 +349,62 @@ fn parts(alloc: Global, rows: &[(usize, usize, u128)]) -> Option<List<Part>> {
     Some(point)
 }
 
-/// Whether a row's table lines are made; none where memory is out.
-fn are_tables_made(alloc: Global, row: &TableRow) -> Option<bool> {
-    let (given, (point, den), most_weight, most, made) = row;
-    let p = problem_of(alloc, given.tried)?;
-    let all = tested(alloc, &instance_of(&p), given.cuts, given.lines)?;
-    let point = parts(alloc, point)?;
+/// Whether a row's table lines are made of lines at a point; none where memory is out.
+fn are_tables_at(
+    alloc: Global,
+    instance: &Instance,
+    all: &[Tested],
+    point: &[Part],
+    row: &TableRow,
+) -> Option<bool> {
+    let (_, (_, den), most_weight, most, made) = row;
     let task = TableTask {
-        instance: &instance_of(&p),
-        tested: all.items(),
-        point: point.items(),
+        instance,
+        tested: all,
+        point,
         den: *den,
         most_weight: *most_weight,
     };
     let found = table_lines(alloc, &task, *most).ok()?;
     Some(are_lines(found.items(), made))
+}
+
+/// Whether a row's table lines are made of lines; none where memory is out.
+fn are_tables_of(
+    alloc: Global,
+    instance: &Instance,
+    all: &[Tested],
+    row: &TableRow,
+) -> Option<bool> {
+    let point = parts(alloc, row.1.0)?;
+    are_tables_at(alloc, instance, all, point.items(), row)
+}
+
+/// Whether a row's table lines are made on a network; none where memory is out.
+fn are_tables_on(
+    alloc: Global,
+    instance: &Instance,
+    given: &Given,
+    row: &TableRow,
+) -> Option<bool> {
+    let all = tested(alloc, instance, given.cuts, given.lines)?;
+    are_tables_of(alloc, instance, all.items(), row)
+}
+
+/// Whether a row's table lines are made of what is given; none where memory is out.
+fn are_tables_over(alloc: Global, given: &Given, row: &TableRow) -> Option<bool> {
+    let p = problem_of(alloc, given.tried)?;
+    are_tables_on(alloc, &instance_of(&p), given, row)
+}
+
+/// Whether a row's table lines are made; none where memory is out.
+fn are_tables_made(alloc: Global, row: &TableRow) -> Option<bool> {
+    match row.0 {
+        Place::Triangle => are_tables_over(alloc, &TRIANGLE, row),
+        Place::AtC => are_tables_over(alloc, &AT_C, row),
+        Place::WhereBcFails => are_tables_over(alloc, &WHERE_BC_FAILS, row),
+        Place::ThreeLinks => are_tables_over(alloc, &THREE_LINKS, row),
+    }
 }
 
 /// The first row whose further cuts aren't found.
@@ -320,18 +423,40 @@ fn cuts_of_node_sets_are_found(rt: HostRuntime) {
     assert!(rt; wrong.is_none(), "row {}", wrong.unwrap_or(0));
 }
 
+/// The first row whose narrow lines aren't made.
+fn first_narrow_missed(alloc: Global, rows: &[NarrowRow]) -> Option<usize> {
+    for i in 0..rows.len() {
+        if are_narrow_made(alloc, &rows[i]) != Some(true) {
+            return Some(i);
+        }
+    }
+    None
+}
+
 #[test]
 fn narrow_lines_are_made(rt: HostRuntime) {
-    let wrong = NARROW
-        .iter()
-        .position(|row| are_narrow_made(rt.alloc(), row) != Some(true));
+    let wrong = first_narrow_missed(rt.alloc(), &NARROW);
     assert!(rt; wrong.is_none(), "row {}", wrong.unwrap_or(0));
+}
+
+/// The first row whose table lines aren't made.
+fn first_table_missed(alloc: Global, rows: &[TableRow]) -> Option<usize> {
+    for i in 0..rows.len() {
+        if are_tables_made(alloc, &rows[i]) != Some(true) {
+            return Some(i);
+        }
+    }
+    None
 }
 
 #[test]
 fn table_lines_are_made(rt: HostRuntime) {
-    let wrong = TABLES
-        .iter()
-        .position(|row| are_tables_made(rt.alloc(), row) != Some(true));
+    let wrong = first_table_missed(rt.alloc(), &TABLES_AT_C);
+    assert!(rt; wrong.is_none(), "row {}", wrong.unwrap_or(0));
+}
+
+#[test]
+fn table_lines_are_made_of_other_lines(rt: HostRuntime) {
+    let wrong = first_table_missed(rt.alloc(), &OTHER_TABLES);
     assert!(rt; wrong.is_none(), "row {}", wrong.unwrap_or(0));
 }
