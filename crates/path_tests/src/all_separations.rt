@@ -1,4 +1,5 @@
-use net_core::{Bytes, List};
+use failure_states::Separation;
+use net_core::{Bytes, Instance, List};
 use separation_texts::{put_separations, separations};
 use std::alloc::Global;
 use worked_networks::{DemandRow, LinkRow, TEN, network, problem};
@@ -41,15 +42,24 @@ const SEPARATIONS: [SeparationRow; 3] = [
     ),
 ];
 
+/// The lines of these separations.
+fn text_of(alloc: Global, instance: &Instance, found: &[Separation]) -> Option<Bytes> {
+    let mut text: Bytes = List::new(alloc);
+    put_separations(&mut text, instance, found).ok()?;
+    Some(text)
+}
+
+/// The lines of all separations of an instance.
+fn lines_of(alloc: Global, instance: &Instance) -> Option<Bytes> {
+    let found = separations(alloc, instance).ok()?;
+    text_of(alloc, instance, found.items())
+}
+
 /// The lines of all separations of a row.
 fn lines(alloc: Global, row: &SeparationRow) -> Option<Bytes> {
     let net = network(alloc, row.0, row.1).ok()?;
     let problem = problem(alloc, net, row.2).ok()?;
-    let instance = problem.instance();
-    let found = separations(alloc, &instance).ok()?;
-    let mut text: Bytes = List::new(alloc);
-    put_separations(&mut text, &instance, found.items()).ok()?;
-    Some(text)
+    lines_of(alloc, &problem.instance())
 }
 
 /// Whether the lines of a row are as wanted.

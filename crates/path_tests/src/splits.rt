@@ -17,16 +17,27 @@ const EIGHT: [LinkRow; 6] = [
     (4, 0, 0, &TEN),
 ];
 
-/// Nodes and links.
-type NetRow = (usize, &'static [LinkRow<'static>]);
+/// A network whose arcs are split.
+#[derive(Clone, Copy)]
+enum Shape {
+    /// Three nodes, each two of them joined.
+    Three,
+    /// Two nodes with parallel links.
+    Pair,
+    /// A ring of four nodes with a chord.
+    Square,
+    /// Two triangles.
+    Both,
+}
 
-const THREE: NetRow = (3, &TRIANGLE);
-
-const PAIR: NetRow = (2, &PARALLEL);
-
-const SQUARE: NetRow = (4, &RING);
-
-const BOTH: NetRow = (5, &EIGHT);
+fn network_of(alloc: Global, shape: Shape) -> Option<Network> {
+    match shape {
+        Shape::Three => network(alloc, 3, &TRIANGLE).ok(),
+        Shape::Pair => network(alloc, 2, &PARALLEL).ok(),
+        Shape::Square => network(alloc, 4, &RING).ok(),
+        Shape::Both => network(alloc, 5, &EIGHT).ok(),
+    }
+}
 
 /// An arc: its link, the node that it leaves, and its flow.
 type ArcRow = (u32, u32, u64);
@@ -35,42 +46,47 @@ type ArcRow = (u32, u32, u64);
 type NeedRow = (u32, u32, u64);
 
 /// A network, a need, balanced arcs, and the most that paths may send over each link: exactly that, where paths sum to it.
-type SplitRow = (NetRow, NeedRow, &'static [ArcRow], &'static [u64]);
+type SplitRow = (Shape, NeedRow, &'static [ArcRow], &'static [u64]);
 
 const SPLITS: [SplitRow; 12] = [
-    (THREE, (0, 2, 12000), &[(2, 0, 12000)], &[0, 0, 12000]),
-    (THREE, (0, 2, 0), &[], &[0, 0, 0]),
     (
-        THREE,
+        Shape::Three,
+        (0, 2, 12000),
+        &[(2, 0, 12000)],
+        &[0, 0, 12000],
+    ),
+    (Shape::Three, (0, 2, 0), &[], &[0, 0, 0]),
+    (
+        Shape::Three,
         (0, 2, 0),
         &[(0, 0, 3), (1, 1, 3), (2, 2, 3)],
         &[0, 0, 0],
     ),
-    (THREE, (0, 2, 5), &[(0, 0, 5), (1, 1, 5)], &[5, 5, 0]),
-    (THREE, (2, 0, 5), &[(0, 1, 5), (1, 2, 5)], &[5, 5, 0]),
-    (THREE, (0, 2, 5), &[(2, 0, 9), (2, 2, 4)], &[0, 0, 5]),
-    (THREE, (0, 2, 7), &[(2, 0, 3), (2, 0, 4)], &[0, 0, 7]),
-    (THREE, (0, 1, 2), &[(0, 0, 5), (0, 1, 3)], &[2, 0, 0]),
+    (Shape::Three, (0, 2, 5), &[(0, 0, 5), (1, 1, 5)], &[5, 5, 0]),
+    (Shape::Three, (2, 0, 5), &[(0, 1, 5), (1, 2, 5)], &[5, 5, 0]),
+    (Shape::Three, (0, 2, 5), &[(2, 0, 9), (2, 2, 4)], &[0, 0, 5]),
+    (Shape::Three, (0, 2, 7), &[(2, 0, 3), (2, 0, 4)], &[0, 0, 7]),
+    (Shape::Three, (0, 1, 2), &[(0, 0, 5), (0, 1, 3)], &[2, 0, 0]),
     (
-        THREE,
+        Shape::Three,
         (0, 2, 12000),
         &[(2, 0, 12000), (0, 0, 3000), (1, 1, 3000), (2, 2, 3000)],
         &[3000, 3000, 15000],
     ),
     (
-        PAIR,
+        Shape::Pair,
         (0, 1, 2),
         &[(0, 0, 1), (1, 0, 2), (2, 1, 1)],
         &[1, 2, 1, 0],
     ),
     (
-        SQUARE,
+        Shape::Square,
         (0, 3, 9),
         &[(0, 0, 4), (1, 1, 4), (4, 0, 2), (3, 0, 3), (2, 2, 3)],
         &[4, 4, 3, 3, 2],
     ),
     (
-        BOTH,
+        Shape::Both,
         (1, 3, 2),
         &[
             (0, 0, 3),
@@ -186,36 +202,46 @@ fn are_flows(flows: &[PathFlow], row: &SplitRow) -> bool {
     within && are_all(flows, row.1.2) && flows.len() <= row.2.len()
 }
 
-fn are_split(alloc: Global, row: &SplitRow) -> bool {
-    let Ok(net) = network(alloc, row.0.0, row.0.1) else {
-        return false;
-    };
+/// Whether the arcs of a row are split on a network as it says.
+fn are_split_on(alloc: Global, net: &Network, row: &SplitRow) -> bool {
     let Some(arcs) = arcs_of(alloc, row.2) else {
         return false;
     };
-    match split_of(alloc, &net, &row.1, &arcs) {
+    match split_of(alloc, net, &row.1, &arcs) {
         Some(Ok(flows)) => are_flows(flows.items(), row),
         _ => false,
     }
 }
 
-fn are_refused(alloc: Global, row: &UnevenRow) -> bool {
-    let Ok(net) = network(alloc, 3, &TRIANGLE) else {
-        return false;
-    };
+fn are_split(alloc: Global, row: &SplitRow) -> bool {
+    match network_of(alloc, row.0) {
+        Some(net) => are_split_on(alloc, &net, row),
+        None => false,
+    }
+}
+
+/// Whether the arcs of a row are refused on a network as it says.
+fn are_refused_on(alloc: Global, net: &Network, row: &UnevenRow) -> bool {
     let Some(arcs) = arcs_of(alloc, row.1) else {
         return false;
     };
-    match split_of(alloc, &net, &row.0, &arcs) {
+    match split_of(alloc, net, &row.0, &arcs) {
         Some(Err(SplitFault::Unbalanced(node))) => node.0 == row.2,
         _ => false,
     }
 }
 
+fn are_refused(alloc: Global, row: &UnevenRow) -> bool {
+    match network(alloc, 3, &TRIANGLE) {
+        Ok(net) => are_refused_on(alloc, &net, row),
+        Err(_) => false,
+    }
+}
+
 /// The first row whose arcs don't split.
 fn first_unsplit(alloc: Global, rows: &[SplitRow]) -> Option<usize> {
-    for (i, row) in rows.iter().enumerate() {
-        if !are_split(alloc, row) {
+    for i in 0..rows.len() {
+        if !are_split(alloc, &rows[i]) {
             return Some(i);
         }
     }
@@ -224,8 +250,8 @@ fn first_unsplit(alloc: Global, rows: &[SplitRow]) -> Option<usize> {
 
 /// The first row whose arcs aren't refused.
 fn first_unrefused(alloc: Global, rows: &[UnevenRow]) -> Option<usize> {
-    for (i, row) in rows.iter().enumerate() {
-        if !are_refused(alloc, row) {
+    for i in 0..rows.len() {
+        if !are_refused(alloc, &rows[i]) {
             return Some(i);
         }
     }
