@@ -53,15 +53,20 @@ fn put_link_lines(text: &mut Bytes) -> Option<()> {
     Some(())
 }
 
-/// A network of a ring of nodes, of which each two neighbours have two links between them.
-fn network_text(alloc: Global) -> Option<Bytes> {
-    let mut text = List::new(alloc);
+/// Puts a network of a ring of nodes last, of which each two neighbours have two links between them.
+fn put_network(text: &mut Bytes) -> Option<()> {
     text.append(b"?SNDlib native format; type: network; version: 1.0\nNODES (")
         .ok()?;
-    put_nodes(&mut text)?;
+    put_nodes(text)?;
     text.append(b" ) LINKS (").ok()?;
-    put_link_lines(&mut text)?;
-    text.append(b" ) DEMANDS ( )\n").ok()?;
+    put_link_lines(text)?;
+    text.append(b" ) DEMANDS ( )\n").ok()
+}
+
+/// That network.
+fn network_text(alloc: Global) -> Option<Bytes> {
+    let mut text = List::new(alloc);
+    put_network(&mut text)?;
     Some(text)
 }
 
@@ -112,18 +117,23 @@ fn put_routings(text: &mut Bytes) -> Option<()> {
     Some(())
 }
 
-/// A report of a plan of 3000.00 from the first node to the second, with the most words on each link.
-fn report_text(alloc: Global) -> Option<Bytes> {
-    let mut text = List::new(alloc);
+/// Puts a report of a plan of 3000.00 last, from the first node to the second, with the most words on each link.
+fn put_report(text: &mut Bytes) -> Option<()> {
     text.append(
         b"?planner report; version: 1\nNOTES ( ) JOURNAL ( ) POOL ( ) OUTCOMES ( PLAN ( caller 1 plan 1 version 0 position 0
 DEMANDS ( A ( node_of_the_ring_100 node_of_the_ring_101 ) 3000.000 ) cost 154859520.000 bound 0.000 raw 0 1 MODULES (",
     )
     .ok()?;
-    put_modules(&mut text)?;
+    put_modules(text)?;
     text.append(b" ) CERTIFICATE ( 1 ) ROUTES (").ok()?;
-    put_routings(&mut text)?;
-    text.append(b" ) loose cuts ) )\n").ok()?;
+    put_routings(text)?;
+    text.append(b" ) loose cuts ) )\n").ok()
+}
+
+/// That report.
+fn report_text(alloc: Global) -> Option<Bytes> {
+    let mut text = List::new(alloc);
+    put_report(&mut text)?;
     Some(text)
 }
 

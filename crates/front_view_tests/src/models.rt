@@ -1,7 +1,7 @@
 use crate::runs::Row;
 
 /// Parts of the model, others in their place, and the messages.
-pub(crate) const MODELS: [Row; 22] = [
+pub(crate) const MODELS: [Row; 11] = [
     (
         b"?SNDlib native format; type: model; version: 1.0",
         b"?SNDlib native format; type: network; version: 1.0",
@@ -113,6 +113,10 @@ refused model unsupported-LINK_MODEL at 88
 refused model unsupported-LINK_CAPACITY_MODEL at 121
 ",
     ),
+];
+
+/// The same of further aspects.
+pub(crate) const OTHER_MODELS: [Row; 11] = [
     (
         b"\nLINK_CAPACITY_MODEL = MODULAR_CAPACITIES\n",
         b"\n",

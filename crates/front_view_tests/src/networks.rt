@@ -1,7 +1,7 @@
 use crate::runs::Row;
 
-/// Parts of the network, others in their place, and the messages: first lines, sections, cut files, numbers, names and limits.
-pub(crate) const NETWORKS: [Row; 47] = [
+/// Parts of the network, others in their place, and the messages: its first line.
+pub(crate) const FIRST_LINES: [Row; 9] = [
     (
         b"?SNDlib native format; type: network; version: 1.0",
         b"?SNDlib native format; type: network; version: 2.0",
@@ -107,6 +107,10 @@ refused network header at 0
 refused network header at 0
 ",
     ),
+];
+
+/// The same of sections, cut files, and words and parentheses.
+pub(crate) const SECTIONS: [Row; 14] = [
     (
         b"NODES ( Aachen Berlin Celle )\n",
         b"",
@@ -262,6 +266,10 @@ refused network token at 94
 refused network token at 103
 ",
     ),
+];
+
+/// The same of numbers.
+pub(crate) const NUMBERS: [Row; 10] = [
     (
         b"1 12.00",
         b"1 12,00",
@@ -372,6 +380,10 @@ refused network number-large at 263
 refused network number-large at 269
 ",
     ),
+];
+
+/// The same of names, ends and limits.
+pub(crate) const NAMES: [Row; 14] = [
     (
         b"AB ( Aachen Berlin )",
         b"AB ( Aachen Berlni )",
@@ -556,8 +568,11 @@ refused network limit-total at 1054
     ),
 ];
 
+/// A whole file, and its message.
+pub(crate) type WholeRow = (&'static [u8], &'static [u8]);
+
 /// Whole files in place of the network, with their messages.
-pub(crate) const WHOLE: [(&[u8], &[u8]); 5] = [
+pub(crate) const WHOLE: [WholeRow; 5] = [
     (
         b"",
         b"net:1:1: this is no network\n    \n    ^\n  the file ends here\n  the first line of a network is: ?SNDlib native format; type: network; version: 1.0\nrefused network header at 0\n",

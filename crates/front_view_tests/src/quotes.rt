@@ -25,7 +25,7 @@ const QUOTES: [QuoteRow; 11] = [
 ];
 
 /// Puts bytes so many times.
-fn put_many(text: &mut Bytes, bytes: &[u8], count: usize) -> Result<(), NoMemory> {
+pub(crate) fn put_many(text: &mut Bytes, bytes: &[u8], count: usize) -> Result<(), NoMemory> {
     for _put in 0..count {
         text.append(bytes)?;
     }

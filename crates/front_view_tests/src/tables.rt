@@ -54,13 +54,24 @@ fn table(alloc: Global, rows: &List<Row>) -> Result<Bytes, NoMemory> {
     Ok(text)
 }
 
+/// Puts rows of these cells last.
+fn put_rows(alloc: Global, rows: &mut List<Row>, cells: &[(&[u8], &[u8])]) -> Result<(), NoMemory> {
+    for pair in cells {
+        rows.push(row_of(alloc, *pair)?)?;
+    }
+    Ok(())
+}
+
+/// The table of these cells.
+fn table_of(alloc: Global, cells: &[(&[u8], &[u8])]) -> Result<Bytes, NoMemory> {
+    let mut rows = List::new(alloc);
+    put_rows(alloc, &mut rows, cells)?;
+    table(alloc, &rows)
+}
+
 /// Whether the small table is as wanted.
 fn is_table(alloc: Global) -> Result<bool, NoMemory> {
-    let mut rows = List::new(alloc);
-    for i in 0..CELLS.len() {
-        rows.push(row_of(alloc, CELLS[i])?)?;
-    }
-    Ok(table(alloc, &rows)?.items() == TABLE)
+    Ok(table_of(alloc, &CELLS)?.items() == TABLE)
 }
 
 #[test]
@@ -84,13 +95,16 @@ fn are_even(text: &[u8], count: usize) -> bool {
     start == text.len()
 }
 
+/// Cells beside a name of 255 bytes.
+const LONG_CELLS: [(&[u8], &[u8]); 3] = [
+    (b"Link", b"Cost"),
+    (&LONG, b"5.000"),
+    (b"\xe2\x82\xac", b"12345.678"),
+];
+
 /// Whether a name of 255 bytes keeps the columns straight: 2 + 255 + 3 + 9 characters in each line.
 fn is_straight(alloc: Global) -> Result<bool, NoMemory> {
-    let mut rows = List::new(alloc);
-    rows.push(row_of(alloc, (b"Link", b"Cost"))?)?;
-    rows.push(row_of(alloc, (&LONG, b"5.000"))?)?;
-    rows.push(row_of(alloc, (b"\xe2\x82\xac", b"12345.678"))?)?;
-    Ok(are_even(table(alloc, &rows)?.items(), 269))
+    Ok(are_even(table_of(alloc, &LONG_CELLS)?.items(), 269))
 }
 
 #[test]

@@ -1,3 +1,4 @@
+use crate::quotes::put_many;
 use net_core::{Bytes, List, NoMemory};
 use std::alloc::Global;
 use text_places::window_of;
@@ -45,22 +46,14 @@ const WINDOWS: [WindowRow; 13] = [
     ((100, b"\x80", b""), (b"", 100, b"\x80"), (0, 64)),
 ];
 
-/// Puts bytes so many times.
-fn put_many(text: &mut Bytes, count: usize, bytes: &[u8]) -> Result<(), NoMemory> {
-    for _put in 0..count {
-        text.append(bytes)?;
-    }
-    Ok(())
-}
-
 /// Puts the line of a row between two others; the place of its byte.
 fn put_lines(text: &mut Bytes, row: &WindowRow) -> Result<usize, NoMemory> {
     text.append(b"x\n")?;
-    put_many(text, row.0.0, row.0.1)?;
+    put_many(text, row.0.1, row.0.0)?;
     text.append(row.0.2)?;
     let at = text.len();
     text.append(row.1.0)?;
-    put_many(text, row.1.1, row.1.2)?;
+    put_many(text, row.1.2, row.1.1)?;
     text.append(b"\r\ny")?;
     Ok(at)
 }

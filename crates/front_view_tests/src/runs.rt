@@ -1,7 +1,7 @@
 use crate::failures::LISTS;
 use crate::files::{LIST, MODEL, NETWORK};
-use crate::models::MODELS;
-use crate::networks::{NETWORKS, WHOLE};
+use crate::models::{MODELS, OTHER_MODELS};
+use crate::networks::{FIRST_LINES, NAMES, NUMBERS, SECTIONS, WHOLE, WholeRow};
 use front_files::{CaseFiles, Halt, load_case};
 use input_files::PlanFiles;
 use net_core::{Bytes, List, Name};
@@ -89,40 +89,90 @@ fn is_said_of_list(alloc: Global, row: &Row) -> Option<bool> {
     is_said(alloc, NETWORK, MODEL, text.items(), row.2)
 }
 
-#[test]
-fn networks_have_their_messages(rt: HostRuntime) {
-    for i in 0..NETWORKS.len() {
-        assert!(rt;
-            is_said_of_network(rt.alloc(), &NETWORKS[i]) == Some(true),
-            "row {i}"
-        );
+/// The first row of which something else is said, where a part of the network is replaced.
+fn first_network(alloc: Global, rows: &[Row]) -> Option<usize> {
+    for i in 0..rows.len() {
+        if is_said_of_network(alloc, &rows[i]) != Some(true) {
+            return Some(i);
+        }
     }
+    None
+}
+
+/// The first row of which something else is said, where a part of the model is replaced.
+fn first_model(alloc: Global, rows: &[Row]) -> Option<usize> {
+    for i in 0..rows.len() {
+        if is_said_of_model(alloc, &rows[i]) != Some(true) {
+            return Some(i);
+        }
+    }
+    None
+}
+
+/// The first row of which something else is said, where a part of the failure list is replaced.
+fn first_list(alloc: Global, rows: &[Row]) -> Option<usize> {
+    for i in 0..rows.len() {
+        if is_said_of_list(alloc, &rows[i]) != Some(true) {
+            return Some(i);
+        }
+    }
+    None
+}
+
+/// The first whole file in place of the network of which something else is said.
+fn first_whole(alloc: Global, rows: &[WholeRow]) -> Option<usize> {
+    for i in 0..rows.len() {
+        if is_said(alloc, rows[i].0, MODEL, LIST, rows[i].1) != Some(true) {
+            return Some(i);
+        }
+    }
+    None
+}
+
+#[test]
+fn first_lines_have_their_messages(rt: HostRuntime) {
+    let wrong = first_network(rt.alloc(), &FIRST_LINES);
+    assert!(rt; wrong.is_none(), "row {}", wrong.unwrap_or(0));
+}
+
+#[test]
+fn sections_have_their_messages(rt: HostRuntime) {
+    let wrong = first_network(rt.alloc(), &SECTIONS);
+    assert!(rt; wrong.is_none(), "row {}", wrong.unwrap_or(0));
+}
+
+#[test]
+fn numbers_have_their_messages(rt: HostRuntime) {
+    let wrong = first_network(rt.alloc(), &NUMBERS);
+    assert!(rt; wrong.is_none(), "row {}", wrong.unwrap_or(0));
+}
+
+#[test]
+fn names_have_their_messages(rt: HostRuntime) {
+    let wrong = first_network(rt.alloc(), &NAMES);
+    assert!(rt; wrong.is_none(), "row {}", wrong.unwrap_or(0));
 }
 
 #[test]
 fn whole_files_have_their_messages(rt: HostRuntime) {
-    for i in 0..WHOLE.len() {
-        let said = is_said(rt.alloc(), WHOLE[i].0, MODEL, LIST, WHOLE[i].1);
-        assert!(rt; said == Some(true), "row {i}");
-    }
+    let wrong = first_whole(rt.alloc(), &WHOLE);
+    assert!(rt; wrong.is_none(), "row {}", wrong.unwrap_or(0));
 }
 
 #[test]
 fn models_have_their_messages(rt: HostRuntime) {
-    for i in 0..MODELS.len() {
-        assert!(rt;
-            is_said_of_model(rt.alloc(), &MODELS[i]) == Some(true),
-            "row {i}"
-        );
-    }
+    let wrong = first_model(rt.alloc(), &MODELS);
+    assert!(rt; wrong.is_none(), "row {}", wrong.unwrap_or(0));
+}
+
+#[test]
+fn further_aspects_have_their_messages(rt: HostRuntime) {
+    let wrong = first_model(rt.alloc(), &OTHER_MODELS);
+    assert!(rt; wrong.is_none(), "row {}", wrong.unwrap_or(0));
 }
 
 #[test]
 fn lists_have_their_messages(rt: HostRuntime) {
-    for i in 0..LISTS.len() {
-        assert!(rt;
-            is_said_of_list(rt.alloc(), &LISTS[i]) == Some(true),
-            "row {i}"
-        );
-    }
+    let wrong = first_list(rt.alloc(), &LISTS);
+    assert!(rt; wrong.is_none(), "row {}", wrong.unwrap_or(0));
 }
