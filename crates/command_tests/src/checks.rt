@@ -7,10 +7,8 @@ use std::thread::Threads;
 /// tight it is.
 type Accepted = (&'static str, &'static str, &'static str, &'static str);
 
-/// Plans whose reports are read again. The bound of the measured network is that of bench/reading/matrix.py. In the last one the search
-/// for a better bound ends where a number grows wide, and the plan costs what the fallback does: a module on the first link, and one on
-/// the second for where that fails.
-const ACCEPTED: [Accepted; 18] = [
+/// Plans whose reports are read again.
+const ACCEPTED: [Accepted; 9] = [
     (
         "plan triangle reconfigure",
         "check triangle reconfigure default report",
@@ -65,6 +63,12 @@ const ACCEPTED: [Accepted; 18] = [
         "cost 0.000 bound 0.000 raw 0 1 ",
         ")\ntight 1 ( 0 0 )\n",
     ),
+];
+
+/// Further plans whose reports are read again. The bound of the measured network is that of bench/reading/matrix.py. In the last one the search
+/// for a better bound ends where a number grows wide, and the plan costs what the fallback does: a module on the first link, and one on
+/// the second for where that fails.
+const FURTHER_ACCEPTED: [Accepted; 9] = [
     (
         "session triangle default default set",
         "check triangle default default report",
@@ -141,6 +145,13 @@ fn is_accepted<R: AllocGlobal + Threads + Wait + Sync>(rt: &R, row: &Accepted) -
 #[test]
 fn a_printed_report_is_accepted(rt: HostRuntime) {
     for row in &ACCEPTED {
+        assert!(rt; is_accepted(&rt, row), "{}", row.0);
+    }
+}
+
+#[test]
+fn further_printed_reports_are_accepted(rt: HostRuntime) {
+    for row in &FURTHER_ACCEPTED {
         assert!(rt; is_accepted(&rt, row), "{}", row.0);
     }
 }

@@ -33,7 +33,7 @@ const JOURNALS: [Change; 8] = [
 ];
 
 /// Changes of the plan and its routings, which are found.
-const PLANS: [Change; 20] = [
+const PLANS: [Change; 10] = [
     ("version 0", "version 1", "version-differs 1 0"),
     ("12.000 )", "13.000 )", "demands-differ"),
     ("cost 10.000", "cost 5.000", "cost-differs 5.000 10.000"),
@@ -52,6 +52,10 @@ const PLANS: [Change; 20] = [
     ("12.000 )", "2.000 )", "demands-differ"),
     ("cost 10.000", "cost 0.000", "cost-differs 0.000 10.000"),
     ("cost 10.000", "cost 110.000", "cost-differs 110.000 10.000"),
+];
+
+/// The same of counts, costs and routings.
+const COUNTS_AND_ROUTINGS: [Change; 10] = [
     ("AB ( 0 )", "AB ( 1 )", "cost-differs 10.000 15.000"),
     ("AC ( 2 )", "AC ( 22 )", "cost-differs 10.000 110.000"),
     ("D1 12000 ( AC )", "D1 12000 ( AB )", "bad-path 0 0"),
@@ -69,7 +73,7 @@ const PLANS: [Change; 20] = [
 ];
 
 /// Changes of the plan's bound, of its certificate and of what shows how tight it is, which are found.
-const BOUNDS: [Change; 18] = [
+const BOUNDS: [Change; 9] = [
     (
         "bound 10.000",
         "bound 15.000",
@@ -91,6 +95,10 @@ const BOUNDS: [Change; 18] = [
     ("tight 1 ( 0 0 6000 )", "tight 1 ( 0 0 6001 )", "not-tight"),
     ("tight 1 ( 0 0 6000 )", "tight 2 ( 0 0 6000 )", "not-tight"),
     ("bound 10.000", "bound 1.000", "bound-differs 1.000 10.000"),
+];
+
+/// The same of further numbers.
+const BOUNDS_AND_PROOFS: [Change; 9] = [
     ("bound 10.000", "bound 9.999", "bound-differs 9.999 10.000"),
     ("raw 6000 1", "raw 600 1", "raw-differs"),
     ("raw 6000 1", "raw 6000 11", "raw-differs"),
@@ -107,7 +115,7 @@ const BOUNDS: [Change; 18] = [
 ];
 
 /// Changes of words and parentheses, after which the text is no report.
-const FORMS: [Change; 28] = [
+const FORMS: [Change; 14] = [
     ("version: 1", "version: 2", "header at 0"),
     ("NOTES (", "NOTE (", "section at 28"),
     ("JOURNAL (", "JOURNAL )", "section at 46"),
@@ -122,6 +130,10 @@ const FORMS: [Change; 28] = [
     ("PLAN (", "PLA (", "token at 118"),
     ("caller 1", "calle 1", "token at 125"),
     ("plan 1", "pla 1", "token at 134"),
+];
+
+/// The same of further words.
+const FURTHER_FORMS: [Change; 14] = [
     ("version 0", "versio 0", "token at 141"),
     ("position 0", "positio 0", "token at 151"),
     ("DEMANDS", "DEMAND", "token at 162"),
@@ -139,7 +151,7 @@ const FORMS: [Change; 28] = [
 ];
 
 /// Changes of numbers, names and counts, after which the text is no report of the triangle.
-const VALUES: [Change; 29] = [
+const VALUES: [Change; 15] = [
     ("( 1 cut 0 )", "( 2 cut 0 )", "limit at 50"),
     ("cut 0", "cut 4096", "limit at 56"),
     ("( 0 state", "( 1 state", "limit at 71"),
@@ -159,6 +171,10 @@ const VALUES: [Change; 29] = [
     ("12.000", "12.0001", "number-fine at 183"),
     ("12.000", "12,000", "number-not at 183"),
     ("12.000", "1099511627.776", "number-large at 183"),
+];
+
+/// The same of further numbers, names and counts.
+const FURTHER_VALUES: [Change; 14] = [
     ("raw 6000 1", "raw 6000 0", "limit at 226"),
     ("raw 6000 1", "raw 06000 1", "number-not at 221"),
     ("AB ( 0 )", "BC ( 0 )", "unknown-name at 238"),
@@ -299,19 +315,18 @@ const ACCEPTED: Line = ("accepted ", Status::Done);
 /// A check of a report after each of some changes, and the line that it comes to.
 type Damages = (Check, &'static str, &'static [Change], Line);
 
-const DAMAGES: [Damages; 17] = [
-    (OF_TRIANGLE, TRIANGLE_REPORT, &JOURNALS, WHOLE),
-    (OF_TRIANGLE, TRIANGLE_REPORT, &PLANS, FIRST),
-    (OF_TRIANGLE, TRIANGLE_REPORT, &BOUNDS, FIRST),
-    (OF_TRIANGLE, TRIANGLE_REPORT, &FORMS, REFUSED),
-    (OF_TRIANGLE, TRIANGLE_REPORT, &VALUES, REFUSED),
-    (OF_TRIANGLE, TRIANGLE_REPORT, &SPELLINGS, ACCEPTED),
+/// Damages of reports with more states and with setup costs.
+const DAMAGES: [Damages; 6] = [
     (OF_RECONFIGURED, RECONFIGURED, &UNCHANGED, ACCEPTED),
     (OF_RECONFIGURED, RECONFIGURED, &CERTIFICATES, FIRST),
     (OF_CHARGED, CHARGED_REPORT, &CHARGED, FIRST),
     (OF_CHARGED, CHARGED_REPORT, &CHARGED_NOTES, WHOLE),
     (OF_NOTED, NOTED_REPORT, &NOTED, FIRST),
     (OF_NOTED, CHARGED_REPORT, &UNCHANGED_NOTES, WHOLE),
+];
+
+/// The same of two plans, and of other places.
+const FURTHER_DAMAGES: [Damages; 5] = [
     (OF_HELD, RAISED_REPORT, &BOTH_UNCHANGED, ACCEPTED),
     (OF_HELD, RAISED_REPORT, &RAISED, SECOND),
     (OF_FINER, FINER_REPORT, &FINER, FIRST),
@@ -355,9 +370,71 @@ fn first_unlike<R: AllocGlobal + Threads + Wait + Sync>(
     None
 }
 
-/// The first change of the table whose check doesn't end as its row says.
-fn first_of_all<R: AllocGlobal + Threads + Wait + Sync>(rt: &R) -> Option<&'static str> {
-    for (check, report, changes, line) in &DAMAGES {
+/// The first change of the triangle's report whose check doesn't end as this line says.
+fn first_of_triangle<R: AllocGlobal + Threads + Wait + Sync>(
+    rt: &R,
+    changes: &[Change],
+    line: Line,
+) -> Option<&'static str> {
+    first_unlike(rt, OF_TRIANGLE, TRIANGLE_REPORT, changes, line)
+}
+
+#[test]
+fn a_changed_journal_is_found_out(rt: HostRuntime) {
+    assert!(rt; first_of_triangle(&rt, &JOURNALS, WHOLE).is_none());
+}
+
+#[test]
+fn a_changed_plan_is_found_out(rt: HostRuntime) {
+    assert!(rt; first_of_triangle(&rt, &PLANS, FIRST).is_none());
+}
+
+#[test]
+fn changed_counts_and_routings_are_found_out(rt: HostRuntime) {
+    assert!(rt; first_of_triangle(&rt, &COUNTS_AND_ROUTINGS, FIRST).is_none());
+}
+
+#[test]
+fn a_changed_bound_is_found_out(rt: HostRuntime) {
+    assert!(rt; first_of_triangle(&rt, &BOUNDS, FIRST).is_none());
+}
+
+#[test]
+fn further_changed_bounds_are_found_out(rt: HostRuntime) {
+    assert!(rt; first_of_triangle(&rt, &BOUNDS_AND_PROOFS, FIRST).is_none());
+}
+
+#[test]
+fn a_report_of_other_words_is_refused(rt: HostRuntime) {
+    assert!(rt; first_of_triangle(&rt, &FORMS, REFUSED).is_none());
+}
+
+#[test]
+fn reports_of_further_words_are_refused(rt: HostRuntime) {
+    assert!(rt; first_of_triangle(&rt, &FURTHER_FORMS, REFUSED).is_none());
+}
+
+#[test]
+fn a_report_of_other_values_is_refused(rt: HostRuntime) {
+    assert!(rt; first_of_triangle(&rt, &VALUES, REFUSED).is_none());
+}
+
+#[test]
+fn reports_of_further_values_are_refused(rt: HostRuntime) {
+    assert!(rt; first_of_triangle(&rt, &FURTHER_VALUES, REFUSED).is_none());
+}
+
+#[test]
+fn another_spelling_is_accepted(rt: HostRuntime) {
+    assert!(rt; first_of_triangle(&rt, &SPELLINGS, ACCEPTED).is_none());
+}
+
+/// The first change of a table whose check doesn't end as its row says.
+fn first_of_all<R: AllocGlobal + Threads + Wait + Sync>(
+    rt: &R,
+    damages: &[Damages],
+) -> Option<&'static str> {
+    for (check, report, changes, line) in damages {
         let unlike = first_unlike(rt, *check, report, changes, *line);
         if unlike.is_some() {
             return unlike;
@@ -368,7 +445,12 @@ fn first_of_all<R: AllocGlobal + Threads + Wait + Sync>(rt: &R) -> Option<&'stat
 
 #[test]
 fn a_changed_report_is_found_out_refused_or_accepted(rt: HostRuntime) {
-    assert!(rt; first_of_all(&rt).is_none());
+    assert!(rt; first_of_all(&rt, &DAMAGES).is_none());
+}
+
+#[test]
+fn further_changed_reports_are_found_out_refused_or_accepted(rt: HostRuntime) {
+    assert!(rt; first_of_all(&rt, &FURTHER_DAMAGES).is_none());
 }
 
 /// The certificate of three parallel links with every single-link failure.

@@ -261,8 +261,8 @@ caller 9 plan
 /// The name and the bytes of a file.
 pub(crate) type File<'a> = (&'a str, &'a [u8]);
 
-/// The files that the commands name.
-const FILES: [File<'static>; 33] = [
+/// Networks, scripts and flows that the commands name.
+const NETWORKS_AND_SCRIPTS: [File<'static>; 17] = [
     ("triangle", TRIANGLE),
     ("empty", NO_DEMANDS),
     ("set", SET_AND_PLAN),
@@ -280,6 +280,10 @@ const FILES: [File<'static>; 33] = [
     ("idle", IDLE_CHAIN),
     ("bare", NO_MODULE),
     ("stuck", FIXED_LINK),
+];
+
+/// Further networks, models, scripts and failure lists.
+const FURTHER_FILES: [File<'static>; 16] = [
     ("cut", CUT_OFF),
     ("towns", FOUR_TOWNS),
     ("setups", SETUPS),
@@ -306,17 +310,28 @@ fn put(held: &mut List<MemFile>, alloc: Global, file: File) -> Option<()> {
 }
 
 /// Puts files last.
-fn put_all(held: &mut List<MemFile>, alloc: Global, files: &[File]) -> Option<()> {
+pub(crate) fn put_all(held: &mut List<MemFile>, alloc: Global, files: &[File]) -> Option<()> {
     for file in files {
         put(held, alloc, *file)?;
     }
     Some(())
 }
 
+/// Puts the networks, scripts and flows last.
+fn put_networks(held: &mut List<MemFile>, alloc: Global) -> Option<()> {
+    put_all(held, alloc, &NETWORKS_AND_SCRIPTS)
+}
+
+/// Puts the further files last.
+fn put_further(held: &mut List<MemFile>, alloc: Global) -> Option<()> {
+    put_all(held, alloc, &FURTHER_FILES)
+}
+
 /// All files, the measured network, and these.
 pub(crate) fn all_files(alloc: Global, more: &[File]) -> Option<List<MemFile>> {
     let mut held = List::new(alloc);
-    put_all(&mut held, alloc, &FILES)?;
+    put_networks(&mut held, alloc)?;
+    put_further(&mut held, alloc)?;
     put(&mut held, alloc, ("measured", MEASURED))?;
     put_all(&mut held, alloc, more)?;
     Some(held)

@@ -40,15 +40,25 @@ tight 1 ( 0 0 0 0 0 0 0 0 0 0 0 0 0 0 0 0 0 0 0 0 )
 ",
 );
 
+/// Puts a name last that is one letter, 250 times.
+fn put_long_name(text: &mut Bytes, letter: u8) -> Option<()> {
+    text.append(&[letter; 250]).ok()
+}
+
+/// Puts the names of 20 links last, and after each what comes after it.
+fn put_long_names(text: &mut Bytes, after: &[u8]) -> Option<()> {
+    for n in 0..20u8 {
+        put_long_name(text, b'a' + n)?;
+        text.append(after).ok()?;
+    }
+    Some(())
+}
+
 /// A text with the names of 20 links, of which each is one letter, 250 times.
 fn with_long_names(alloc: Global, parts: (&[u8], &[u8], &[u8])) -> Option<Bytes> {
     let (front, after, end) = parts;
     let mut text = List::from_slice(alloc, front).ok()?;
-    for n in 0..20u8 {
-        let name = List::filled(alloc, b'a' + n, 250).ok()?;
-        text.append(name.items()).ok()?;
-        text.append(after).ok()?;
-    }
+    put_long_names(&mut text, after)?;
     text.append(end).ok()?;
     Some(text)
 }
@@ -61,6 +71,18 @@ fn wrote(run: &Ended, text: &[u8], taken: usize, status: Status, faults: u64) ->
     }
 }
 
+/// Whether a run wrote the first so many bytes of the report of the long names, which has 5514.
+fn wrote_report(
+    alloc: Global,
+    run: &Ended,
+    taken: usize,
+    status: Status,
+    faults: u64,
+) -> Option<bool> {
+    let report = with_long_names(alloc, REPORT)?;
+    Some(report.len() == 5514 && wrote(run, report.items(), taken, status, faults))
+}
+
 /// Whether a plan of the network of the long names ends with this status where the puts of these numbers fail, with the first so many
 /// bytes of the report written, which has 5514.
 fn long_plan_ends<R: AllocGlobal + Threads + Wait + Sync>(
@@ -70,10 +92,8 @@ fn long_plan_ends<R: AllocGlobal + Threads + Wait + Sync>(
     taken: usize,
 ) -> Option<bool> {
     let net = with_long_names(rt.alloc(), NETWORK)?;
-    let report = with_long_names(rt.alloc(), REPORT)?;
     let run = run_words(rt, "plan long", &[("long", net.items())], &[], puts)?;
-    let faults = puts.len() as u64;
-    Some(report.len() == 5514 && wrote(&run, report.items(), taken, status, faults))
+    wrote_report(rt.alloc(), &run, taken, status, puts.len() as u64)
 }
 
 #[test]

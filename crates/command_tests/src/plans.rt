@@ -361,8 +361,8 @@ const PLANS: [Row; 15] = [
     ),
 ];
 
-/// Files that are refused or missing, and words outside the grammar.
-const REFUSALS: [Row; 28] = [
+/// Files that are refused or missing.
+const REFUSALS: [Row; 16] = [
     (
         "plan large-then-fine",
         1,
@@ -444,6 +444,10 @@ const REFUSALS: [Row; 28] = [
         Status::NoFile,
         "no file X\n",
     ),
+];
+
+/// Words outside the grammar.
+const WRONG_WORDS: [Row; 12] = [
     ("check triangle default set", 0, Status::BadWords, USAGE),
     ("sample 7", 0, Status::BadWords, USAGE),
     ("sample 7 3", 0, Status::BadWords, USAGE),
@@ -481,6 +485,16 @@ fn plans_are_written(rt: HostRuntime) {
 #[test]
 fn refusals_are_written_and_no_further_file_is_fetched(rt: HostRuntime) {
     for (words, fetched, status, text) in &REFUSALS {
+        assert!(rt;
+            comes_to(&rt, words, &[], *fetched, (*status, text)),
+            "{words}"
+        );
+    }
+}
+
+#[test]
+fn words_outside_the_grammar_are_answered_by_the_usage(rt: HostRuntime) {
+    for (words, fetched, status, text) in &WRONG_WORDS {
         assert!(rt;
             comes_to(&rt, words, &[], *fetched, (*status, text)),
             "{words}"

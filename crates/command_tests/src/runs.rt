@@ -1,6 +1,6 @@
 use crate::files::{File, all_files};
 use net_core::{Bytes, List};
-use outside_io::{MemShelf, MemSink, OpenGate, Shelf, Sink, have_different_names};
+use outside_io::{MemFile, MemShelf, MemSink, OpenGate, Shelf, Sink, have_different_names};
 use planner_commands::Status;
 use planner_commands::run::run;
 use std::alloc::Global;
@@ -36,7 +36,7 @@ impl Ended {
 }
 
 /// The words of a command.
-fn words_of(alloc: Global, words: &str) -> Option<Vec<String>> {
+pub(crate) fn words_of(alloc: Global, words: &str) -> Option<Vec<String>> {
     let mut list = Vec::new(alloc);
     for word in words.split(' ') {
         list.push(word.to_string(alloc).ok()?).ok()?;
@@ -44,17 +44,16 @@ fn words_of(alloc: Global, words: &str) -> Option<Vec<String>> {
     Some(list)
 }
 
-/// A shelf of all files and these, of which the fetches of these numbers fail, counted from 0.
-fn shelf_of(alloc: Global, more: &[File], fetches: &[u32]) -> Option<MemShelf> {
-    let files = all_files(alloc, more)?;
+/// A shelf of files, of which the fetches of these numbers fail, counted from 0.
+pub(crate) fn shelf_with(alloc: Global, files: List<MemFile>, fetches: &[u32]) -> Option<MemShelf> {
     let failing = List::from_slice(alloc, fetches).ok()?;
     have_different_names(files.items()).then(|| MemShelf::new(files, failing))
 }
 
-/// An empty sink, of which the puts of these numbers fail, counted from 0.
-fn sink_of(alloc: Global, puts: &[u32]) -> Option<MemSink> {
+/// An empty sink with room for so many bytes, of which the puts of these numbers fail, counted from 0.
+pub(crate) fn sink_of(alloc: Global, room: u64, puts: &[u32]) -> Option<MemSink> {
     let failing = List::from_slice(alloc, puts).ok()?;
-    MemSink::new(alloc, 4000000, failing).ok()
+    MemSink::new(alloc, room, failing).ok()
 }
 
 /// Runs words over a shelf and a sink.
@@ -73,6 +72,19 @@ fn carry_out<R: AllocGlobal + Threads + Wait + Sync>(
     }
 }
 
+/// Runs words over all files and these, where the fetches and puts of these numbers fail, counted from 0.
+fn run_over<R: AllocGlobal + Threads + Wait + Sync>(
+    rt: &R,
+    words: &[String],
+    more: &[File],
+    fetches: &[u32],
+    puts: &[u32],
+) -> Option<Ended> {
+    let alloc = rt.alloc();
+    let shelf = shelf_with(alloc, all_files(alloc, more)?, fetches)?;
+    Some(carry_out(rt, words, shelf, sink_of(alloc, 4000000, puts)?))
+}
+
 /// Runs these words over all files and these, where the fetches and puts of these numbers fail, counted from 0.
 pub(crate) fn run_words<R: AllocGlobal + Threads + Wait + Sync>(
     rt: &R,
@@ -81,10 +93,8 @@ pub(crate) fn run_words<R: AllocGlobal + Threads + Wait + Sync>(
     fetches: &[u32],
     puts: &[u32],
 ) -> Option<Ended> {
-    let alloc = rt.alloc();
-    let words = words_of(alloc, words)?;
-    let shelf = shelf_of(alloc, more, fetches)?;
-    Some(carry_out(rt, &words, shelf, sink_of(alloc, puts)?))
+    let words = words_of(rt.alloc(), words)?;
+    run_over(rt, &words, more, fetches, puts)
 }
 
 /// Whether these words, which fetch at most so many files, come to this status and this text. A further fetch would fail.

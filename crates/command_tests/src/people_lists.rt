@@ -1,4 +1,4 @@
-use crate::runs::{Faults, Row, comes_to};
+use crate::people_runs::{Faults, Row, comes_to};
 use front_commands::Status;
 
 const USAGE: &str = "these words are no command; zorgwint --help tells which are
@@ -190,7 +190,7 @@ refused network fixed-link at 93
 ];
 
 /// Words with options, most of them of a report that isn't there, so that the files before it are read.
-const OPTIONS: [Row; 30] = [
+const OPTIONS: [Row; 10] = [
     ("view triangle nothing", SOUND, Status::NoFile, "", NOTHING),
     (
         "view --survive links triangle nothing",
@@ -243,6 +243,10 @@ const OPTIONS: [Row; 30] = [
         "",
         NOTHING,
     ),
+];
+
+/// The same of options that say what is told, and of files that are none.
+const TELLING_OPTIONS: [Row; 10] = [
     (
         "view triangle nothing --model plain --failures list",
         SOUND,
@@ -313,6 +317,10 @@ const OPTIONS: [Row; 30] = [
         "",
         USAGE,
     ),
+];
+
+/// Words with options that are no command.
+const REFUSED_OPTIONS: [Row; 10] = [
     ("view triangle", SOUND, Status::BadWords, "", USAGE),
     (
         "view triangle nothing triangle",
@@ -474,6 +482,20 @@ fn runs_come_to_their_rows(rt: HostRuntime) {
 #[test]
 fn options_stand_in_any_place(rt: HostRuntime) {
     for row in &OPTIONS {
+        assert!(rt; comes_to(&rt, rt.alloc(), row) == Some(true), "{}", row.0);
+    }
+}
+
+#[test]
+fn options_say_what_is_told(rt: HostRuntime) {
+    for row in &TELLING_OPTIONS {
+        assert!(rt; comes_to(&rt, rt.alloc(), row) == Some(true), "{}", row.0);
+    }
+}
+
+#[test]
+fn other_options_are_refused(rt: HostRuntime) {
+    for row in &REFUSED_OPTIONS {
         assert!(rt; comes_to(&rt, rt.alloc(), row) == Some(true), "{}", row.0);
     }
 }

@@ -1,4 +1,5 @@
-use crate::runs::{ends_with, shelf_with, words_of};
+use crate::people_runs::ends_with;
+use crate::runs::{shelf_with, words_of};
 use front_commands::Status;
 use net_core::{Bytes, List, Name, NoMemory};
 use outside_io::MemFile;
@@ -174,7 +175,7 @@ fn wide_files(alloc: Global) -> Option<List<MemFile>> {
 /// Whether the view of the report is printed as it should be; nothing where there is no memory.
 fn is_straight<R: Threads + Wait + Sync>(rt: &R, alloc: Global) -> Option<bool> {
     let words = words_of(alloc, "view wide report --survive links")?;
-    let shelf = shelf_with(alloc, wide_files(alloc)?, 9)?;
+    let shelf = shelf_with(alloc, wide_files(alloc)?, &[9])?;
     let view = written(alloc, VIEW).ok()?;
     ends_with(
         rt,

@@ -1,9 +1,7 @@
-use net_core::{List, Name};
+use crate::files::{File, put_all};
+use net_core::List;
 use outside_io::MemFile;
 use std::alloc::Global;
-
-/// A file, by its name and its bytes.
-type File = (&'static str, &'static [u8]);
 
 const TRIANGLE: &[u8] = b"?SNDlib native format; type: network; version: 1.0
 NODES ( A B C )
@@ -63,7 +61,7 @@ const LIST: &[u8] = b"?planner failures; version: 1
 FAILURES ( f ( AB ) )
 ";
 
-const FILES: [File; 8] = [
+const FILES: [File<'static>; 8] = [
     ("triangle", TRIANGLE),
     ("bridge", BRIDGE),
     ("apart", APART),
@@ -74,18 +72,9 @@ const FILES: [File; 8] = [
     ("list", LIST),
 ];
 
-/// Puts a file last.
-fn put(held: &mut List<MemFile>, alloc: Global, file: File) -> Option<()> {
-    let name = Name::new(alloc, file.0.as_bytes()).ok()?;
-    let bytes = List::from_slice(alloc, file.1).ok()?;
-    held.push(MemFile { name, bytes }).ok()
-}
-
 /// All files.
 pub(crate) fn all_files(alloc: Global) -> Option<List<MemFile>> {
     let mut held = List::new(alloc);
-    for file in &FILES {
-        put(&mut held, alloc, *file)?;
-    }
+    put_all(&mut held, alloc, &FILES)?;
     Some(held)
 }
