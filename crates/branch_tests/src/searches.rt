@@ -119,7 +119,7 @@ pub(crate) fn triangle_problem(alloc: Global) -> Option<Problem> {
 }
 
 /// Four parallel links of modules of 1.00 for 1.00 with a demand of 10.00, where each link may fail.
-fn parallel_problem(alloc: Global) -> Option<Problem> {
+pub(crate) fn parallel_problem(alloc: Global) -> Option<Problem> {
     let net = network(alloc, 2, &PARALLEL[..4]).ok()?;
     problem(alloc, net, &[(0, 1, 10000)]).ok()
 }

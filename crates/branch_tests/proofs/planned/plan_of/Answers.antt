@@ -2,7 +2,7 @@ use Rattle.std.proofs.Common.{List, length, subst, sym}
 use Rattle.plan_terms.specs.Terms.{AreDemands, Demand, IsSurvivable, case, case_of}
 use Rattle.trim_plan.specs.Trimmed.{IsRoutedPlan}
 use Rattle.lone_plan.proofs.PlansOf.{lone_plans_carry}
-use Rattle.trim_tests.proofs.planned.plan_of.Goals as goal
+use Rattle.branch_tests.proofs.planned.plan_of.Goals as goal
 
 pub returns : goal.returns
 returns c =

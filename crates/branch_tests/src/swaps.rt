@@ -4,13 +4,13 @@ ghost use Rattle.plan_terms.specs.Terms.{AreDemands, case, IsSurvivable};
 ghost use Rattle.trim_plan.specs.Trimmed.{IsRoutedPlan};
 
 use crate::planned::planned;
+use crate::searches::{parallel_problem, triangle_problem};
 use net_core::{Instance, NoMemory};
 use plan_swaps::swap;
 use plan_types::Plan;
 use std::alloc::Global;
 use std::sync::Wait;
 use std::thread::Threads;
-use worked_networks::{PARALLEL, network, problem, triangle};
 
 /// What a plan costs after modules are exchanged.
 fn swapped_cost(alloc: Global, instance: &Instance, plan: Plan) -> Option<u128>
@@ -38,14 +38,13 @@ fn costs<R: Threads + Wait + Sync>(
 
 /// The costs on the triangle with a demand of 12.00 from A to C, where each link may fail.
 fn on_triangle<R: Threads + Wait + Sync>(rt: &R, alloc: Global) -> Option<(u128, u128)> {
-    let problem = problem(alloc, triangle(alloc, 0).ok()?, &[(0, 2, 12000)]).ok()?;
+    let problem = triangle_problem(alloc)?;
     costs(rt, alloc, &problem.instance())
 }
 
 /// The costs on four parallel links of modules of 1.00 for 1.00 with a demand of 10.00, where each link may fail.
 fn on_parallel_links<R: Threads + Wait + Sync>(rt: &R, alloc: Global) -> Option<(u128, u128)> {
-    let net = network(alloc, 2, &PARALLEL[..4]).ok()?;
-    let problem = problem(alloc, net, &[(0, 1, 10000)]).ok()?;
+    let problem = parallel_problem(alloc)?;
     costs(rt, alloc, &problem.instance())
 }
 

@@ -5,14 +5,14 @@ ghost use Rattle.trim_plan.specs.Trimmed.{IsRoutedPlan};
 
 use crate::blocked::are_blocked;
 use crate::planned::planned;
-use net_core::{Demands, Instance, Network, NoMemory, Problem};
+use crate::searches::{LEAST, sample_problem};
+use net_core::{Instance, Network, Problem};
 use plan_types::Plan;
-use sample_net::sample;
 use std::alloc::Global;
 use std::sync::Wait;
 use std::thread::Threads;
 use trim_plan::{Trimmed, trim};
-use worked_networks::{DemandRow, LinkRow, PARALLEL, TEN, network, problem, single_failures};
+use worked_networks::{DemandRow, LinkRow, PARALLEL, TEN, network, problem};
 
 /// The trimmed plan.
 pub fn trimmed_plan(alloc: Global, instance: &Instance, plan: Plan) -> Option<Trimmed>
@@ -56,26 +56,6 @@ fn trimmed<R: Threads + Wait + Sync>(
     Some((before, after, blocks))
 }
 
-/// The planning of a network, where each link may fail.
-fn with_failures(alloc: Global, net: Network, demands: Demands) -> Option<Problem>
-    requires { AreDemands (length net.nodes) demands }
-{
-    let states = single_failures(alloc, &net).ok()?;
-    Some(Problem {
-        net,
-        states,
-        demands,
-    })
-}
-
-/// The sample network of a seed with six nodes, where each link may fail.
-fn sample_problem(alloc: Global, seed: u64) -> Option<Problem> {
-    match sample(alloc, seed, 6) {
-        Ok((net, demands)) => with_failures(alloc, net, demands),
-        Err(NoMemory) => None,
-    }
-}
-
 /// The costs of a sample network's plan and of the trimmed plan, and its blocks.
 fn on_sample<R: Threads + Wait + Sync>(
     rt: &R,
@@ -93,9 +73,6 @@ fn costs_between<R: Threads + Wait + Sync>(rt: &R, alloc: Global, seed: u64, lea
         None => false,
     }
 }
-
-/// The least costs of sample networks with six nodes, by their seeds, from an integer program over cuts.
-const LEAST: [(u64, u128); 3] = [(1, 269000), (2, 373000), (3, 277000)];
 
 #[test]
 fn trimmed_samples_cost_between_the_least_and_the_plan(rt: HostRuntime) {

@@ -80,18 +80,28 @@ fn wide_network(alloc: Global) -> Option<Network> {
     Network::check(nodes, all_links(alloc)?, notes, Places::Three).ok()
 }
 
-/// The planning of the network without failures.
-fn wide_problem(alloc: Global) -> Option<Problem> {
-    let net = wide_network(alloc)?;
-    let states = failing(alloc, &net, &[]).ok()?;
+/// The demands of the chain, and those that get in each other's way.
+fn all_demands(alloc: Global) -> Option<List<DemandRow>> {
     let mut rows = List::from_slice(alloc, &CHAIN_DEMANDS).ok()?;
     rows.append(&CROSSING).ok()?;
-    let demands = demands(alloc, net.nodes().len(), rows.items()).ok()?;
+    Some(rows)
+}
+
+/// The planning of a network with these demands, without failures.
+fn problem_of(alloc: Global, net: Network, rows: &[DemandRow]) -> Option<Problem> {
+    let states = failing(alloc, &net, &[]).ok()?;
+    let demands = demands(alloc, net.nodes().len(), rows).ok()?;
     Some(Problem {
         net,
         states,
         demands,
     })
+}
+
+/// The planning of the network without failures.
+fn wide_problem(alloc: Global) -> Option<Problem> {
+    let rows = all_demands(alloc)?;
+    problem_of(alloc, wide_network(alloc)?, rows.items())
 }
 
 /// Whether evidence keeps a module.
