@@ -214,7 +214,7 @@ fn rows_of(alloc: Global, case: &Case) -> Result<List<PathRow>, NoMemory> {
 }
 
 /// Whether a case's row gives what is expected, on a network of three links.
-fn is_met_on(alloc: Global, p: &Problem, caps: &Caps, case: &Case) -> bool {
+fn is_met_on<'a>(alloc: Global, p: &'a Problem, caps: &'a Caps, case: &Case) -> bool {
     let (Ok(keys), Ok(rows)) = (keys_of(alloc, case), rows_of(alloc, case)) else {
         return false;
     };
