@@ -12,7 +12,7 @@ row() {
     name=$1
     shift
     { time timeout 300 "$@" >"$room/report" || true; } 2>"$room/time"
-    echo "| $name | $(tail -1 "$room/time") | $(grep -a -o -m 1 '^tight\|^loose' "$room/report" || echo no plan) |"
+    echo "| $name | $(tail -1 "$room/time") | $(grep -a -o -m 1 '^tight\|^loose\|^quality [a-z]*' "$room/report" || echo no plan) |"
 }
 echo '| Run | Processor seconds | Quality |'
 echo '|---|---|---|'
