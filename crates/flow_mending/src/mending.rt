@@ -46,16 +46,19 @@ fn least_room(room: &[i128], path: &[LinkId]) -> i128 {
     least
 }
 
-/// What flows over a denominator leave of the links.
+/// What flows over a denominator leave of the links; a link that the state fails has no room.
 fn room_after(
     alloc: Global,
-    nums: &[u128],
+    task: &RouteTask,
     den: u64,
     flows: &[Flow],
 ) -> Result<List<i128>, NoMemory> {
+    let nums = task.caps.nums.items();
     let mut room = List::from_vec(Vec::with_capacity(alloc, nums.len())?);
-    for num in nums {
-        room.push(bounded(*num).wrapping_mul(den as i128))?;
+    for e in 0..nums.len() {
+        let survives = e < task.graph.net.links().len() && task.graph.has(LinkId(e as u32));
+        let num = if survives { bounded(nums[e]) } else { 0 };
+        room.push(num.wrapping_mul(den as i128))?;
     }
     for f in flows {
         give_back(
@@ -192,8 +195,8 @@ fn drop_empty(flows: &mut List<Flow>) {
     }
 }
 
-/// A routing that carries a task's demands within its capacities and keeps most flows of an earlier one, where what no longer fits is sent
-/// along paths of fewest links with room. `None` says nothing.
+/// A routing that carries a task's demands within its capacities and keeps most flows of an earlier one, of the task's state or of another:
+/// what no longer fits, or goes over a link that the state fails, is sent along paths of fewest links with room. `None` says nothing.
 ///
 /// The triangle AB, BC, AC with 4.00 on AB and BC and 2.00 on AC and a demand of 6.00 from A to C, of which 4.00 went over AC and 2.00
 /// over AB and BC, gets 2.00 over AC and 2.00 twice over AB and BC.
@@ -207,7 +210,7 @@ pub fn mended(
     ensures { IfOk result (λ o. IfSome o (IsRouted (graph_of task.now.graph) task.now.demands.now task.now.caps.now)) }
 {
     let flows = earlier.flows.copy()?;
-    let room = room_after(alloc, task.caps.nums.items(), earlier.den, flows.items())?;
+    let room = room_after(alloc, task, earlier.den, flows.items())?;
     let missing = List::filled(alloc, 0, task.demands.len())?;
     let mut mending = Mending {
         flows,

@@ -8,9 +8,10 @@ ghost use Rattle.share_covers.specs.inner.SharedRoutes.{IsSharedAnswer, IsStateA
 
 use crate::routes::{InstalledRoutes, route_installed};
 use checked_fraction::gcd;
+use flow_mending::mended;
 use greedy_router::greedy;
 use module_choice::capacities;
-use net_core::{Caps, Copied, Counts, Flow, Instance, List, NoMemory, Routing, StateId};
+use net_core::{Caps, Copied, Counts, Flow, Instance, List, NoMemory, RouteTask, Routing, StateId};
 use plan_types::{Fractional, Quality};
 use std::alloc::Global;
 
@@ -102,6 +103,36 @@ fn greedy_or_shared(
     whole_routing(alloc, shared, scale, most)
 }
 
+/// A routing of a state within capacities at scale 1 that carry a share's routing of it over the scale: that of the state without failures where
+/// it carries the demands once it is mended, so that a failure reroutes little; else as `greedy_or_shared` finds it.
+fn mended_or_anew(
+    alloc: Global,
+    instance: &Instance,
+    state: StateId,
+    caps: &Caps,
+    normal: Option<&Routing>,
+    shared: &Routing,
+    scale: u64,
+) -> Result<Option<Routing>, NoMemory>
+    requires state { state.0 < length instance.now.states.now.listed + 1 }
+    requires caps { length caps.now.nums ≡ length instance.now.net.now.links }
+    requires scale { 0 < scale }
+    requires carries { let p = case_of instance.now in CarriesAtWhole (graph_in p state.0) p.demands caps.now scale shared.now }
+    ensures { let p = case_of instance.now in IfOk result (IsStateAnswer (graph_in p state.0) p.demands caps.now scale shared.now) }
+{
+    let task = RouteTask {
+        graph: instance.in_state(state),
+        demands: instance.demands,
+        caps,
+    };
+    if let Some(normal) = normal {
+        if let Some(routing) = mended(alloc, &task, normal)? {
+            return Ok(Some(routing));
+        }
+    }
+    greedy_or_shared(alloc, instance, state, caps, shared, scale)
+}
+
 /// Routings within counts that cover a share: in each state the greedy one where it carries all demands, else the share's, with the same flows
 /// over a denominator that is the share's scale times as large, in lowest terms. `None` where a state's routing of the share is needed, and has
 /// more flows than there are links and demands together, or a denominator of 2^62 or more.
@@ -125,7 +156,9 @@ fn routes_of_share(
     let mut routings = List::new(alloc);
     for s in 0..instance.states.count() {
         let state = StateId(s);
-        match greedy_or_shared(alloc, instance, state, &caps, &shared[s as usize], scale)? {
+        let of_share = &shared[s as usize];
+        let normal = routings.items().first();
+        match mended_or_anew(alloc, instance, state, &caps, normal, of_share, scale)? {
             Some(routing) => routings.push(routing)?,
             None => return Ok(None),
         }

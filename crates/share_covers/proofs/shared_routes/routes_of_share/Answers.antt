@@ -7,14 +7,14 @@ use Rattle.share_covers.proofs.Sharing.{caps_same, carried_told, item_at, scale_
 use Rattle.share_covers.proofs.StateRoutes.{AreRoutedTo, routed_more}
 use Rattle.share_covers.proofs.shared_routes.routes_of_share.Goals as goal
 
-pub greedy_or_shared-requires-clause-caps : goal.greedy_or_shared-requires-clause-caps
-greedy_or_shared-requires-clause-caps c = ap (λ (ns : List ℕ). length ns) c.in_ok-caps.ensures.1 ∙ capacities_long c.args.instance.now.net.now.links c.args.counts.now c.requires.shape
+pub mended_or_anew-requires-clause-caps : goal.mended_or_anew-requires-clause-caps
+mended_or_anew-requires-clause-caps c = ap (λ (ns : List ℕ). length ns) c.in_ok-caps.ensures.1 ∙ capacities_long c.args.instance.now.net.now.links c.args.counts.now c.requires.shape
 
-pub greedy_or_shared-requires-clause-scale : goal.greedy_or_shared-requires-clause-scale
-greedy_or_shared-requires-clause-scale c = scale_told (case_of c.args.instance.now) c.args.instance.now.belong c.args.fractional.now c.args.counts.now c.requires.covered
+pub mended_or_anew-requires-clause-scale : goal.mended_or_anew-requires-clause-scale
+mended_or_anew-requires-clause-scale c = scale_told (case_of c.args.instance.now) c.args.instance.now.belong c.args.fractional.now c.args.counts.now c.requires.covered
 
-pub greedy_or_shared-requires-clause-carries : goal.greedy_or_shared-requires-clause-carries
-greedy_or_shared-requires-clause-carries c =
+pub mended_or_anew-requires-clause-carries : goal.mended_or_anew-requires-clause-carries
+mended_or_anew-requires-clause-carries c =
     let instance = c.args.instance.now in
     let p = case_of instance in
     let fractional = c.args.fractional.now in
