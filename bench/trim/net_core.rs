@@ -66,6 +66,15 @@ impl<T: Clone> Vec<T> {
     }
 }
 
+impl<T> IntoIterator for Vec<T> {
+    type Item = T;
+    type IntoIter = std::vec::IntoIter<T>;
+
+    fn into_iter(self) -> std::vec::IntoIter<T> {
+        self.items.into_iter()
+    }
+}
+
 impl<T> Deref for Vec<T> {
     type Target = [T];
 

@@ -1,4 +1,4 @@
-ghost use Rattle.std.specs.Prelude.{◌<◌, IfOk, IfSome, IsTrue, length};
+ghost use Rattle.std.specs.Prelude.{IfOk, IfSome};
 ghost use Rattle.plan_terms.specs.Terms.{graph_of};
 ghost use Rattle.flow_router.specs.Answers.{IsRouted};
 
@@ -177,22 +177,15 @@ fn is_missing(missing: &[u128], at: usize) -> bool {
     at < missing.len() && missing[at] > 0
 }
 
-/// Whether the flow at a place carries nothing.
-fn is_empty_at(flows: &[Flow], at: usize) -> bool
-    ensures { IsTrue result → at < length flows.now }
-{
-    at < flows.len() && flows[at].num == 0
-}
-
-/// Takes out the flows that carry nothing.
-fn drop_empty(flows: &mut List<Flow>) {
-    let count = flows.len();
-    for i in 0..count {
-        let at = count - 1 - i;
-        if is_empty_at(flows.items(), at) {
-            flows.remove(at);
+/// The flows that carry something.
+fn not_empty(alloc: Global, flows: List<Flow>) -> Result<List<Flow>, NoMemory> {
+    let mut kept = List::from_vec(Vec::with_capacity(alloc, flows.len())?);
+    for flow in flows.into_vec() {
+        if flow.num > 0 {
+            kept.push(flow)?;
         }
     }
+    Ok(kept)
 }
 
 /// A routing that carries a task's demands within its capacities and keeps most flows of an earlier one, of the task's state or of another:
@@ -225,7 +218,7 @@ pub fn mended(
     if !send_missing(alloc, task, &mut mending)? {
         return Ok(None);
     }
-    let Mending { mut flows, .. } = mending;
-    drop_empty(&mut flows);
+    let Mending { flows, .. } = mending;
+    let flows = not_empty(alloc, flows)?;
     if_routed(alloc, task, lowest(earlier.den, flows))
 }
