@@ -6,6 +6,9 @@ use std::alloc::Global;
 /// Numbers of a row are below this; with wider ones nothing is found.
 const WIDE: u128 = 1 << 62;
 
+/// The product of two numbers below this fits into a word, and so does the sum of two such products.
+const NARROW: u64 = 1 << 31;
+
 /// A column of the basis with its row of the inverse over lengths, whole numbers over `den`.
 #[derive(Drop)]
 pub struct KeptRow {
@@ -51,6 +54,11 @@ pub(crate) fn word(number: i128) -> i64 {
     } else {
         0
     }
+}
+
+/// A quotient by a positive word; by another one the number itself.
+fn word_over(number: i64, by: i64) -> i64 {
+    if by > 1 { number / by } else { number }
 }
 
 /// A quotient by a positive number; by 0 the number itself.
@@ -105,6 +113,67 @@ fn mix(nums: &mut [i64], times: i128, other: &[i64], less: i128, shared: u128) {
     }
 }
 
+/// The greatest common divisor of two words.
+fn common(a: u64, b: u64) -> u64 {
+    if b != 0 && a % b == 0 {
+        b
+    } else {
+        word(gcd(a as u128, b as u128) as i128).unsigned_abs()
+    }
+}
+
+/// The bits of all numbers of a row.
+fn bits_of(nums: &[i64]) -> u64 {
+    let mut bits = 0;
+    for e in 0..nums.len() {
+        bits |= nums[e].unsigned_abs();
+    }
+    bits
+}
+
+/// Takes `less` times another row from `times` this row, in words.
+fn mix_words(nums: &mut [i64], times: i64, other: &[i64], less: i64) {
+    for e in 0..nums.len() {
+        if e < other.len() {
+            nums[e] = nums[e]
+                .wrapping_mul(times)
+                .wrapping_sub(other[e].wrapping_mul(less));
+        }
+    }
+}
+
+/// Mixes rows of narrow numbers, and answers the divisor that they and the denominator have lost; `None` where a number stays too wide.
+fn combine_words(row: &mut KeptRow, times: i64, other: &[i64], less: i64) -> Option<u128> {
+    mix_words(row.nums.items_mut(), times, other, less);
+    let whole = row.den.wrapping_mul(times);
+    let shared = shared_of(row.nums.items(), whole.unsigned_abs());
+    let by = word(shared as i128);
+    if by > 1 {
+        divide(row.nums.items_mut(), by);
+    }
+    row.den = word_over(whole, by);
+    if (bits_of(row.nums.items()) as u128) < WIDE {
+        Some(shared as u128)
+    } else {
+        None
+    }
+}
+
+/// Mixes rows of any numbers, and answers the divisor that they and the denominator have lost; `None` where a number stays too wide.
+fn combine_wide(row: &mut KeptRow, times: i128, other: &[i64], less: i128) -> Option<u128> {
+    let whole = (row.den as i128).wrapping_mul(times);
+    let shared = common_of(row.nums.items(), times, other, less, whole.unsigned_abs())?;
+    mix(row.nums.items_mut(), times, other, less, shared);
+    row.den = word(over(whole, shared));
+    Some(shared)
+}
+
+/// Whether the products of all numbers of two rows with these fit into a word.
+fn are_narrow(row: &KeptRow, pivot: &KeptRow, times: i128, less: i128) -> bool {
+    let bits = bits_of(row.nums.items()) | bits_of(pivot.nums.items()) | row.den.unsigned_abs();
+    bits < NARROW && times.unsigned_abs() < NARROW as u128 && less.unsigned_abs() < NARROW as u128
+}
+
 /// A row after a turn at another one, whose product is positive; `None` where a number is too wide.
 pub(crate) fn combine(row: &mut KeptRow, pivot: &KeptRow) -> Option<()> {
     if row.product == 0 {
@@ -115,45 +184,47 @@ pub(crate) fn combine(row: &mut KeptRow, pivot: &KeptRow) -> Option<()> {
     if less.unsigned_abs() >= WIDE || times.unsigned_abs() >= WIDE {
         return None;
     }
-    let whole = (row.den as i128).wrapping_mul(times);
-    let other = pivot.nums.items();
-    let common = common_of(row.nums.items(), times, other, less, whole.unsigned_abs())?;
-    mix(row.nums.items_mut(), times, other, less, common);
-    row.den = word(over(whole, common));
     let value = row
         .value
         .wrapping_mul(times)
         .wrapping_sub(pivot.value.wrapping_mul(less));
-    row.value = over(value, common);
+    let other = pivot.nums.items();
+    let lost = if are_narrow(row, pivot, times, less) {
+        combine_words(row, word(times), other, word(less))?
+    } else {
+        combine_wide(row, times, other, less)?
+    };
+    row.value = over(value, lost);
     Some(())
 }
 
-/// The greatest common divisor of a denominator and of numbers.
-fn shared_of(nums: &[i64], whole: u128) -> u128 {
-    let mut shared = whole;
-    for e in 0..nums.len() {
-        if shared != 1 && nums[e] != 0 {
-            shared = gcd(nums[e].unsigned_abs() as u128, shared);
+/// The greatest common divisor of numbers and one more.
+fn shared_of(nums: &[i64], one: u64) -> u64 {
+    let mut shared = one;
+    for num in nums {
+        if shared == 1 {
+            return 1;
         }
+        shared = common(num.unsigned_abs(), shared);
     }
     shared
 }
 
 /// Divides each number.
-fn divide(nums: &mut [i64], by: u128) {
+fn divide(nums: &mut [i64], by: i64) {
     for e in 0..nums.len() {
-        nums[e] = word(over(nums[e] as i128, by));
+        nums[e] = word_over(nums[e], by);
     }
 }
 
 /// The row of the column that has entered; `None` where its product is too wide.
 pub(crate) fn enter(row: &mut KeptRow, slot: Slot) -> Option<()> {
     let whole = row.product.unsigned_abs();
-    let shared = shared_of(row.nums.items(), whole);
-    if part(whole, shared) >= WIDE {
+    let shared = gcd(shared_of(row.nums.items(), 0) as u128, whole);
+    if shared >= WIDE || part(whole, shared) >= WIDE {
         return None;
     }
-    divide(row.nums.items_mut(), shared);
+    divide(row.nums.items_mut(), word(shared as i128));
     row.slot = slot;
     row.den = word(over(row.product, shared));
     row.value = over(row.value, shared);
