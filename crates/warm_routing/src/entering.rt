@@ -40,7 +40,7 @@ fn slope_of(shortage: &Shortage, keys: &[Path], shares: &[Share], waiting: &Wait
         waiting.demand,
         waiting.path.items(),
     );
-    if is_counted(shares, waiting.demand) {
+    if slope < 0 && is_counted(shares, waiting.demand) {
         slope.wrapping_add(shortage.den)
     } else {
         slope

@@ -13,7 +13,7 @@ use crate::one_row::{Aim, aimed, clear, set_weights};
 use crate::routing::routing_of;
 use crate::row::set_values;
 use crate::searching::{Waiting, collect, given, set_lengths};
-use crate::share::{Share, set_losses, shares_of};
+use crate::share::{Share, no_places, set_losses, shares_of};
 use crate::shortage::{Shortage, is_short, short_in_all, shortage_of};
 use crate::start::{bounds_of, first_basis, needs_of};
 use crate::turning::{set_products, turn};
@@ -37,6 +37,8 @@ struct Question {
     bounds: List<i128>,
     needs: List<i128>,
     waiting: List<Waiting>,
+    /// Room for the places of the demands' shares.
+    places: List<usize>,
     reach: Reach,
     /// Whether one row counts alone, and searches take all links.
     alone: bool,
@@ -253,7 +255,8 @@ fn advance(
     ensures { IfOk result (IsSoundStep (graph_of task.now.graph) task.now.demands.now task.now.caps.now) }
 {
     let needs = question.needs.items();
-    let Some(mut shares) = shares_of(alloc, basis.rows.items_mut(), needs)? else {
+    let places = question.places.items_mut();
+    let Some(mut shares) = shares_of(alloc, basis.rows.items_mut(), needs, places)? else {
         return Ok(Step::GivenUp);
     };
     let shares = shares.items_mut();
@@ -309,7 +312,8 @@ impl WarmRouter {
         let rest = self.basis.rest(self.alloc, bounds.items(), needs.items())?;
         let rows = self.basis.rows.items_mut();
         set_values(rows, rest.items());
-        match shares_of(self.alloc, rows, needs.items())? {
+        let mut places = no_places(self.alloc, needs.items())?;
+        match shares_of(self.alloc, rows, needs.items(), places.items_mut())? {
             Some(shares) => Ok(Some(short_in_all(rows, shares.items()))),
             None => Ok(None),
         }
@@ -339,10 +343,12 @@ impl WarmRouter {
         let needs = needs_of(self.alloc, task)?;
         let rest = self.basis.rest(self.alloc, bounds.items(), needs.items())?;
         set_values(self.basis.rows.items_mut(), rest.items());
+        let places = no_places(self.alloc, needs.items())?;
         Ok(Question {
             bounds,
             needs,
             waiting: List::new(self.alloc),
+            places,
             reach,
             alone: false,
         })

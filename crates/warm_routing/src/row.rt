@@ -60,7 +60,7 @@ fn common_of(nums: &[i64], den: u64) -> u64 {
             return 1;
         }
         if nums[e] != 0 {
-            shared = common(shared, nums[e].unsigned_abs());
+            shared = common(nums[e].unsigned_abs(), shared);
         }
     }
     shared

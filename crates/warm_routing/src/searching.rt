@@ -23,6 +23,8 @@ pub(crate) struct Waiting {
 #[derive(Drop)]
 pub(crate) struct Found {
     pub waiting: List<Waiting>,
+    /// The place of the waiting path of least gain, once as many wait as may.
+    least: usize,
     pub asked: i128,
 }
 
@@ -162,17 +164,26 @@ fn least_of(waiting: &[Waiting]) -> usize {
     at
 }
 
-/// Whether a path of this gain is to wait; where too many wait then, the one of least gain makes room.
-fn makes_room(waiting: &mut List<Waiting>, gain: i128) -> bool {
-    if waiting.len() < MOST {
-        return true;
+/// Whether a path of this gain is to wait: fewer wait than may, or one of less gain does.
+fn may_wait(found: &Found, gain: i128) -> bool {
+    let waiting = found.waiting.items();
+    waiting.len() < MOST || (found.least < waiting.len() && waiting[found.least].gain < gain)
+}
+
+/// Lets a path wait, in the place of the one of least gain where too many would.
+fn let_wait(found: &mut Found, path: Waiting) -> Result<(), NoMemory> {
+    if found.waiting.len() < MOST {
+        found.waiting.push(path)?;
+    } else {
+        let all = found.waiting.items_mut();
+        if found.least < all.len() {
+            all[found.least] = path;
+        }
     }
-    let at = least_of(waiting.items());
-    if at < waiting.len() && waiting.items()[at].gain < gain {
-        waiting.remove(at);
-        return true;
+    if found.waiting.len() >= MOST {
+        found.least = least_of(found.waiting.items());
     }
-    false
+    Ok(())
 }
 
 /// Adds a demand's cheapest path to or from the root of a search, if it is cheaper than the key.
@@ -195,7 +206,7 @@ fn offer(
         return Ok(());
     }
     let gain = (ask.price.wrapping_sub(cheapest) as i128).wrapping_mul(ask.need);
-    if makes_room(&mut found.waiting, gain) {
+    if may_wait(found, gain) {
         let path = if ends_there {
             reach.path(alloc, ask.from)?
         } else {
@@ -203,7 +214,7 @@ fn offer(
         };
         let demand = ask.demand;
         if let Some(path) = path {
-            found.waiting.push(Waiting { demand, path, gain })?;
+            let_wait(found, Waiting { demand, path, gain })?;
         }
     }
     Ok(())
@@ -252,6 +263,7 @@ pub(crate) fn collect(
     set_arcs(reach.arcs_mut(), shortage.slopes.items());
     let mut found = Found {
         waiting: List::from_vec(Vec::with_capacity(alloc, MOST)?),
+        least: 0,
         asked: 0,
     };
     for _ in 0..task.graph.net.nodes().len() {

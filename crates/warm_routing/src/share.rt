@@ -103,19 +103,34 @@ fn add_row(
     Ok(None)
 }
 
+/// No demand has a share: the list that `shares_of` is lent, and leaves as it was.
+pub(crate) fn no_places(alloc: Global, needs: &[i128]) -> Result<List<usize>, NoMemory> {
+    List::filled(alloc, usize::MAX, needs.len())
+}
+
+/// Takes the places of shares out of a list again.
+fn clear_places(places: &mut [usize], shares: &[Share]) {
+    for share in shares {
+        if share.demand < places.len() {
+            places[share.demand] = usize::MAX;
+        }
+    }
+}
+
 /// What is left to the key of each demand that has rows; `None` where a number is too wide. Each row gets the place of its demand's.
 pub(crate) fn shares_of(
     alloc: Global,
     rows: &mut [BasisRow],
     needs: &[i128],
+    places: &mut [usize],
 ) -> Result<Option<List<Share>>, NoMemory> {
     let mut shares = List::from_vec(Vec::with_capacity(alloc, rows.len())?);
-    let mut places = List::filled(alloc, usize::MAX, needs.len())?;
     for i in 0..rows.len() {
-        if add_row(&mut shares, places.items_mut(), &mut rows[i], needs)?.is_none() {
+        if add_row(&mut shares, places, &mut rows[i], needs)?.is_none() {
             return Ok(None);
         }
     }
+    clear_places(places, shares.items());
     Ok(Some(shares))
 }
 
