@@ -113,12 +113,12 @@ fn mix(nums: &mut [i64], times: i128, other: &[i64], less: i128, shared: u128) {
     }
 }
 
-/// The greatest common divisor of two words.
+/// The greatest common divisor of two words below 2^62.
 fn common(a: u64, b: u64) -> u64 {
     if b != 0 && a % b == 0 {
         b
     } else {
-        word(gcd(a as u128, b as u128) as i128).unsigned_abs()
+        gcd(a as u128, b as u128).min(WIDE) as u64
     }
 }
 
