@@ -1,7 +1,7 @@
 ghost use Rattle.std.specs.Prelude.{◌≡◌, ◌+◌, ◌*◌, ◌<◌, ◌≤◌, IfOk, length};
 
 use crate::crossing::{Crossing, NOTHING};
-use net_core::{LinkId, NoMemory, NodeId, RouteTask};
+use net_core::{Link, LinkId, NoMemory, NodeId, RouteTask};
 use std::alloc::Global;
 
 /// What runs between each two nodes of a surviving graph, and between each node and all others. It takes 32 bytes
@@ -25,6 +25,27 @@ fn row_start(nodes: u32, node: NodeId) -> usize
     ensures room { result + nodes ≤ nodes * nodes }
 {
     (node.0 * nodes) as usize
+}
+
+/// Takes from what runs from one node to another.
+fn take_one(nodes: u32, pairs: &mut [Crossing], from: NodeId, to: NodeId, less: &Crossing)
+    requires few { nodes ≤ 128 }
+    requires size { length pairs.old ≡ nodes * nodes }
+    requires from { from.0 < nodes }
+    requires to { to.0 < nodes }
+    ensures { length pairs.new ≡ length pairs.old }
+{
+    let place = row_start(nodes, from) + to.0 as usize;
+    pairs[place] = pairs[place].minus(less);
+}
+
+/// A copy of what runs.
+fn copied(alloc: Global, items: &[Crossing]) -> Result<Vec<Crossing>, NoMemory>
+    ensures { IfOk result (λ copy. length copy.items ≡ length items.now) }
+{
+    let mut copy = Vec::with_capacity(alloc, items.len())?;
+    copy.extend_from_slice(items)?;
+    Ok(copy)
 }
 
 /// Adds what runs from one node to another.
@@ -109,6 +130,54 @@ impl PairTable {
         let mut table = PairTable::bare(alloc, task.graph.net.nodes().len() as u32)?;
         table.add_links(task);
         table.add_demands(task);
+        Ok(table)
+    }
+
+    /// A copy of the table.
+    fn copy(&self, alloc: Global) -> Result<PairTable, NoMemory>
+        ensures { IfOk result (λ t. t.nodes ≡ self.now.nodes) }
+    {
+        let pairs = copied(alloc, &self.pairs)?;
+        let totals = copied(alloc, &self.totals)?;
+        Ok(PairTable {
+            nodes: self.nodes,
+            pairs,
+            totals,
+        })
+    }
+
+    /// Takes away what runs between two nodes.
+    fn take(&mut self, a: NodeId, b: NodeId, less: Crossing)
+        requires first { a.0 < self.old.nodes }
+        requires second { b.0 < self.old.nodes }
+        ensures { self.new.nodes ≡ self.old.nodes }
+    {
+        take_one(self.nodes, &mut self.pairs, a, b, &less);
+        take_one(self.nodes, &mut self.pairs, b, a, &less);
+        let first = a.0 as usize;
+        let second = b.0 as usize;
+        self.totals[first] = self.totals[first].minus(&less);
+        self.totals[second] = self.totals[second].minus(&less);
+    }
+
+    /// The table without one link. It takes a copy.
+    pub(crate) fn without(
+        &self,
+        alloc: Global,
+        link: &Link,
+        num: u128,
+    ) -> Result<PairTable, NoMemory>
+        requires first { link.now.a.0 < self.now.nodes }
+        requires second { link.now.b.0 < self.now.nodes }
+        ensures { IfOk result (λ t. t.nodes ≡ self.now.nodes) }
+    {
+        let mut table = self.copy(alloc)?;
+        let less = Crossing {
+            links: 1,
+            capacity: num,
+            demand: 0,
+        };
+        table.take(link.a, link.b, less);
         Ok(table)
     }
 

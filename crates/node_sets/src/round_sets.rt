@@ -1,4 +1,4 @@
-ghost use Rattle.std.specs.Prelude.{◌<◌, IfOk, IfSome, length};
+ghost use Rattle.std.specs.Prelude.{◌≡◌, ◌<◌, IfOk, IfSome, length};
 ghost use Rattle.plan_terms.specs.Terms.{graph_of};
 ghost use Rattle.node_sets.specs.Boundaries.{IsBoundaryCut};
 ghost use Rattle.node_sets.specs.inner.NarrowCaps.{AreNarrow};
@@ -14,11 +14,13 @@ use metric_cut::Cut;
 use net_core::{Link, LinkId, NoMemory, NodeId, RouteTask};
 use std::alloc::Global;
 
-/// The sets that grow from each node of a network where no link fails, for all states that are asked at the same capacities. It takes
-/// 24 bytes times the square of the nodes.
+/// The sets that grow from each node of a network where no link fails, for all states that are asked at the same capacities, and what runs
+/// between its nodes. It takes 56 bytes times the square of the nodes.
 #[derive(Drop)]
 pub struct RoundSets {
     sets: Vec<Found>,
+    /// What runs where no link fails; `None` where numbers are too wide.
+    table: Option<PairTable>,
 }
 
 impl TakesSets for RoundSets {
@@ -37,12 +39,14 @@ impl RoundSets {
     {
         let mut sets = RoundSets {
             sets: Vec::new(alloc),
+            table: None,
         };
         if are_narrow(task) {
             let table = PairTable::new(alloc, task)?;
             for k in 0..table.nodes() {
                 grow_from(alloc, &table, NodeId(k), None, &mut sets)?;
             }
+            sets.table = Some(table);
         }
         Ok(sets)
     }
@@ -108,11 +112,31 @@ fn offer_crossed(
     Ok(())
 }
 
+/// What runs between the nodes where the state fails one link.
+fn table_without(
+    alloc: Global,
+    task: &RouteTask,
+    whole: Option<&PairTable>,
+    link: &Link,
+    num: u128,
+) -> Result<PairTable, NoMemory>
+    requires first { link.now.a.0 < length task.now.graph.net.now.nodes }
+    requires second { link.now.b.0 < length task.now.graph.net.now.nodes }
+    ensures { IfOk result (λ t. t.nodes ≡ length task.now.graph.net.now.nodes) }
+{
+    match whole {
+        Some(table) if table.nodes() as usize == task.graph.net.nodes().len() => {
+            table.without(alloc, link, num)
+        }
+        _ => PairTable::new(alloc, task),
+    }
+}
+
 /// The cut of the deepest set whose boundary the link crosses that the state fails.
 fn crossed_set(
     alloc: Global,
     task: &RouteTask,
-    sets: &[Found],
+    sets: &RoundSets,
     failed: LinkId,
 ) -> Result<Option<Cut>, NoMemory>
     requires narrow { AreNarrow task.now.caps.now }
@@ -121,9 +145,10 @@ fn crossed_set(
 {
     let at = failed.0 as usize;
     let link = &task.graph.net.links().items()[at];
-    let table = PairTable::new(alloc, task)?;
+    let num = task.caps.nums.items()[at];
+    let table = table_without(alloc, task, sets.table.as_ref(), link, num)?;
     let mut deepest = Deepest::new(alloc, table.nodes(), task.caps.scale);
-    offer_crossed(sets, link, task.caps.nums.items()[at], &mut deepest)?;
+    offer_crossed(&sets.sets, link, num, &mut deepest)?;
     grow_from(alloc, &table, link.a, Some(link.b), &mut deepest)?;
     grow_from(alloc, &table, link.b, Some(link.a), &mut deepest)?;
     cut_of_chosen(alloc, task, &deepest)
@@ -148,6 +173,6 @@ pub fn round_set(alloc: Global, task: &RouteTask, sets: &RoundSets) -> Result<Op
     match first_failed(task) {
         None => whole_set(alloc, task, &sets.sets),
         Some(link) if fails_another(task, link) => grown_set(alloc, task),
-        Some(link) => crossed_set(alloc, task, &sets.sets, link),
+        Some(link) => crossed_set(alloc, task, sets, link),
     }
 }
