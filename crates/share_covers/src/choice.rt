@@ -77,11 +77,15 @@ fn decided(
 /// On three parallel links of modules of 1.00 for 1.00 the fallback plan for a demand of 10.00 costs 20.00; for a share of 5000 units on
 /// each link the covers are chosen, five modules each for 15.00.
 ///
-/// Where the quality is tight, each state has the greedy routing within the covers if that carries all demands, else the share's: this fits as
-/// well, over a denominator that is the share's scale times as large, in lowest terms. It takes time and memory as `cover_share` does, as
-/// `greedy` of `greedy_router` for each state, and in the length of the share's routings. Where the quality is loose, where one of these
-/// denominators is 2^62 or more, or where such a routing has more flows than there are links and demands together, it takes time and memory
-/// as `route_installed` does beside that.
+/// Where the quality is tight, the state without failures has the greedy routing within the covers if that carries all demands, else the
+/// share's: this fits as well, over a denominator that is the share's scale times as large, in lowest terms. Each other state keeps the flows
+/// of that routing that no failure stops, and what is missing goes along paths of fewest links with room; where that doesn't carry all
+/// demands, it is routed as the state without failures is.
+///
+/// It takes time and memory as `cover_share` does, as `greedy` of `greedy_router` in the state without failures and as `mended` of
+/// `flow_mending` in each other one, there at most as `greedy` beside that, and in the length of the share's routings. Where the quality is
+/// loose, where a denominator of the share's routings is 2^62 or more, or where such a routing has more flows than there are links and demands
+/// together, it takes time and memory as `route_installed` does beside that.
 pub fn choose(
     alloc: Global,
     instance: &Instance,

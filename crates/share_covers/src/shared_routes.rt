@@ -133,13 +133,15 @@ fn mended_or_anew(
     greedy_or_shared(alloc, instance, state, caps, shared, scale)
 }
 
-/// Routings within counts that cover a share: in each state the greedy one where it carries all demands, else the share's, with the same flows
-/// over a denominator that is the share's scale times as large, in lowest terms. `None` where a state's routing of the share is needed, and has
-/// more flows than there are links and demands together, or a denominator of 2^62 or more.
+/// Routings within counts that cover a share. The state without failures has the greedy one where it carries all demands, else the share's,
+/// with the same flows over a denominator that is the share's scale times as large, in lowest terms. Each other state has that of the state
+/// without failures, mended where links fail, if it carries all demands then; else its own greedy one or the share's, found in the same way.
+/// `None` where a state's routing of the share is needed, and has more flows than there are links and demands together, or a denominator of
+/// 2^62 or more.
 ///
 /// Where 10000 units over the scale 3 are 10000/3 of capacity, a flow of 10000 over the denominator 1 fits, and stands for 10000/3 of a
-/// demand: it becomes one of 10000 over the denominator 3. It takes time and memory as `greedy` does, for each state, and in the length
-/// of the routings.
+/// demand: it becomes one of 10000 over the denominator 3. It takes time and memory as `greedy` does in the state without failures, as `mended`
+/// in each other state, there also as `greedy` where the mended routing doesn't carry all, and in the length of the routings.
 fn routes_of_share(
     alloc: Global,
     instance: &Instance,
