@@ -31,7 +31,7 @@ pub fn add_first(
     add_items(spots, room, &mut candidates.spots)
 }
 
-/// Takes off the cuts that came after the first so many, with their spots.
+/// Takes off the cuts after a number of first ones, with their spots.
 pub fn take_back(alloc: Global, count: usize, candidates: &mut Candidates) -> Result<(), NoMemory>
     ensures lines { OnOk result (candidates.new.lines ≡ take count candidates.old.lines) }
     ensures spots { OnOk result (candidates.new.spots ≡ take count candidates.old.spots) }

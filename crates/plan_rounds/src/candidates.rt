@@ -12,7 +12,7 @@ use plan_types::Spot;
 use separator::{Separate, line_of};
 use std::alloc::Global;
 
-/// The cuts of a planning so far, each with the spot where it stands: as many spots as lines.
+/// The cuts of a planning so far, each with its spot: as many spots as lines.
 #[derive(Drop)]
 pub struct Candidates {
     pub lines: List<CutLine>,
@@ -38,7 +38,7 @@ fn is_same(a: &CutLine, b: &CutLine) -> bool
     a.state == b.state && a.lengths.items() == b.lengths.items()
 }
 
-/// Whether a cut stands among others.
+/// Whether a cut is among others.
 fn stands(lines: &[CutLine], line: &CutLine) -> bool
     ensures there { IsTrue result → HasCut lines.now line.now.state.0 line.now.lengths }
     ensures lacks { result ≡ false → Lacks lines.now line.now }
@@ -51,7 +51,7 @@ fn stands(lines: &[CutLine], line: &CutLine) -> bool
     false
 }
 
-/// Puts a line after the others, with its spot, unless its cut stands among them.
+/// Puts a line after the others, with its spot, unless its cut is among them.
 fn put_line(line: CutLine, spot: Spot, candidates: &mut Candidates) -> Result<(), NoMemory>
     ensures { OnOk result (PutsLine line spot candidates.old candidates.new) }
 {
@@ -63,7 +63,7 @@ fn put_line(line: CutLine, spot: Spot, candidates: &mut Candidates) -> Result<()
     Ok(())
 }
 
-/// Admits a cut to the pool, and puts it after the others, unless it stands among them.
+/// Admits a cut to the pool, and puts it after the others, unless it is among them.
 pub fn take_cut<S: Separate>(
     instance: &Instance,
     cut: Cut,

@@ -32,19 +32,19 @@ use std::alloc::Global;
 /// So many cuts are added at most.
 const MOST_ADDED: usize = 4096;
 
-/// What the rounds of a planning come to.
+/// How the rounds of a planning end.
 #[derive(Drop)]
 pub struct Worked {
     /// The pool's cuts, and then those that were added.
     pub lines: List<CutLine>,
-    /// Where each of them stands.
+    /// The spot of each of them.
     pub spots: List<Spot>,
     /// The best certificate, if there is one: that of these cuts, or, where theirs is too wide, that of the cuts before the last round.
     pub best: Option<Best>,
     pub quality: Quality,
 }
 
-/// What one turn of the rounds comes to.
+/// How one turn of the rounds ends.
 #[derive(Drop)]
 pub enum Turn {
     /// It has found further cuts at the share of this certificate.
@@ -202,7 +202,7 @@ fn ask<S: Separate>(
 }
 
 /// One turn where the certificate of the cuts so far is too wide, by this evidence: further ones come at the capacities of their least
-/// shares, until a certificate isn't, and then a turn at that one. Where none comes to be, the end at the cuts as they are.
+/// shares, until a certificate isn't, and then a turn at that one. Where there never is one, the end at the cuts as they are.
 fn turn_past_wide<S: Separate>(
     alloc: Global,
     instance: &Instance,
@@ -279,7 +279,7 @@ fn take_turn<S: Separate>(
     }
 }
 
-/// Turn by turn, until one is the last; the list may grow to so many cuts.
+/// Turn by turn, until one is the last; the list may grow to `most` cuts.
 fn turns<S: Separate>(
     alloc: Global,
     instance: &Instance,

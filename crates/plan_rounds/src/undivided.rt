@@ -17,7 +17,7 @@ fn multiply(flows: &mut [Flow], factor: u64)
     }
 }
 
-/// The same of a list.
+/// Multiplies each flow of a list by a factor.
 fn multiply_list(flows: &mut List<Flow>, factor: u64)
     requires { All (λ f. factor * f.num < 2 ^ 124) flows.old }
     ensures { flows.new ≡ map (flow_times factor) flows.old }
@@ -41,7 +41,7 @@ fn undivided(routing: Routing, divisor: u64) -> Routing
     }
 }
 
-/// The same of routings.
+/// Routings in lowest terms within capacities over a divisor, as ones in lowest terms within the capacities themselves.
 pub fn undivided_all(
     alloc: Global,
     routings: List<Routing>,

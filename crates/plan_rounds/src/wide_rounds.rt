@@ -69,7 +69,7 @@ fn add_round<S: Separate>(
 }
 
 /// Rounds of cuts at least shares whose units are too wide, until a certificate isn't: that one, and `None` where no further cut is found,
-/// capacities are too wide too, or there is no room; the list may grow to so many cuts.
+/// capacities are too wide too, or there is no room; the list may grow to `most` cuts.
 pub(crate) fn pass_wide<S: Separate>(
     alloc: Global,
     instance: &Instance,

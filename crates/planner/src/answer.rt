@@ -2,7 +2,7 @@ use failure_states::Separation;
 use net_core::{Copied, Demands, NoMemory};
 use plan_types::Plan;
 
-/// What planning comes to.
+/// How planning ends.
 #[derive(Drop)]
 pub enum PlanAnswer {
     Planned(Plan),

@@ -26,7 +26,7 @@ fn line_of_multiplier(m: Multiplier, worked: &Worked) -> Result<CertLine, NoMemo
     })
 }
 
-/// The lines of a certificate, each with the spot where its cut stands.
+/// The lines of a certificate, each with the spot of its cut.
 fn lines_of_multipliers(
     alloc: Global,
     multipliers: &[Multiplier],

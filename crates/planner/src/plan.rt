@@ -7,7 +7,7 @@ use net_core::Demands;
 use plan_types::Plan;
 use share_covers::Chosen;
 
-/// Where a plan stands: the version of the demands, and the position in the history.
+/// The place of a plan in the history: the version of the demands, and the position.
 #[derive(Clone, Copy)]
 pub struct Standing {
     pub version: u64,

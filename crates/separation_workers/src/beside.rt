@@ -92,7 +92,7 @@ fn find_some<G: Gate>(gate: &G, round: &Round, work: &Work) -> Result<Vec<StateF
     Ok(found)
 }
 
-/// What this thread and so many helpers find, each on a thread of its own. A worker takes the next state that nobody has taken, so
+/// What this thread and a number of helpers find, each on a thread of its own. A worker takes the next state that nobody has taken, so
 /// that one slow state holds nobody up. Where a thread can't be started, its work is done by this one.
 fn find_beside<R: Threads, G: Gate + Sync>(
     rt: &R,

@@ -2,7 +2,7 @@ use outside_io::{Gate, RoundFigures, TreeFigures};
 use std::sync::atomic::{AtomicU64, Ordering};
 use std::thread;
 
-/// How often a held worker looks whether it may go on. Where nobody lets it, it goes on after so many looks.
+/// How often a held worker looks whether it may go on. Where nobody lets it, it goes on after this number of looks.
 const LOOKS: u64 = 1 << 22;
 
 /// A hold on the worker that has one state of a round, until a worker has solved another one. It shows that workers go on beside each

@@ -115,7 +115,7 @@ fn put_answer(
     Ok(())
 }
 
-/// Puts what is answered of states at hand into the pool where it is a cut, and the others to `others`. The cuts are answered.
+/// Puts what is answered of the states that were asked into the pool where it is a cut, and the others to `others`. The cuts are answered.
 fn answer_places<R: Wait, G: Gate>(
     rt: &R,
     gate: &G,

@@ -101,7 +101,7 @@ impl<'r, 'd, 'a, R, G> Workers<'r, 'd, 'a, R, G> {
     }
 }
 
-/// A place for what is kept of each of so many states.
+/// A place for what is kept of each of a number of states.
 fn reach(alloc: Global, kept: &mut List<KeptState>, states: u32) -> Result<(), NoMemory> {
     for _ in kept.len()..states as usize {
         kept.push(Mutex::new(KnownState::new(alloc)))?;
@@ -109,7 +109,7 @@ fn reach(alloc: Global, kept: &mut List<KeptState>, states: u32) -> Result<(), N
     Ok(())
 }
 
-/// What stands at the place of a state, taken out of it.
+/// What is kept at the place of a state, taken out of it.
 fn taken(round: &Round, places: &mut [Option<StateFound>], state: StateId) -> Option<StateFound>
     requires { AreFound round.now places.old }
     ensures found { IfSome result (IsStateFound round.now) }

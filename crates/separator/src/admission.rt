@@ -24,7 +24,7 @@ pub fn line_of(cut: &Cut, demands: &Demands) -> Result<CutLine, NoMemory>
     })
 }
 
-/// Where a cut stands after a board's answer to it.
+/// The place of a cut in the pool after a board's answer to it.
 pub fn spot_after(answer: AdmitAnswer) -> Result<Spot, NoMemory>
     ensures { IsSpotAfter answer result }
 {
@@ -37,7 +37,7 @@ pub fn spot_after(answer: AdmitAnswer) -> Result<Spot, NoMemory>
     }
 }
 
-/// Admits a cut to the board's pool, where there is room for it, and says where it stands.
+/// Admits a cut to the board's pool, where there is room for it, and tells its place there.
 pub fn spot_of(board: &mut Board, cut: Cut) -> Result<Spot, NoMemory>
     requires { IsCutOf (graph board.old.net.now board.old.states.now cut.state.0) cut }
     ensures only { PoolsOnly board.old board.new (state_and_lengths cut) }
@@ -47,7 +47,7 @@ pub fn spot_of(board: &mut Board, cut: Cut) -> Result<Spot, NoMemory>
     spot_after(board.admit(cut))
 }
 
-/// The line of a cut of the board's network and states, and where it stands, once it is admitted where there is room for it.
+/// The line of a cut of the board's network and states, and its place in the pool, once it is admitted where there is room for it.
 pub fn line_and_spot(
     demands: &Demands,
     cut: Cut,

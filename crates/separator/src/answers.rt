@@ -6,7 +6,7 @@ use plan_types::Spot;
 pub enum Separated {
     /// This routing carries them.
     Routed(Routing),
-    /// The capacities violate this cut, whose right side is that of the demands; it stands there.
+    /// The capacities violate this cut, whose right side is that of the demands; it is in the pool at that place.
     Violated(CutLine, Spot),
     /// It isn't known: a number of this basis is too wide.
     Wide(Evidence),

@@ -12,7 +12,7 @@ use node_sets::{grown_set, threshold_set};
 use std::alloc::Global;
 use warm_routing::{WarmAnswer, WarmRouter};
 
-/// A kept basis is given so many turns. A first one takes some thousands where there are thousands of demands, and then too that is less work
+/// How many turns a kept basis is given. A first one takes some thousands where there are thousands of demands, and then too that is less work
 /// than the routing program.
 const TURNS: u32 = 6_000;
 
@@ -140,7 +140,7 @@ fn separate_task_warm(
 /// In the triangle AB, BC, AC with 6.00, 1.999 and 10.00 the demands of 12.00 from A to C and of 4.00 from A to B aren't routed: the
 /// links at C have 11.999 together, and the cut has the lengths 0, 1, 1.
 ///
-/// `known` are columns at hand, whatever they are. Where a routing program is solved, they become those that it ends with, of which
+/// `known` are columns that are known, whatever they are. Where a routing program is solved, they become those that it ends with, of which
 /// nothing is promised; where memory runs out, they stay as they are.
 ///
 /// It takes the time and memory of `route_task`, and time in the cube of the nodes.

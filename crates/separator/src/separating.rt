@@ -23,7 +23,7 @@ pub trait Separate {
     /// The history that it has seen, and the entries in it that it has committed, in their order.
     ghost seen_of: { Self → Seen Entry };
 
-    /// Puts a cut of the network and the states into the pool, if it isn't there and there is room for it, and says where it stands.
+    /// Puts a cut of the network and the states into the pool, if it isn't there and there is room for it, and tells its place.
     /// Out of memory, it may have seen more of the history all the same.
     fn admit(&mut self, cut: Cut) -> Result<Spot, NoMemory>
         requires { IsCutOf (graph (frame self.old).network (frame self.old).states cut.state.0) cut }
@@ -71,6 +71,6 @@ pub trait Separate {
     /// Takes note of where the planning is, at the end of a round. No answer depends on it.
     fn note(&self, figures: RoundFigures);
 
-    /// What has been seen keeps the limits of a history, and the own entries stand in it.
+    /// What has been seen keeps the limits of a history, and the own entries are in it.
     ghost seen: { (s : Self) → ∥ IsSeenHistory (frame s).network (frame s).states (seen_of s) ∥₁ };
 }

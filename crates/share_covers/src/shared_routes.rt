@@ -139,7 +139,7 @@ fn mended_or_anew(
 /// `None` where a state's routing of the share is needed, and has more flows than there are links and demands together, or a denominator of
 /// 2^62 or more.
 ///
-/// Where 10000 units over the scale 3 are 10000/3 of capacity, a flow of 10000 over the denominator 1 fits, and stands for 10000/3 of a
+/// Where 10000 units over the scale 3 are 10000/3 of capacity, a flow of 10000 over the denominator 1 fits, and carries 10000/3 of a
 /// demand: it becomes one of 10000 over the denominator 3. It takes time and memory as `greedy` does in the state without failures, as `mended`
 /// in each other state, there also as `greedy` where the mended routing doesn't carry all, and in the length of the routings.
 fn routes_of_share(

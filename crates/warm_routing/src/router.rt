@@ -354,7 +354,7 @@ impl WarmRouter {
         })
     }
 
-    /// Whether capacities carry the demands in a state; `None` where it isn't known: after so many turns, where a number is too wide, and
+    /// Whether capacities carry the demands in a state; `None` where it isn't known: after `turns` turns, where a number is too wide, and
     /// where neither a set of nodes nor a row of the basis shows why not.
     ///
     /// Each turn takes time in the square of the links, and some take a search from each node; a cut takes the time of `threshold_set`
