@@ -4,7 +4,7 @@ ghost use Rattle.net_core.specs.Terms.{AreDemands};
 
 use crate::problems::{Place, TRIANGLE, discard, place_of};
 use cut_pool::Board;
-use net_core::{Demands, Network, NoMemory, States};
+use net_core::{Demands, Module, Network, NoMemory, States};
 use plan_types::{Plan, Quality, Spot};
 use planner::{PlanAnswer, plan_snapshot};
 use separator::OneByOne;
@@ -134,6 +134,81 @@ const MANY: [SinglesRow; 2] = [
         Some((
             (48000, (48000, 1), 48000, true),
             Some((7, 24, [0, 0, 0, 0])),
+        )),
+    ),
+];
+
+/// Two modules for 161.000. Their capacities are prime.
+const LOWER: [Module; 1] = [Module {
+    capacity: 1000000007,
+    cost: 161000,
+}];
+
+const HIGHER: [Module; 1] = [Module {
+    capacity: 1000000009,
+    cost: 161000,
+}];
+
+/// The same bundles with four links of either module.
+const PRIME_BUNDLES: [LinkRow; 24] = [
+    (0, 1, 0, &LOWER),
+    (0, 1, 0, &LOWER),
+    (0, 1, 0, &LOWER),
+    (0, 1, 0, &LOWER),
+    (0, 1, 0, &HIGHER),
+    (0, 1, 0, &HIGHER),
+    (0, 1, 0, &HIGHER),
+    (0, 1, 0, &HIGHER),
+    (1, 2, 0, &LOWER),
+    (1, 2, 0, &LOWER),
+    (1, 2, 0, &LOWER),
+    (1, 2, 0, &LOWER),
+    (1, 2, 0, &HIGHER),
+    (1, 2, 0, &HIGHER),
+    (1, 2, 0, &HIGHER),
+    (1, 2, 0, &HIGHER),
+    (2, 3, 0, &LOWER),
+    (2, 3, 0, &LOWER),
+    (2, 3, 0, &LOWER),
+    (2, 3, 0, &LOWER),
+    (2, 3, 0, &HIGHER),
+    (2, 3, 0, &HIGHER),
+    (2, 3, 0, &HIGHER),
+    (2, 3, 0, &HIGHER),
+];
+
+/// The first cuts have a least share of 3 / 23 of the demand on each link, whose units are over 23 and both primes: more than 2^62. At these
+/// capacities each failure finds the cut of its own bundle, and with those each link has 1 / 7 of the demand.
+///
+/// Of the first demand that is 1000000.000, in units over both primes, and the share costs 12 * 161000 * 10^9 * (1 / 1000000007 + 1 / 1000000009),
+/// a little less than a module on each link, which covers it. A cut has the multiplier 23000 * (4 / 1000000009 - 3 / 1000000007) where a lower
+/// module fails, and the other way round.
+///
+/// The units of a seventh of the second demand are over 7 and both primes, again more than 2^62, and no failure finds a further cut. So the
+/// planning ends as without these rounds: with the first cut alone, at 161000 / 1000000009 for three times the demand, and with the fallback
+/// plan, seven modules on each of two links of a bundle.
+const WIDE_SHARES: [SinglesRow; 2] = [
+    (
+        4,
+        &PRIME_BUNDLES,
+        (0, 3, 7000000000),
+        Some((
+            (
+                3864000,
+                (3864000030912000000000000, 1000000016000000063),
+                3864000,
+                true,
+            ),
+            Some((1000000016000000063, 24, [0, 0, 0, 0])),
+        )),
+    ),
+    (
+        4,
+        &PRIME_BUNDLES,
+        (0, 3, 7000000001),
+        Some((
+            (6762000, (3381000000483000, 1000000009), 3381000, false),
+            Some((1000000009, 1, [161000, 0, 0, 0])),
         )),
     ),
 ];
@@ -281,6 +356,13 @@ fn a_certificate_names_the_pooled_cuts_of_the_failures(rt: HostRuntime) {
 #[test]
 fn many_links_that_fail_alone_have_tight_plans(rt: HostRuntime) {
     for row in &MANY {
+        assert!(rt; is_planned_with_singles(rt.alloc(), row));
+    }
+}
+
+#[test]
+fn rounds_at_wide_shares_lead_on_to_narrow_ones(rt: HostRuntime) {
+    for row in &WIDE_SHARES {
         assert!(rt; is_planned_with_singles(rt.alloc(), row));
     }
 }
