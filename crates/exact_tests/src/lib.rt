@@ -1,4 +1,4 @@
-//! Tests of exact fractions, of the simplex over packing programs, and of the greatest flows over paths.
+//! Tests of exact fractions, of the simplex over packing programs, of rows of bases as cuts, and of the greatest flows over paths.
 #![tactic(auto)]
 
 #[cfg(test)]

@@ -1,6 +1,7 @@
 use net_core::{
     Caps, LinkId, List, NoMemory, Path, Problem, RouteColumn, RouteTask, StateId, Surviving,
 };
+use row_cuts::row_cut;
 use row_prices::{PathRow, priced_numbers};
 use std::alloc::Global;
 use worked_networks::{DemandRow, LinkRow, TEN, network, problem};
@@ -259,5 +260,97 @@ fn is_met(alloc: Global, case: &Case) -> bool {
 fn priced_rows(rt: HostRuntime) {
     for i in 0..CASES.len() {
         assert!(rt; is_met(rt.alloc(), &CASES[i]));
+    }
+}
+
+/// A row that asks for 12.00 of AB and AC, one that asks for 4.00 of AB and BC, and one that asks for 16.00 of AB and AC.
+const ASKED: [Case; 3] = [
+    Case {
+        demands: &ONE_DEMAND,
+        keys: &[&[2]],
+        rows: &OVER_B,
+        at: 2,
+        lengths: Some(&[1, 0, 1]),
+    },
+    Case {
+        demands: &TWO_DEMANDS,
+        keys: &[&[2], &[0]],
+        rows: &AROUND,
+        at: 0,
+        lengths: Some(&[1, 1, 0]),
+    },
+    Case {
+        demands: &TWO_DEMANDS,
+        keys: &[&[2], &[0]],
+        rows: &AROUND,
+        at: 2,
+        lengths: Some(&[1, 0, 1]),
+    },
+];
+
+/// Which of these it is, capacities and their scale, and whether these are less than what is asked for.
+const CAPACITIES: [(usize, [u128; 3], u64, bool); 7] = [
+    (0, [4000, 8000, 7999], 1, true),
+    (0, [4000, 8000, 8000], 1, false),
+    (0, [8000, 0, 15999], 2, true),
+    (1, [1999, 2000, 50000], 1, true),
+    (1, [2000, 2000, 0], 1, false),
+    (2, [8000, 9000, 7999], 1, true),
+    (2, [8000, 0, 8000], 1, false),
+];
+
+/// Whether a case's row gives its lengths as a cut without failures, where that is expected, and else no cut.
+fn is_cut_on<'a>(
+    alloc: Global,
+    p: &'a Problem,
+    caps: &'a Caps,
+    case: &Case,
+    is_less: bool,
+) -> bool {
+    let (Ok(keys), Ok(rows)) = (keys_of(alloc, case), rows_of(alloc, case)) else {
+        return false;
+    };
+    if caps.scale == 0 || caps.nums.len() != p.net.links().len() {
+        return false;
+    }
+    let task = RouteTask {
+        graph: Surviving {
+            net: &p.net,
+            states: &p.states,
+            state: StateId(0),
+        },
+        demands: &p.demands,
+        caps,
+    };
+    match (
+        row_cut(alloc, &task, keys.items(), rows.items(), case.at),
+        case.lengths,
+    ) {
+        (Ok(Some(cut)), Some(lengths)) => {
+            is_less && cut.state().0 == 0 && cut.lengths().items() == lengths
+        }
+        (Ok(None), _) => !is_less,
+        _ => false,
+    }
+}
+
+/// The same at these capacities over a scale.
+fn is_cut(alloc: Global, case: &Case, nums: &[u128], scale: u64, is_less: bool) -> bool {
+    let Ok(net) = network(alloc, 3, &TRIANGLE) else {
+        return false;
+    };
+    let (Ok(p), Ok(nums)) = (
+        problem(alloc, net, case.demands),
+        List::from_slice(alloc, nums),
+    ) else {
+        return false;
+    };
+    is_cut_on(alloc, &p, &Caps { scale, nums }, case, is_less)
+}
+
+#[test]
+fn rows_that_ask_for_more_than_the_capacities_are_cuts(rt: HostRuntime) {
+    for (at, nums, scale, is_less) in &CAPACITIES {
+        assert!(rt; is_cut(rt.alloc(), &ASKED[*at], nums, *scale, *is_less));
     }
 }
