@@ -62,11 +62,9 @@ mod metric_cut {
     pub mod ratio;
     pub mod violation;
 
-    
     pub use cut::{Cut, CutFault};
     pub use keep::divisor_of_lengths;
     pub use openings::opening;
-    pub use keep::divisor_of_lengths;
     pub use own_bounds::{fixed_along, own_bound};
     pub use violation::violated_by;
 }
@@ -108,15 +106,6 @@ impl Copied for master_bound::answer::Multiplier {
 impl Copied for tree_check::Span {
     fn copy(&self) -> Result<Self, net_core::NoMemory> {
         Ok(*self)
-    }
-}
-
-impl<T> IntoIterator for net_core::Vec<T> {
-    type Item = T;
-    type IntoIter = std::vec::IntoIter<T>;
-
-    fn into_iter(self) -> Self::IntoIter {
-        std::vec::Vec::from(self).into_iter()
     }
 }
 
