@@ -18,7 +18,7 @@ fn is_separated(table: &DistanceTable, demand: &Demand) -> bool
     demand.need > 0 && table.get(demand.from, demand.to).is_none()
 }
 
-/// Lengths of 0 for so many links.
+/// Lengths of 0 for this many links.
 fn no_lengths(alloc: Global, links: usize) -> Result<Lengths, NoMemory>
     ensures { IfOk result (λ lengths. length lengths ≡ links) }
 {

@@ -5,4 +5,5 @@ mod found;
 mod texts;
 
 pub use found::separations;
-pub use texts::{put_separations, state_name};
+pub use part_names::state_name;
+pub use texts::{put_separations, separated_line};

@@ -1,33 +1,13 @@
-ghost use Rattle.std.specs.Prelude.{◌≡◌, ◌++◌, OnOk};
+ghost use Rattle.std.specs.Prelude.{◌≡◌, ◌++◌, ◌∷◌, [], IfOk, OnOk, codes, decimal};
 ghost use Rattle.plan_terms.specs.Terms.{case_of};
-ghost use Rattle.plan_report.specs.Terms.{demand_name, state_name};
+ghost use Rattle.plan_report.specs.Terms.{state_name};
 ghost use Rattle.separation_texts.specs.AllSeparations.{separation_line, separation_lines, state_words};
 
 use failure_states::Separation;
-use net_core::{Bytes, Demand, Instance, Listed, NoMemory, StateId};
-
-/// The name of a state; nothing where there is no such state.
-pub fn state_name(listed: &[Listed], state: StateId) -> &[u8]
-    ensures { result.now ≡ state_name listed.now state.0 }
-{
-    if state.0 == 0 {
-        return b"none";
-    }
-    match listed.get(state.0 as usize - 1) {
-        Some(listed) => listed.name.bytes(),
-        None => b"",
-    }
-}
-
-/// The name of a demand; nothing where there is no such demand.
-fn name_of(demands: &[Demand], k: u32) -> &[u8]
-    ensures { result.now ≡ demand_name demands.now k }
-{
-    match demands.get(k as usize) {
-        Some(demand) => demand.name.bytes(),
-        None => b"",
-    }
-}
+use net_core::{Bytes, Instance, List, NoMemory, StateId, States};
+use part_names::{demand_name, state_name};
+use std::alloc::Global;
+use text_kit::write::put_decimal;
 
 /// Puts the words for a state last.
 fn put_state_words(text: &mut Bytes, instance: &Instance, state: StateId) -> Result<(), NoMemory>
@@ -48,7 +28,7 @@ fn put_separation(text: &mut Bytes, instance: &Instance, found: &Separation) -> 
     text.append(b"  ")?;
     put_state_words(text, instance, found.state)?;
     text.append(b" no path joins the ends of demand ")?;
-    text.append(name_of(instance.demands.items(), found.demand))?;
+    text.append(demand_name(instance.demands.items(), found.demand))?;
     text.append(b"\n")
 }
 
@@ -65,4 +45,27 @@ pub fn put_separations(
         put_separation(text, instance, separation)?;
     }
     Ok(())
+}
+
+/// The planner's line of a demand that a state separates, as `not survivable: state 1 AB demand D1`. It takes time and memory in the number
+/// of bytes.
+pub fn separated_line(
+    alloc: Global,
+    states: &States,
+    state: StateId,
+    demand: &[u8],
+) -> Result<Bytes, NoMemory>
+    ensures { IfOk result (λ text. text ≡ codes "not survivable: state " ++ decimal state.0 ++ 32
+        ∷ state_name states.now.listed state.0 ++ codes " demand " ++ demand.now ++ 10 ∷ []) }
+{
+    let name = state_name(states.listed().items(), state);
+    let mut text = List::new(alloc);
+    text.append(b"not survivable: state ")?;
+    put_decimal(&mut text, state.0 as u128)?;
+    text.append(b" ")?;
+    text.append(name)?;
+    text.append(b" demand ")?;
+    text.append(demand)?;
+    text.append(b"\n")?;
+    Ok(text)
 }
