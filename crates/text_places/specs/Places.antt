@@ -6,11 +6,11 @@ use Rattle.net_core.specs.Sums.{sum_below}
 abbrev pub ends_line : List ℕ → ℕ → Bool
 ends_line text i = slice_index text i == 10 || (slice_index text i == 13 && not (slice_index text (i + 1) == 10))
 
--- how many line ends stand before a byte
+-- how many line ends are before a byte
 abbrev pub line_ends : List ℕ → ℕ → ℕ
 line_ends text at = sum_below at (λ i. cond (ends_line text i) 1 0)
 
--- The line of a byte begins here: no line end stands between, and one stands before, or nothing does.
+-- The line of a byte begins here: no line end is between, and one is right before it, or nothing is.
 pub record IsLineStart (text : List ℕ) (at start : ℕ) : Type 0 where
   pub before : start ≤ at
   pub between : (k : ℕ) → start ≤ k → k < at → ends_line text k ≡ false

@@ -1,4 +1,4 @@
--- the part of a line that stands around a byte
+-- the part of a line around a byte
 use Rattle.std.specs.Prelude.{◌≡◌, ℕ, ◌+◌, ◌-◌, ◌==◌, ◌≤◌, ◌<◌, Bool, true, false, ◌||◌, ◌&&◌, List, length, nat_le, slice_index}
 use Rattle.text_places.specs.Places.{IsLineStart, begins_character}
 
@@ -9,7 +9,7 @@ pub record IsFirstCharacter (text : List ℕ) (least at from : ℕ) : Type 0 whe
   pub none : (k : ℕ) → least ≤ k → k < from → begins_character (slice_index text k) ≡ false
   pub begins : from < at → begins_character (slice_index text from) ≡ true
 
--- The first byte of the line, where at most 60 bytes stand between; else the first that begins a character, of the 60 bytes before.
+-- The first byte of the line, where at most 60 bytes are between; else the first that begins a character, of the 60 bytes before.
 pub record IsWindowStart (text : List ℕ) (at from : ℕ) : Type 0 where
   pub start : ℕ
   pub is_start : IsLineStart text at start
@@ -32,7 +32,7 @@ pub record IsWindowEnd (text : List ℕ) (at to : ℕ) : Type 0 where
   pub goes_on : (k : ℕ) → at ≤ k → k < to → stops_before text at k ≡ false
   pub ends : to < length text → to < at + 64 → stops_before text at to ≡ true
 
--- The part of the byte's line that stands around it.
+-- The part of the byte's line around it.
 pub record IsWindow (text : List ℕ) (at from to : ℕ) : Type 0 where
   pub begins : IsWindowStart text at from
   pub ends : IsWindowEnd text at to

@@ -1,4 +1,4 @@
-//! Where a byte of a text stands, as people count: its line and its column, and the part of its line around it.
+//! Where a byte of a text is, as people count: its line and its column, and the part of its line around it.
 #![tactic(auto)]
 
 mod place;

@@ -1,7 +1,7 @@
 ghost use Rattle.std.specs.Prelude.{◌≡◌, ◌≤◌, ◌+◌, length, slice_index};
 ghost use Rattle.text_places.specs.Places.{IsLineStart, IsPlace, begins_character, characters, ends_line, line_ends};
 
-/// Where a byte of a text stands. Both numbers count from 1.
+/// Where a byte of a text is. Both numbers count from 1.
 #[derive(Clone, Copy, Debug, PartialEq, Eq)]
 pub struct Place {
     /// One more than the line ends before the byte. A line feed ends a line, and a carriage return does, but the two together end one.
@@ -30,7 +30,7 @@ fn ends_line(text: &[u8], i: usize) -> bool
     byte == 10 || (byte == 13 && byte_at(text, i + 1) != 10)
 }
 
-/// How many line ends stand before a byte.
+/// How many line ends are before a byte.
 fn line_ends(text: &[u8], at: usize) -> u64
     requires { at ≤ length text.now }
     ensures count { result ≡ line_ends text.now at }
@@ -59,7 +59,7 @@ pub(crate) fn line_start(text: &[u8], at: usize) -> usize
     start
 }
 
-/// Whether a byte is the first one of a character: it doesn't go on from another, in UTF-8.
+/// Whether a byte is the first one of a character in UTF-8: it doesn't go on from another. It takes constant time, and no memory.
 pub fn begins_character(byte: u8) -> bool
     ensures { result ≡ begins_character byte }
 {

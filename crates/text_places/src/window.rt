@@ -75,7 +75,7 @@ fn window_end(text: &[u8], at: usize) -> usize
     most
 }
 
-/// The part of the byte's line that stands around it: the whole line, but at most 60 bytes before the byte, and from it on at most 64. It
+/// The part of the byte's line around it: the whole line, but at most 60 bytes before the byte, and from it on at most 64. It
 /// begins and ends between characters. It goes over the bytes before the byte and those that follow in the window, and takes no memory.
 pub fn window_of(text: &[u8], at: usize) -> Window
     requires { at ≤ length text.now }
