@@ -4,7 +4,7 @@ use Rattle.net_core.proofs.Library.{slice_get_within}
 use Rattle.text_table.specs.Cells.{AreWidened, IsWidened}
 use Rattle.text_table.specs.declared.column.Column.{Column}
 
--- what stands at a place of a list with one item more
+-- what is at a place of a list with one item more
 pushed : {X : Type 0} (xs : List X) (x : X) (k : ℕ) (y : X) → slice_get (xs ++ x ∷ []) k ≡ Some y → (slice_get xs k ≡ Some y) ⊎ ((k ≡ length xs) × (x ≡ y))
 pushed [] x zero y same = inr (refl, let e : Some x ≡ Some y = same in cc e)
 pushed [] x (suc k) y same = absurd (let e : None ≡ Some y = same in cc e)

@@ -3,7 +3,7 @@ use Rattle.std.specs.Prelude.{◌≡◌, ℕ, zero, suc, ◌-◌, ◌≤◌, con
 use Rattle.text_places.specs.Places.{characters}
 use Rattle.text_table.specs.declared.column.Column.{Column}
 
--- so many spaces
+-- n spaces
 abbrev pub spaces : ℕ → List ℕ
 spaces zero = []
 spaces (suc n) = spaces n ++ 32 ∷ []

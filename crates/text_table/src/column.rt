@@ -6,14 +6,14 @@ use net_core::{Bytes, List, NoMemory};
 use std::alloc::Global;
 use text_places::characters;
 
-/// How the cells of a column stand.
+/// How the cells of a column are set.
 #[derive(Clone, Copy, Debug, PartialEq, Eq)]
 pub struct Column {
-    /// How many spaces stand before a cell.
+    /// How many spaces are before a cell.
     pub gap: usize,
     /// To how many characters a cell is filled up with spaces.
     pub width: usize,
-    /// Whether the spaces stand before the words of a cell.
+    /// Whether the spaces are before the words of a cell.
     pub right: bool,
 }
 

@@ -1,5 +1,5 @@
 ghost use Rattle.std.specs.Prelude.{◌≡◌, ◌++◌, ◌≤◌, OnOk, All, length};
-ghost use Rattle.text_table.specs.Cells.{cells_below, row_text, table_text, cell_text};
+ghost use Rattle.text_table.specs.Cells.{row_text, table_text, cell_text};
 
 use crate::cell::{put_left, put_right, put_spaces};
 use crate::column::{Column, Row};
@@ -17,7 +17,7 @@ fn put_cell(text: &mut Bytes, column: Column, cell: &[u8]) -> Result<(), NoMemor
     }
 }
 
-/// Puts a row last, and ends the line. There is a column for each cell.
+/// Puts a row last, and ends the line. There is a column for each cell. It takes time in the line, and memory for it.
 pub fn put_row(text: &mut Bytes, columns: &[Column], row: &[Bytes]) -> Result<(), NoMemory>
     requires { length row.now ≤ length columns.now }
     ensures { OnOk result (text.new ≡ text.old ++ row_text columns.now row.now) }
@@ -28,7 +28,7 @@ pub fn put_row(text: &mut Bytes, columns: &[Column], row: &[Bytes]) -> Result<()
     text.append(b"\n")
 }
 
-/// Puts rows last, of which none has more cells than there are columns.
+/// Puts rows last, of which none has more cells than there are columns. It takes time in the lines, and memory for them.
 pub fn put_rows(text: &mut Bytes, columns: &[Column], rows: &[Row]) -> Result<(), NoMemory>
     requires { All (λ row. length row ≤ length columns.now) rows.now }
     ensures { OnOk result (text.new ≡ text.old ++ table_text columns.now rows.now) }
