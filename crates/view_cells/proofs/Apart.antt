@@ -1,4 +1,4 @@
--- columns that were widened stand apart as before
+-- columns that were widened are apart as before
 use Rattle.std.proofs.Common.{ℕ, ◌≤◌, ◌<◌, false, List, get_or, length, arith}
 use Rattle.net_core.proofs.Library.{AllByRecursion, All-from_get_or, All-from_recursion, All-get_or, recursion_from_All, slice_get-get_or}
 use Rattle.text_table.specs.Cells.{AreWidened}

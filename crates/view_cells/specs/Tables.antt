@@ -4,11 +4,11 @@ use Rattle.std.specs.List.{AllByRecursion}
 use Rattle.text_table.specs.Cells.{table_text}
 use Rattle.text_table.specs.declared.column.Column.{Column}
 
--- a cell of the column stands two spaces apart from what is before it
+-- a cell of the column is two spaces apart from what is before it
 abbrev pub IsApart : Column → Type 0
 IsApart c = 2 ≤ c.gap
 
--- The text has these rows, a line each, with all their cells, which stand apart. How wide the columns are is free.
+-- The text has these rows, a line each, with all their cells, which are apart. How wide the columns are is free.
 pub record HasRows (rows : List (List (List ℕ))) (text : List ℕ) : Type 0 where
   pub columns : List Column
   pub apart : AllByRecursion IsApart columns

@@ -1,4 +1,4 @@
-ghost use Rattle.std.specs.Prelude.{◌≡◌, ◌++◌, ◌∷◌, [], IfOk, OnOk, codes, decimal, flat_map};
+ghost use Rattle.std.specs.Prelude.{◌≡◌, ◌++◌, ◌∷◌, [], OnOk, decimal, flat_map};
 ghost use Rattle.text_kit.specs.Terms.{money_word};
 ghost use Rattle.view_cells.specs.Cells.{counted, joined_words, per_cent, tenths_per_cent};
 

@@ -1,4 +1,4 @@
-//! Cells of the tables that people read: numbers as they are printed there, names, and tables of cells.
+//! Cells of the tables that people read: numbers as they are printed there, names, modules, and tables of cells.
 #![tactic(auto)]
 
 pub mod cells;
