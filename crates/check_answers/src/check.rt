@@ -44,7 +44,7 @@ fn rejected(
     })
 }
 
-/// Whether a report has a finding, as a line.
+/// Whether a report has a finding, as a line. It takes the time and the memory of `check_report`, and memory for the line.
 pub fn answer_check(alloc: Global, problem: &Problem, report: &Report) -> Result<Answer, NoMemory>
     requires { IsReportInForm (known_of problem.now.net problem.now.states) report.now }
     ensures { IfOk result (λ a. IsJudged (case problem.now.net problem.now.states problem.now.demands) problem.now.net.notes report.now a.status a.text) }

@@ -1,15 +1,15 @@
-ghost use Rattle.std.specs.Prelude.{◌≡◌, ◌++◌, ◌∷◌, [], IfOk, OnOk, codes, decimal, length};
-ghost use Rattle.plan_report.specs.Terms.{demand_name, link_name};
+ghost use Rattle.std.specs.Prelude.{◌≡◌, ◌++◌, ◌∷◌, [], IfOk, OnOk, codes, decimal};
 ghost use Rattle.text_kit.specs.Terms.{money_word};
 ghost use Rattle.check_answers.specs.Findings.{demands_of_outcome, demands_there, finding_words, place_words, rejected_line, accepted_line, spaced};
 
-use net_core::{Bytes, Demand, Link, LinkId, List, NoMemory, Places};
+use net_core::{Bytes, Demand, Link, List, NoMemory, Places};
+use part_names::{demand_name, link_name};
 use plan_checker::Finding;
 use plan_types::Outcome;
 use std::alloc::Global;
 use text_kit::write::{put_decimal, put_money_word};
 
-/// Puts a word last, after a space.
+/// Puts a word last, after a space. It takes time in the word, and asks for memory only where the text has no room left.
 pub fn put_word(text: &mut Bytes, word: &[u8]) -> Result<(), NoMemory>
     ensures { OnOk result (text.new ≡ text.old ++ 32 ∷ word.now) }
 {
@@ -64,26 +64,6 @@ fn put_costs(
     put_money_word(text, places, a)?;
     text.append(b" ")?;
     put_money_word(text, places, b)
-}
-
-/// The name of a link; nothing where there is no such link.
-pub fn link_name(links: &[Link], e: LinkId) -> &[u8]
-    ensures { result.now ≡ link_name links.now e }
-{
-    match links.get(e.0 as usize) {
-        Some(link) => link.name.bytes(),
-        None => b"",
-    }
-}
-
-/// The name of a demand; nothing where there is no such demand.
-pub fn demand_name(demands: &[Demand], k: u32) -> &[u8]
-    ensures { result.now ≡ demand_name demands.now k }
-{
-    match demands.get(k as usize) {
-        Some(demand) => demand.name.bytes(),
-        None => b"",
-    }
 }
 
 /// Puts a word, the number of a state, and a name last.

@@ -13,5 +13,6 @@ mod status;
 
 pub use answer::Answer;
 pub use check::answer_check;
-pub use finding::{demand_name, link_name, put_word};
+pub use finding::put_word;
+pub use part_names::{demand_name, link_name};
 pub use status::Status;

@@ -39,7 +39,7 @@ pub enum Status {
 }
 
 impl Status {
-    /// The exit status of the program.
+    /// The exit status of the program. It takes constant time, and no memory.
     pub fn number(self) -> u8
         ensures { result ≡ status_number self }
     {
