@@ -42,7 +42,7 @@ fn put_row(text: &mut Bytes, alloc: Global, row: &[Bytes]) -> Result<(), NoMemor
     Ok(())
 }
 
-/// Puts a line for each row last: its fields with commas between them, where a field with a comma, a quote or a line break stands between
+/// Puts a line for each row last: its fields with commas between them, where a field with a comma, a quote or a line break is between
 /// quotes, and a quote in it is written twice. Where memory runs out, the text may end in part of the lines. It takes time in the fields
 /// and a buffer of 8 KB, and memory for the lines.
 ///
