@@ -1,4 +1,4 @@
-//! Where the nodes of a network stand, as its file says: the coordinates that the planner skips, read once more by themselves.
+//! Where the nodes of a network are, as its file says: the coordinates that the planner skips, read once more by themselves.
 //!
 //! ```text
 //! let places = node_places(alloc, b"?SNDlib native format; type: network; version: 1.0\nNODES ( A ( -0.5 51.25 ) B )")?;

@@ -3,7 +3,7 @@ use net_core::{List, NoMemory};
 use snd_tokens::{Cursor, Next};
 use std::alloc::Global;
 
-/// Where a node stands, in thousandths of what the file's numbers count: of degrees to the east and to the north in SNDlib's networks.
+/// Where a node is, in thousandths of what the file's numbers count: of degrees to the east and to the north in SNDlib's networks.
 #[derive(Clone, Copy, Debug, PartialEq, Eq)]
 pub struct Place {
     pub x: i32,
@@ -86,7 +86,7 @@ fn place_inside(text: &mut Cursor) -> Option<Place> {
     inside.place()
 }
 
-/// Says where the last node stands.
+/// Says where the last node is.
 fn set_last(places: &mut List<Option<Place>>, place: Option<Place>) {
     if let Some(last) = places.items_mut().last_mut() {
         *last = place;
