@@ -31,7 +31,7 @@ fn away(middle: u32, share: i128) -> u32 {
     i128::from(middle).saturating_add(far).clamp(0, 9600) as u32
 }
 
-/// The spot of a place on the circle, of so many places; the first stands at the top, and they go round clockwise.
+/// The spot of place `k` on the circle, of `count` places; the first is at the top, and they go round clockwise.
 fn circle_spot(k: usize, count: usize) -> Spot {
     let angle = (k as i128).saturating_mul(36_000) / (count as i128).max(1);
     let before = angle.saturating_add(27_000) % 36_000;

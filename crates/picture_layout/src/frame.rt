@@ -62,7 +62,7 @@ impl Frame {
     }
 }
 
-/// The frame of the places of so many nodes; none where one has no place, or all have the same.
+/// The frame of the places of `nodes` nodes; none where one has no place, or all have the same.
 pub(crate) fn frame_of(places: &[Option<Place>], nodes: usize) -> Option<Frame> {
     let first = (*places.first()?)?;
     let mut frame = Frame {
@@ -75,8 +75,8 @@ pub(crate) fn frame_of(places: &[Option<Place>], nodes: usize) -> Option<Frame> 
     (places.len() == nodes && frame.least != frame.most).then_some(frame)
 }
 
-/// How places become spots: a thousandth of a unit is so many units of the picture, a numerator over a denominator, to the east and to the north,
-/// and the frame begins so far from the left and from above.
+/// How places become spots: how many units of the picture a thousandth of a unit is, a numerator over a denominator, to the east and to the north,
+/// and how far the frame is from the left side and from the upper one.
 #[derive(Clone, Copy)]
 struct Scale {
     east: i64,
@@ -142,7 +142,7 @@ fn place_at(places: &[Option<Place>], n: usize, frame: &Frame) -> Place {
     }
 }
 
-/// The spots of so many nodes with these places, with the north up and the east to the right.
+/// The spots of `nodes` nodes with these places, with the north up and the east to the right.
 pub(crate) fn map_spots(
     alloc: Global,
     places: &[Option<Place>],

@@ -21,7 +21,7 @@ pub struct Stroke {
     /// What its curve bends towards; none where it is straight.
     pub bend: Option<Spot>,
     pub to: Spot,
-    /// Where a note on it stands.
+    /// Where a note on it is.
     pub label: Spot,
     pub width: u32,
 }
@@ -33,7 +33,7 @@ pub struct Layout {
     pub nodes: List<Spot>,
     /// The strokes of the links.
     pub links: List<Stroke>,
-    /// Whether the nodes stand where the file says; else they stand on a circle.
+    /// Whether the nodes are where the file says; else they are on a circle.
     pub is_map: bool,
 }
 
@@ -52,8 +52,8 @@ fn spots_of(
     }
 }
 
-/// Where so many nodes with these places are drawn, and links with these capacities. Where a node has no place, or all have the same, they
-/// stand on a circle. It takes time in the square of the links, and memory for the spots and strokes.
+/// Where `nodes` nodes with these places are drawn, and links with these capacities. Where a node has no place, or all have the same, they
+/// are on a circle. It takes time in the square of the links, and memory for the spots and strokes.
 pub fn layout_of(
     alloc: Global,
     places: &[Option<Place>],

@@ -4,7 +4,7 @@ use crate::layout::{Spot, Stroke};
 use net_core::{Link, List, NoMemory, NodeId};
 use std::alloc::Global;
 
-/// How far links with the same ends stand apart.
+/// How far links with the same ends are apart.
 const APART: i64 = 360;
 
 /// The least width of a link's line, and how much wider the greatest is.
@@ -36,7 +36,7 @@ fn count_beside(links: &[Link], link: &Link) -> i64 {
     count
 }
 
-/// How far the bend of a link is from the straight line, to one side or the other: so many links with the same ends are before it.
+/// How far the bend of a link is from the straight line, to one side or the other, where `before` links with the same ends are before it.
 fn shift_after(before: i64) -> i64 {
     let far = (before.saturating_add(1) / 2).saturating_mul(APART);
     if before % 2 == 0 {
@@ -46,14 +46,14 @@ fn shift_after(before: i64) -> i64 {
     }
 }
 
-/// Half of the way, and so far to its side; sums of coordinates may be up to the sides of the picture.
+/// Half of the way, and `shift` to its side; sums of coordinates may be up to the sides of the picture.
 fn beside_middle(from: u32, to: u32, across: i64, shift: i64, long: i64) -> u32 {
     let middle = (i64::from(from) + i64::from(to)) / 2;
     let aside = across.saturating_mul(shift) / long.max(1);
     middle.saturating_add(aside).clamp(0, 9600) as u32
 }
 
-/// The bend of a link between two spots, with so many links of the same ends before it; the first of these is straight.
+/// The bend of a link between two spots, with `before` links of the same ends before it; the first of these is straight.
 fn bend_of(from: Spot, to: Spot, before: i64) -> Option<Spot> {
     if before == 0 {
         return None;
