@@ -1,7 +1,6 @@
 -- fractions rounded to whole numbers
-use Rattle.std.proofs.Common.{◌≡◌, ℕ, ◌+◌, ◌-◌, ◌*◌, ◌/◌, ◌%◌, ◌<◌, ◌≤◌, ap, arith, min, ⊎_elim}
+use Rattle.std.proofs.Common.{◌≡◌, ℕ, ◌+◌, ◌-◌, ◌*◌, ◌<◌, ◌≤◌, ap, arith, ⊎_elim}
 use Rattle.std.proofs.Math.Nat.{mul-le-mul_right}
-use Rattle.std.proofs.lemmas.Grind.{div_ceil_times}
 use Rattle.net_core.proofs.Library.{cases_lt}
 use Rattle.plan_view.specs.Rounding.{IsCeiling}
 
@@ -14,12 +13,6 @@ ceiling_of num den n reaches near = record {
       (λ ge. ge)
       (cases_lt m n);
 }
-
-pub ceiling_up : (num den : ℕ) → 0 < den → IsCeiling num den (num / den + min 1 (num % den))
-ceiling_up num den some = let times = div_ceil_times num den some in ceiling_of num den (num / den + min 1 (num % den)) times.0 times.1
-
-pub ceiling_none : (num : ℕ) → num ≡ 0 → IsCeiling num 0 0
-ceiling_none num zero = record { reaches = omega (arith, zero); least = λ m le. omega arith }
 
 -- a part of a whole in per cent is at most 100
 pub at_most_hundred : (num den n : ℕ) → IsCeiling (100 * num) den n → num ≤ den → n ≤ 100

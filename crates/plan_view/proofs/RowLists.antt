@@ -8,7 +8,7 @@ use Rattle.plan_view.specs.declared.rows.LinkRow.{LinkRow}
 use Rattle.plan_view.specs.declared.rows.LoadRow.{LoadRow}
 use Rattle.plan_view.specs.declared.rows.StateRow.{StateRow}
 
--- what stands at a place of a list with one item more
+-- what is at a place of a list with one item more
 pushed : {X : Type 0} (xs : List X) (x : X) (k : ℕ) (y : X) → slice_get (xs ++ x ∷ []) k ≡ Some y → (slice_get xs k ≡ Some y) ⊎ ((k ≡ length xs) × (x ≡ y))
 pushed [] x zero y same = inr (refl, let e : Some x ≡ Some y = same in cc e)
 pushed [] x (suc k) y same = absurd (let e : None ≡ Some y = same in cc e)
@@ -28,7 +28,7 @@ links_more links plan n rows row are is = record {
       (pushed rows row e other there);
 }
 
--- the row of the link and the counts that stand at a place
+-- the row of the link and the counts at a place
 pub row_from : (links : List Link) (plan : Plan) (e : ℕ) (l : Link) (c : List ℕ) (row : LinkRow) → slice_get links e ≡ Some l → slice_get plan.counts e ≡ Some c → IsLinkRow plan l c e row
     → IsRowAt links plan e row
 row_from links plan e l c row at count is k d one two =

@@ -24,7 +24,7 @@ pub record IsLinkRow (plan : Plan) (l : Link) (counts : List ℕ) (e : ℕ) (row
   pub used : IsCeiling (100 * load_in plan.routings row.state.0 e) (row.capacity * den_in plan.routings row.state.0) row.used
   pub cost : row.cost ≡ link_cost l counts
 
--- the row of link e, whatever link and counts stand there
+-- the row of link e, whatever link and counts are there
 abbrev pub IsRowAt : List Link → Plan → ℕ → LinkRow → Type 0
 IsRowAt links plan e row = (l : Link) (counts : List ℕ) → slice_get links e ≡ Some l → slice_get plan.counts e ≡ Some counts → IsLinkRow plan l counts e row
 

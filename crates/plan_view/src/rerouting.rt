@@ -60,7 +60,8 @@ fn moved_of(normal: &Routing, routing: &Routing, f: &Flow) -> Moved
     }
 }
 
-/// The same where none of the flows left is of its demand and follows its path; else nothing.
+/// What the routing brings of the demand of `f` along its path, where that is more than the normal one does and none of the flows left is of
+/// its demand along its path; else nothing.
 fn moved_last(normal: &Routing, routing: &Routing, f: &Flow, left: &[Flow]) -> Moved
     requires positive { 0 < routing.now.den }
     requires normal { 0 < normal.now.den }

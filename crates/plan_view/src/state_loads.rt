@@ -58,7 +58,8 @@ pub fn load_rows(
 ) -> Result<List<LoadRow>, NoMemory>
     requires sound { IsSoundPlan (case_of instance.now) plan.now }
     requires state { state ≤ length instance.now.states.now.listed }
-    ensures { IfOk result (AreLoadRows (capacities instance.now.net.now.links plan.now.counts) (routing_in plan.now.routings state) (length instance.now.net.now.links)) }
+    ensures { let links = instance.now.net.now.links in
+        IfOk result (AreLoadRows (capacities links plan.now.counts) (routing_in plan.now.routings state) (length links)) }
 {
     let caps = capacities(alloc, instance.net, &plan.counts)?;
     let nums = caps.nums.items();
