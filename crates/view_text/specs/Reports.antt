@@ -11,7 +11,7 @@ use Rattle.view_text.specs.PlanViews.{IsCostView, IsPlanView, case_of_plan}
 use Rattle.view_text.specs.declared.proof.CostProof.{CostProof}
 use Rattle.view_text.specs.declared.proof.CostProof.TheVariants.{Nothing}
 
--- the case that a value of the program stands for
+-- the case of a value of the program
 abbrev pub problem_case : Problem → Case
 problem_case problem = case problem.net problem.states problem.demands
 
@@ -60,7 +60,7 @@ pub record IsSessionView (p : Case) (outcomes : List Outcome) (text : List ℕ) 
 abbrev pub no_outcome_text : List ℕ
 no_outcome_text = codes "  the report has no plan\n"
 
--- what stands below the first line of a view
+-- what is below the first line of a view
 abbrev pub IsBody : Case → CostProof → List Outcome → List ℕ → Type 0
 IsBody p proof [] text = text ≡ no_outcome_text
 IsBody p proof (outcome ∷ []) text = IsOutcomeView p proof outcome text
@@ -71,7 +71,7 @@ abbrev pub IsShortView : Case → CostProof → Outcome → List ℕ → Type 0
 IsShortView p proof (Planned caller serial plan) text = IsCostView (case_of_plan p plan) plan proof text
 IsShortView p proof (Unsurvivable caller serial version position state demand) text = text ≡ separation_text p.listed state.0 demand
 
--- what stands below the first line in the first block of a view
+-- what is below the first line in the first block of a view
 abbrev pub IsBrief : Case → CostProof → List Outcome → List ℕ → Type 0
 IsBrief p proof [] text = text ≡ no_outcome_text
 IsBrief p proof (outcome ∷ []) text = IsShortView p proof outcome text

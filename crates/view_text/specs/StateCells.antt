@@ -25,7 +25,7 @@ abbrev pub fullest_use : Option LinkId → ℕ → List ℕ
 fullest_use None used = codes "-"
 fullest_use (Some e) used = per_cent used
 
--- a bar of so many marks
+-- a bar of n marks
 abbrev pub bar_text : ℕ → List ℕ
 bar_text marks = cond (nat_eq marks 0) [] (spaces 3 ++ replicate marks 35)
 
@@ -44,6 +44,6 @@ state_cells known row =
     ∷ part_text row.part
     ∷ []
 
--- the heads of the columns, of which the fourth stands above the fullest link and its use
+-- the heads of the columns, of which the fourth is above the fullest link and its use
 abbrev pub state_heads : List (List ℕ)
 state_heads = codes "Failure" ∷ codes "Links out" ∷ codes "Rerouted" ∷ codes "Fullest link" ∷ codes "Part of the bound" ∷ []

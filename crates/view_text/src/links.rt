@@ -7,6 +7,7 @@ ghost use Rattle.view_text.specs.LinkCells.{cells_of_link, ends_text, link_cells
 ghost use Rattle.view_cells.specs.Terms.{HasRowsAbove, IsApart};
 
 use net_core::{Bytes, Link, List, Name, Network, NoMemory, Places, States};
+use part_names::{node_name, state_name};
 use plan_view::{LinkRow, PlanSummary};
 use std::alloc::Global;
 use text_table::{Column, Row};
@@ -14,7 +15,6 @@ use view_cells::cells::{
     push_cell, push_joined, push_money, push_per_cent, push_three, push_words,
 };
 use view_cells::modules::push_modules;
-use view_cells::names::{node_name, state_name};
 use view_cells::tables::{above, fitting, left, right, table};
 
 /// The columns of the table of links: name, ends, modules, capacity, loads, use, state, and cost.

@@ -4,12 +4,12 @@ ghost use Rattle.view_text.specs.OutcomeCells.{failure_text, numbers_line, numbe
 ghost use Rattle.view_cells.specs.Terms.{AddsText, HasRows};
 
 use net_core::{Bytes, List, Listed, Name, NoMemory, Places, StateId};
+use part_names::state_name;
 use plan_types::Outcome;
 use std::alloc::Global;
 use text_kit::write::put_decimal;
 use text_table::{Column, Row};
 use view_cells::cells::{push_money, push_number, push_pair, push_three};
-use view_cells::names::state_name;
 use view_cells::tables::{fitting, table};
 
 /// The columns of the table of outcomes: caller, number, version, cost, and bound.
@@ -142,7 +142,7 @@ pub(crate) fn put_outcomes(
     Ok(())
 }
 
-/// Puts the line last that stands above one outcome of several, between empty lines.
+/// Puts the line above one outcome of several last, between empty lines.
 fn put_numbers_line(text: &mut Bytes, caller: u32, serial: u32) -> Result<(), NoMemory>
     ensures { OnOk result (text.new ≡ text.old ++ numbers_line caller serial) }
 {
@@ -153,7 +153,7 @@ fn put_numbers_line(text: &mut Bytes, caller: u32, serial: u32) -> Result<(), No
     text.append(b"\n\n")
 }
 
-/// Puts the line last that stands above an outcome of several.
+/// Puts the line above an outcome of several last.
 pub(crate) fn put_numbers(text: &mut Bytes, outcome: &Outcome) -> Result<(), NoMemory>
     ensures { OnOk result (text.new ≡ text.old ++ numbers_text outcome.now) }
 {

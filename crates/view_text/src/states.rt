@@ -8,6 +8,7 @@ ghost use Rattle.view_text.specs.StateCells.{bar_text, fullest_name, fullest_use
 ghost use Rattle.view_cells.specs.Terms.{HasRowsAbove, IsApart};
 
 use net_core::{Bytes, Link, LinkId, List, Network, NoMemory, Places, States};
+use part_names::{link_name, state_name};
 use plan_view::StateRow;
 use std::alloc::Global;
 use text_table::{Column, Row, put_right, put_spaces};
@@ -15,7 +16,6 @@ use view_cells::cells::{
     push_cell, push_joined, push_money, push_pair, push_per_cent, push_three, push_words,
     put_tenths,
 };
-use view_cells::names::{link_name, state_name};
 use view_cells::tables::{above, fitting, left, right, table};
 
 /// The columns of the table of states: name, links out, rerouted amount, fullest link and its use, and part of the bound.
@@ -52,7 +52,7 @@ const COLUMNS: [Column; 6] = [
     },
 ];
 
-/// How many tenths of a per cent a mark of a bar stands for.
+/// How many tenths of a per cent a mark of a bar shows.
 const MARK: u32 = 50;
 
 /// A mark of a bar.
@@ -117,7 +117,7 @@ fn push_fullest(
     }
 }
 
-/// Puts a bar of so many marks last.
+/// Puts a bar of `marks` marks last.
 fn put_bar(text: &mut Bytes, alloc: Global, marks: u32) -> Result<(), NoMemory>
     ensures { OnOk result (text.new ≡ text.old ++ bar_text marks) }
 {
@@ -206,7 +206,7 @@ fn head_table(alloc: Global) -> Result<List<Row>, NoMemory>
     Ok(rows)
 }
 
-/// The columns of the heads, of which the fourth is as wide as what stands below it.
+/// The columns of the heads, of which the fourth is as wide as what is below it.
 fn head_columns(c: &[Column]) -> [Column; 5]
     requires { length c.now ≡ 6 }
     ensures { AllByRecursion IsApart result }

@@ -154,7 +154,7 @@ fn put_none(text: &mut Bytes) -> Result<(), NoMemory>
     text.append(b"  the report has no plan\n")
 }
 
-/// Puts what stands below the first line last.
+/// Puts what is below the first line last.
 fn put_body(
     text: &mut Bytes,
     alloc: Global,
@@ -193,7 +193,7 @@ fn put_short(
     }
 }
 
-/// Puts what stands below the first line in the first block last.
+/// Puts what is below the first line in the first block last.
 fn put_brief(
     text: &mut Bytes,
     alloc: Global,
