@@ -10,11 +10,11 @@ use crate::names::{push_links, push_nodes};
 use crate::sheet::{PlanNumber, numbered};
 use flow_rows::{FlowRow, flow_rows};
 use net_core::{Demand, Instance, List, Name, Network, NoMemory, Routing, StateId};
+use part_names::{demand_name, node_name, state_name};
 use plan_types::Plan;
 use std::alloc::Global;
 use text_table::Row;
 use view_cells::cells::{push_money, push_pair, push_words};
-use view_cells::names::{demand_name, node_name, state_name};
 
 /// Puts the fields of a demand's ends last; empty ones where there is no such demand.
 fn push_ends(

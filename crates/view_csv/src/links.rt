@@ -9,13 +9,13 @@ ghost use Rattle.view_csv.specs.Sheets.{AddsRows, AreLinkFields};
 
 use crate::sheet::{PlanNumber, numbered};
 use net_core::{Instance, Link, List, Network, NoMemory, Places, States};
+use part_names::{node_name, state_name};
 use plan_types::Plan;
 use plan_view::{LinkRow, link_rows};
 use std::alloc::Global;
 use text_table::Row;
 use view_cells::cells::{push_money, push_number, push_three, push_words};
 use view_cells::modules::push_modules;
-use view_cells::names::{node_name, state_name};
 
 /// Puts the fields of a link last that its network and its counts tell.
 fn push_front(

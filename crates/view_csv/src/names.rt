@@ -4,10 +4,10 @@ ghost use Rattle.plan_terms.specs.Terms.{link_name};
 ghost use Rattle.view_csv.specs.Fields.{link_names, names_field, node_names};
 
 use net_core::{Bytes, Link, LinkId, List, Name, NoMemory, NodeId};
+use part_names::{link_name, node_name};
 use std::alloc::Global;
 use text_table::Row;
 use view_cells::cells::{push_joined, push_words};
-use view_cells::names::{link_name, node_name};
 
 /// Puts a field of names last, with a space between each two; an empty one where there are none.
 fn push_names(fields: &mut Row, alloc: Global, names: &[Bytes]) -> Result<(), NoMemory>

@@ -9,13 +9,13 @@ ghost use Rattle.view_csv.specs.Sheets.{AddsRows, AreStateFields};
 use crate::names::push_links;
 use crate::sheet::{PlanNumber, numbered};
 use net_core::{Bytes, Instance, Link, LinkId, List, Network, NoMemory, States};
+use part_names::{link_name, state_name};
 use plan_types::Plan;
 use plan_view::{StateRow, state_rows};
 use std::alloc::Global;
 use text_kit::write::put_decimal;
 use text_table::Row;
 use view_cells::cells::{push_cell, push_money, push_number, push_words};
-use view_cells::names::{link_name, state_name};
 
 /// Puts tenths as a number with one place last.
 fn put_tenths_word(text: &mut Bytes, n: u32) -> Result<(), NoMemory>
