@@ -1,14 +1,13 @@
 ghost use Rattle.std.specs.Prelude.{◌≡◌, ◌≤◌, ◌++◌, ◌∷◌, [], All, IfOk, OnOk, length, map};
-ghost use Rattle.text_kit.specs.Terms.{money_word};
-ghost use Rattle.view_cells.specs.Terms.{HasRows, per_cent};
+ghost use Rattle.view_cells.specs.Terms.{HasRows};
 ghost use Rattle.view_state.specs.StateTables.{load_cells, load_heads, loaded_cells};
 
 use net_core::{Bytes, Link, List, Network, NoMemory};
+use part_names::node_name;
 use plan_view::LoadRow;
 use std::alloc::Global;
 use text_table::{Column, Row};
 use view_cells::cells::{push_cell, push_money, push_pair, push_per_cent, push_three, push_words};
-use view_cells::names::node_name;
 use view_cells::tables::{fitting, table};
 
 /// The columns of the loads of links: name, both ends, load, and use.

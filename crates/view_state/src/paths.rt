@@ -1,16 +1,15 @@
-ghost use Rattle.std.specs.Prelude.{◌≡◌, ◌≤◌, ◌++◌, ◌∷◌, [], All, IfOk, OnOk, codes, length, map};
+ghost use Rattle.std.specs.Prelude.{◌≡◌, ◌≤◌, ◌++◌, ◌∷◌, [], All, IfOk, length, map};
 ghost use Rattle.std.specs.List.{AllByRecursion};
 ghost use Rattle.plan_report.specs.Terms.{demand_name, node_name};
-ghost use Rattle.text_kit.specs.Terms.{money_word};
-ghost use Rattle.view_cells.specs.Terms.{HasRows, IsApart, joined_words};
+ghost use Rattle.view_cells.specs.Terms.{HasRows, IsApart};
 ghost use Rattle.view_state.specs.StateTables.{path_cells, path_heads};
 
 use flow_rows::FlowRow;
 use net_core::{Bytes, Demand, List, Name, Network, NoMemory, NodeId};
+use part_names::{demand_name, node_name};
 use std::alloc::Global;
 use text_table::{Column, Row};
 use view_cells::cells::{push_joined, push_money, push_three, push_words};
-use view_cells::names::{demand_name, node_name};
 use view_cells::tables::{fitting, left, right, table};
 
 /// The columns of the paths of demands: name, amount, and nodes.
