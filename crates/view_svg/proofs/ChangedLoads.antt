@@ -9,7 +9,7 @@ use Rattle.plan_types.specs.declared.plan.Plan.{Plan}
 use Rattle.plan_view.specs.Terms.{IsCeiling, IsSoundPlan, den_in, goes_as, load_in}
 use Rattle.view_svg.specs.Changes.{AreRoundedLoads, changed_flows}
 
--- what stands at a place of a list with one amount more
+-- what is at a place of a list with one amount more
 pushed : (xs : List ℕ) (x k y : ℕ) → slice_get (xs ++ x ∷ []) k ≡ Some y → (slice_get xs k ≡ Some y) ⊎ ((k ≡ length xs) × (x ≡ y))
 pushed [] x zero y same = inr (refl, let e : Some x ≡ Some y = same in cc e)
 pushed [] x (suc k) y same = absurd (let e : None ≡ Some y = same in cc e)

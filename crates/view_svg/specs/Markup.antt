@@ -12,6 +12,6 @@ escaped_byte b =
     (cond (nat_eq b 39) (codes "&#39;")
     (cond (nat_lt b 32 || nat_eq b 127) (codes "?") (b ∷ []))))))
 
--- a name as markup writes it; what isn't UTF-8 stands as the replacement character
+-- a name as markup writes it; what isn't UTF-8 becomes the replacement character
 abbrev pub escaped : List ℕ → List ℕ
 escaped name = flat_map escaped_byte (utf8_lossy name)

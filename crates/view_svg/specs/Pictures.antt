@@ -49,7 +49,7 @@ link_words known link row =
 abbrev pub change_words : KnownNames → ℕ → List ℕ
 change_words known change = cond (nat_lt 0 change) (codes "; other paths: " ++ money_word known.places change) []
 
--- what stands beside a link: its worst use in per cent, or a cross where it is out
+-- the words beside a link: its worst use in per cent, or a cross where it is out
 abbrev pub link_mark : Spot → ℕ → Bool → List ℕ
 link_mark spot used true = codes "<text class=\"x\"" ++ spot_attributes spot ++ codes "&#215;</text>"
 link_mark spot used false = codes "<text" ++ spot_attributes spot ++ decimal used ++ codes "</text>"
@@ -59,7 +59,7 @@ abbrev pub link_curve : Stroke → LinkRow → Bool → List ℕ
 link_curve s row out =
     codes "<path class=\"" ++ link_class row out ++ codes "\" stroke-width=\"" ++ decimal s.width ++ codes "\" d=\"" ++ curve s ++ codes "\"/>"
 
--- a link: its curve, what is said of it, and what stands beside it
+-- a link: its curve, what is said of it, and the words beside it
 abbrev pub drawn_link : KnownNames → Link → LinkRow → Stroke → Bool → ℕ → List ℕ
 drawn_link known link row s out change =
     codes "<g>" ++ link_curve s row out ++ codes "<title>" ++ (link_words known link row ++ change_words known change) ++ codes "</title>"

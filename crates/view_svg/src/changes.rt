@@ -61,7 +61,7 @@ fn rounded_load(flows: &[Flow], den: u64, link: LinkId) -> u128
     load.div_ceil(den as u128)
 }
 
-/// What flows bring onto each of so many links, rounded up to a unit of the network.
+/// What flows bring onto each link, rounded up to a unit of the network.
 #[tactic(auto, using(crate::proofs::ChangedLoads::loads_none, crate::proofs::ChangedLoads::loads_more))]
 fn rounded_loads(
     alloc: Global,
@@ -80,7 +80,7 @@ fn rounded_loads(
     Ok(amounts)
 }
 
-/// What each of so many links carries along paths that no flow of the same demand takes where nothing fails, rounded up to a unit of the
+/// What each link carries along paths that no flow of the same demand takes where nothing fails, rounded up to a unit of the
 /// network. It takes time in the links of all paths times the number of links and in the square of the flows, and memory for the flows that
 /// take such paths and an amount of each link.
 pub(crate) fn changes_of(

@@ -59,7 +59,7 @@ fn put_note(text: &mut Bytes, note: &[u8], shown: bool) -> Result<(), NoMemory>
     Ok(())
 }
 
-/// Puts the end of a picture last: what it shows, and whether the nodes stand where the file says.
+/// Puts the end of a picture last: what it shows, and whether the nodes are where the file says.
 pub(crate) fn put_ending(text: &mut Bytes, is_map: bool, fails: bool) -> Result<(), NoMemory>
     ensures { OnOk result (text.new ≡ text.old ++ ending is_map fails) }
 {

@@ -1,4 +1,4 @@
-//! A picture of a checked plan, as SVG without scripts: nodes where they stand, links by what they have and carry.
+//! A picture of a checked plan, as SVG without scripts: nodes where they are, links by what they have and carry.
 #![tactic(auto)]
 
 mod changes;

@@ -10,13 +10,13 @@ use crate::escape::put_escaped;
 use crate::paths::change_of;
 use crate::spots::{put_curve, put_spot};
 use net_core::{Bytes, Instance, Link, LinkId, List, Network, NoMemory, Places, States};
+use part_names::state_name;
 use picture_layout::{Spot, Stroke};
 use plan_view::LinkRow;
 use std::alloc::Global;
 use text_kit::write::{put_decimal, put_money_word};
 use text_table::Row;
 use view_cells::modules::push_modules;
-use view_cells::names::state_name;
 
 /// The class of a use in per cent.
 fn use_class(used: u32) -> &'static [u8]
@@ -155,7 +155,7 @@ fn put_title(
     put_change_words(text, instance.net, instance.states, change)
 }
 
-/// Puts what stands beside a link last.
+/// Puts the words beside a link last.
 fn put_mark(text: &mut Bytes, spot: Spot, used: u32, out: bool) -> Result<(), NoMemory>
     ensures { OnOk result (text.new ≡ text.old ++ link_mark spot used out) }
 {
@@ -188,7 +188,7 @@ fn put_link_curve(
     text.append(b"\"/>")
 }
 
-/// Puts a link last: its curve, what is said of it, and what stands beside it.
+/// Puts a link last: its curve, what is said of it, and the words beside it.
 fn put_link(
     text: &mut Bytes,
     alloc: Global,

@@ -29,7 +29,7 @@ fn put_dots(text: &mut Bytes, spots: &[Spot]) -> Result<(), NoMemory>
     Ok(())
 }
 
-/// Puts a name last, which stands beside a spot.
+/// Puts a name beside a spot last.
 fn put_label(text: &mut Bytes, alloc: Global, name: &[u8], spot: Spot) -> Result<(), NoMemory>
     ensures { OnOk result (text.new ≡ text.old ++ drawn_name name.now spot) }
 {

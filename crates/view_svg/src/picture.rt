@@ -15,11 +15,11 @@ use net_core::{
     Bytes, Flow, Instance, LinkId, List, Listed, Network, NoMemory, Routing, StateId, States,
 };
 use node_places::Place;
+use part_names::state_name;
 use picture_layout::{Layout, layout_of};
 use plan_types::Plan;
 use plan_view::{LinkRow, link_rows};
 use std::alloc::Global;
-use view_cells::names::state_name;
 
 /// The links that a state fails; none where there is no such state.
 fn failed_links(listed: &[Listed], state: u32) -> &[LinkId]
@@ -187,7 +187,7 @@ fn put_drawn(
 }
 
 /// Puts the picture of a plan last, in one state, of which 0 is the one without failures. The plan is one that a check accepted, the network is
-/// called by this name, and its nodes stand at these places; where one has none, all of them stand on a circle.
+/// called by this name, and its nodes are at these places; where one has none, all of them are on a circle.
 ///
 /// It takes time in the links of all paths times the number of links, in the square of these and in the square of the flows, and memory for the
 /// picture, for a row of each link, and for the flows on other paths.

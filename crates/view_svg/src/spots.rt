@@ -26,7 +26,7 @@ pub(crate) fn put_spot(text: &mut Bytes, spot: Spot) -> Result<(), NoMemory>
     text.append(b"\">")
 }
 
-/// Puts what stands between the ends of a link's line last: what it bends towards, or that it is straight.
+/// Puts what is between the ends of a link's line last: what it bends towards, or that it is straight.
 fn put_bend(text: &mut Bytes, bend: Option<Spot>) -> Result<(), NoMemory>
     ensures { OnOk result (text.new ≡ text.old ++ option_map_or (λ bend. codes "Q" ++ point bend ++ codes " ") bend (codes "L")) }
 {
