@@ -1,7 +1,6 @@
 ghost use Rattle.std.specs.Prelude.{All, OnOk};
 ghost use Rattle.view_cells.specs.Terms.{AddsText};
-ghost use Rattle.view_csv.specs.Terms.{IsSheet};
-ghost use Rattle.view_text.specs.Terms.{HasSoundPlan, HoldsOfSingle, IsReportView, problem_case};
+ghost use Rattle.view_text.specs.Terms.{HasSoundPlan, HoldsOfSingle, problem_case};
 ghost use Rattle.view_forms.specs.Forms.{HasForm, IsFormOf};
 
 use net_core::{Bytes, NoMemory, Problem};
