@@ -4,7 +4,7 @@ ghost use Rattle.fault_messages.specs.FailuresMessages.{failures_message};
 use fault_texts::Sentence;
 use model_reader::FailuresKind;
 
-/// What is wrong with a failure list, by the kind of its first fault.
+/// What is wrong with a failure list, by the kind of its first fault. As all sentences here it is a text of the program, and takes no memory.
 #[tactic(auto, using(crate::proofs::Decimals::of_255, crate::proofs::Decimals::of_256))]
 pub fn failures_sentence(kind: FailuresKind) -> Sentence
     ensures { HasWords result (failures_message kind) }

@@ -40,7 +40,7 @@ fn finding_wrong(finding: Finding) -> &'static str
     }
 }
 
-/// What is wrong with a report that was read and isn't accepted, by its first finding.
+/// What is wrong with a report that was read and isn't accepted, by its first finding. It takes no memory.
 pub fn finding_sentence(finding: Finding) -> Sentence
     ensures { HasWords result (finding_message finding) }
 {

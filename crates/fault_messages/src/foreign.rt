@@ -1,4 +1,4 @@
-ghost use Rattle.std.specs.Prelude.{◌≡◌, ◌≤◌, ◌++◌, ◌∷◌, [], ℕ, List, OnOk, length, nat_eq};
+ghost use Rattle.std.specs.Prelude.{◌≡◌, ◌≤◌, ◌++◌, ◌∷◌, [], ℕ, List, OnOk, length};
 ghost use Rattle.std.specs.List.{starts_with};
 ghost use Rattle.net_core.specs.Terms.{case, is_named};
 ghost use Rattle.plan_report.specs.Texts.{report_header};

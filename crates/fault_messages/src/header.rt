@@ -127,7 +127,8 @@ fn guess(beginning: Beginning) -> &'static str
     }
 }
 
-/// What a file with another header than that of the expected format seems to be, by its first bytes; nothing where it begins in no known way.
+/// What a file with another header than that of the expected format seems to be, by its first bytes; nothing where it begins in no
+/// known way. It takes constant time, and no memory.
 pub fn header_guess(expected: FileFormat, bytes: &[u8]) -> Option<&'static str>
     ensures { MatchOption result (HasNoGuess bytes.now) (λ words. IsGuess expected bytes.now words.now) }
 {
@@ -139,7 +140,7 @@ pub fn header_guess(expected: FileFormat, bytes: &[u8]) -> Option<&'static str>
 }
 
 /// Puts a line last that says what a file seems to be which has another header than that of the expected format; nothing where there is no
-/// guess.
+/// guess. It takes constant time, and asks for memory only where the text has no room left.
 pub fn put_header_note(text: &mut Bytes, expected: FileFormat, bytes: &[u8]) -> Result<(), NoMemory>
     ensures { OnOk result ((note : List ℕ) × IsHeaderNote expected bytes.now note × (text.new ≡ text.old ++ note)) }
 {

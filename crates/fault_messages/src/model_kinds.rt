@@ -39,7 +39,7 @@ fn value_help(key: ModelKey) -> &'static str
     }
 }
 
-/// What is wrong with a model file, by the kind of its first fault.
+/// What is wrong with a model file, by the kind of its first fault. It takes no memory.
 pub fn model_sentence(kind: ModelKind) -> Sentence
     ensures { HasWords result (model_message kind) }
 {

@@ -59,7 +59,7 @@ fn number_sentence(fault: NumberFault) -> Sentence
     }
 }
 
-/// What is wrong with a network file, by the kind of its first fault.
+/// What is wrong with a network file, by the kind of its first fault. It takes no memory.
 pub fn network_sentence(kind: ReadKind) -> Sentence
     ensures { HasWords result (network_message kind) }
 {

@@ -43,7 +43,7 @@ fn header_sentence(places: Places) -> Sentence
     }
 }
 
-/// What is wrong with a report for a network of these places, by the kind of its first fault.
+/// What is wrong with a report for a network of these places, by the kind of its first fault. It takes no memory.
 #[tactic(auto, using(crate::proofs::Decimals::of_255))]
 pub fn report_sentence(places: Places, kind: ReportKind) -> Sentence
     ensures { HasWords result (report_message places kind) }
@@ -82,7 +82,7 @@ pub fn report_sentence(places: Places, kind: ReportKind) -> Sentence
     }
 }
 
-/// What is wrong with the proof lines below a report, by the kind of their first fault.
+/// What is wrong with the proof lines below a report, by the kind of their first fault. It takes no memory.
 #[tactic(auto, using(crate::proofs::Decimals::of_255))]
 pub fn proof_sentence(kind: ReportKind) -> Sentence
     ensures { HasWords result (proof_message kind) }
