@@ -23,7 +23,7 @@ use std::alloc::Global;
 /// How many bytes an input file may have.
 pub const INPUT_LIMIT: u64 = 1 << 24;
 
-/// The content of a file of at most so many bytes.
+/// The content of a file of at most `limit` bytes.
 pub fn fetch_file<S: Shelf>(
     alloc: Global,
     limit: u64,
@@ -119,7 +119,8 @@ fn load_model<S: Shelf>(alloc: Global, files: &PlanFiles, shelf: &mut S) -> Resu
     model_of(alloc, bytes.items())
 }
 
-/// The states without a failure file: every single-link failure with reconfiguration, and none without.
+/// The states without a failure file: every single-link failure with reconfiguration, and none without. It takes
+/// time and memory in the links.
 pub fn default_states(alloc: Global, net: &Network, reconfigure: bool) -> Result<States, NoMemory>
     ensures single { reconfigure ≡ true → IfOk result (λ r. r.listed ≡ failures.single_states net.now.links) }
     ensures none { reconfigure ≡ false → IfOk result (λ r. r.listed ≡ []) }

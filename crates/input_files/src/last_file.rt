@@ -35,7 +35,7 @@ fn script_of(alloc: Global, places: Places, bytes: &[u8]) -> Result<Script, Stop
     }
 }
 
-/// The script of a file, with amounts of these places.
+/// The script of a file, with amounts of these places. It takes the time and the memory of the reader, as the other calls here.
 pub fn load_script<S: Shelf>(
     alloc: Global,
     places: Places,
@@ -64,7 +64,7 @@ fn report_of(alloc: Global, problem: &Problem, bytes: &[u8]) -> Result<Report, S
     }
 }
 
-/// The report of a file, of plans for this network and these states.
+/// The report of a file, of plans for this network and these states. It takes time and memory in the file.
 pub fn load_report<S: Shelf>(
     alloc: Global,
     problem: &Problem,
@@ -102,7 +102,7 @@ fn flows_of(alloc: Global, problem: &Problem, bytes: &[u8]) -> Result<FlowFile, 
     }
 }
 
-/// The counts and the flows of a file, for a problem.
+/// The counts and the flows of a file, for a problem. It takes time and memory in the file.
 pub fn load_flows<S: Shelf>(
     alloc: Global,
     problem: &Problem,
