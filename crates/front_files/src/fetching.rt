@@ -55,7 +55,7 @@ pub(crate) fn fetch_file<S: Shelf>(
     }
 }
 
-/// The content of a report's file, of at most 256 MiB.
+/// The content of a report's file, of at most 256 MiB. It takes time and memory in the file.
 pub fn fetch_report<S: Shelf>(alloc: Global, name: &str, shelf: &mut S) -> Result<Bytes, Halt>
     ensures found { IfOk result (λ bytes. Fetches (S.files shelf.old) name.now report_limit Fetch.Found bytes) }
     ensures ends { IfErr result (Halts (FailsAtFetch (S.files shelf.old) report_limit name.now)) }
@@ -88,7 +88,7 @@ fn network_of(alloc: Global, name: &str, bytes: &[u8]) -> Result<(Network, Deman
     }
 }
 
-/// The network and the demands of a file.
+/// The network and the demands of a file. It takes the time and the memory of `read_network`, and a file may have 16 MiB.
 pub fn load_network<S: Shelf>(
     alloc: Global,
     name: &str,

@@ -165,7 +165,8 @@ pub fn load_case<S: Shelf>(alloc: Global, words: &CaseFiles, shelf: &mut S) -> R
     settled_case(alloc, words, net, demands, shelf)
 }
 
-/// The same, and where the nodes stand, as far as the network's file says.
+/// What the files spell, as `load_case` says, and where the nodes are, as far as the network's file says. It reads the network's file a second
+/// time for that.
 pub fn load_placed_case<S: Shelf>(
     alloc: Global,
     words: &CaseFiles,

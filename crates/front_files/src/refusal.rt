@@ -52,7 +52,7 @@ fn put_refusal<W: FaultWord>(
     text.append(b"\n")
 }
 
-/// A place of a file, and its end where the place is beyond.
+/// A place of a file, and its end where the place is beyond. It takes constant time, and no memory.
 pub fn place_in(bytes: &[u8], at: u64) -> usize
     ensures value { result ≡ min at (length bytes.now) }
     ensures within { result ≤ length bytes.now }
@@ -94,7 +94,8 @@ fn refused_text<W: FaultWord>(
     Ok(text)
 }
 
-/// The end of a run at a refused file, of which this is known besides the sentence of its first fault.
+/// The end of a run at a refused file, of which this is known besides the sentence of its first fault. It takes time in the bytes before the
+/// fault, and memory for the message.
 pub fn refused<W: FaultWord>(
     alloc: Global,
     file: &FaultyFile,
