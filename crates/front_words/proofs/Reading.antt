@@ -92,13 +92,6 @@ leads_on a w b r c q ns ms os ps first second = record {
       );
 }
 
--- nothing read so far
-pub leads_none : (a : Awaited) (w : List (List ℕ)) → ReadsOn a w a w [] []
-leads_none a w = record {
-  forth = λ names options read. read;
-  back = λ names options read. (names, options, refl, refl, read);
-}
-
 -- a word more
 pub leads_word : (a b : Awaited) (all : List (List ℕ)) (word : List ℕ) (rest : List (List ℕ)) (old new : Given)
     → ReadsOn Word all a (word ∷ rest) (given_names old) (given_options old) → TakesWord a word old b new → ReadsOn Word all b rest (given_names new) (given_options new)

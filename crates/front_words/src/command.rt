@@ -1,11 +1,11 @@
 ghost use Rattle.std.specs.Prelude.{◌≡◌, ◌≤◌, ◌<◌, ◌^◌, ◌↔◌, ◌∷◌, [], ℕ, Bool, List, Option, None, IfOk, IfSome, IsTrue, MatchOption, codes, is_some, map, option_map, string_bytes};
 ghost use Rattle.front_files.specs.FrontInputs.{CaseWords, named_case};
-ghost use Rattle.front_words.specs.Fronts.{AskedForm, AskedPlan, AsksPlan, FrontCommand, IsFrontCommand, IsGiven, IsLoneWord, IsOfParts, IsOfReport, IsOfWord, IsSplitsWord, IsViewOf, NamesCase, NamesAnyForm, NamesFile, NamesForm, NamesOption, NamesPicture, NamesSheet, NamesSplits, NamesSurvival, NamesTopic, NamesViewForm, plan_options, view_options};
+ghost use Rattle.front_words.specs.Fronts.{AskedForm, AskedPlan, AsksPlan, FrontCommand, IsFrontCommand, IsGiven, IsLoneWord, IsOfParts, IsOfReport, IsOfWord, IsSplitsWord, IsViewOf, NamesCase, NamesAnyForm, NamesFile, NamesForm, NamesOption, NamesPicture, NamesSheet, NamesSplits, NamesSurvival, NamesTopic, NamesViewForm, view_options};
 ghost use Rattle.view_csv.specs.declared.sheet.Sheet.{Sheet};
 ghost use Rattle.front_words.specs.GivenWords.{TakesOptions};
 ghost use Rattle.front_words.specs.AskedFronts.{asked_form, asked_front, asked_plan};
 ghost use Rattle.front_words.specs.declared.words.HelpTopic.{HelpTopic};
-ghost use Rattle.front_words.specs.inner.Causes.{given_names, given_option, given_options};
+ghost use Rattle.front_words.specs.inner.Causes.{given_option};
 
 use crate::given::{Given, OptionValue, given_by};
 use crate::options::{takes_options, value_given};
