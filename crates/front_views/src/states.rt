@@ -89,7 +89,7 @@ pub fn state_form(alloc: Global, problem: &Problem, name: &str) -> Result<ViewFo
     }
 }
 
-/// The form of a picture of the state of a name, with the nodes at these places; else as `state_form`.
+/// The form of a picture of the state of a name, with the nodes at these places; else as `state_form`, with the same time and memory.
 pub fn picture_form<'p>(
     alloc: Global,
     problem: &Problem,
