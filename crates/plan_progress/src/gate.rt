@@ -18,7 +18,8 @@ pub struct TellingGate<'t, T> {
 }
 
 impl<'t, T: Teller> TellingGate<'t, T> {
-    /// A gate that tells this teller, with money in a network's decimal places.
+    /// A gate that tells this teller, with money in a network's decimal places. It takes constant time, and no
+    /// memory; each line that it tells takes some.
     pub fn new(alloc: Global, places: Places, quiet: bool, teller: &'t T) -> TellingGate<'t, T> {
         TellingGate {
             alloc,

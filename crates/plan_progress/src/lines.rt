@@ -14,7 +14,8 @@ fn worth(figures: &RoundFigures) -> u128
     figures.raw_num.checked_div(figures.raw_den).unwrap_or(0)
 }
 
-/// Puts the line of a round last, with money in a network's decimal places.
+/// Puts the line of a round last, with money in a network's decimal places. It takes time in the line, and asks for memory only where the text
+/// has no room left.
 pub fn put_round(text: &mut Bytes, places: Places, figures: &RoundFigures) -> Result<(), NoMemory>
     ensures { OnOk result (text.new ≡ text.old ++ round_line places figures.now) }
 {
