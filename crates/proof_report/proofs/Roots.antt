@@ -1,5 +1,5 @@
 -- a tree without splits is its root alone
-use Rattle.std.proofs.Common.{◌≡◌, ℕ, ◌+◌, ◌≤◌, ◌<◌, List, [], ◌∷◌, ◌++◌, arith, cond, length, refl, subst, take}
+use Rattle.std.proofs.Common.{◌≡◌, ◌+◌, ◌≤◌, ◌<◌, List, [], ◌∷◌, ◌++◌, arith, cond, length, refl, subst, take}
 use Rattle.std.proofs.lemmas.List.Sums.{sum_by-cons}
 use Rattle.plan_terms.specs.Terms.{Case, Link}
 use Rattle.tree_check.specs.Proofs.{HoldsAtNode, IsAcceptedProof}

@@ -66,7 +66,7 @@ pub fn write_lined(
     Ok(text)
 }
 
-/// As `write_lined`, of a report whose tree is over cuts alone.
+/// As `write_lined`, of a report whose tree is over cuts alone, with the same time and memory.
 pub fn write_proved(
     alloc: Global,
     instance: &Instance,
