@@ -8,9 +8,8 @@ ghost use Rattle.front_plans.specs.FrontPlans.{SaysSeparations, separated_words}
 use crate::answer::PlanAnswer;
 use check_answers::Status;
 use net_core::{Bytes, Instance, List, NoMemory, StateId};
-use separation_texts::{put_separations, separations, state_name};
+use separation_texts::{put_separations, separated_line, separations};
 use std::alloc::Global;
-use text_kit::write::put_decimal;
 
 /// Puts what is said before the lines of the separations last.
 fn put_words(text: &mut Bytes, network: &[u8]) -> Result<(), NoMemory>
@@ -18,26 +17,6 @@ fn put_words(text: &mut Bytes, network: &[u8]) -> Result<(), NoMemory>
 {
     text.append(network)?;
     text.append(b": there is no plan, since some demands can't be carried\n")
-}
-
-/// The planner's line of a demand that a state of this name separates.
-fn separated_line(
-    alloc: Global,
-    state: StateId,
-    name: &[u8],
-    demand: &[u8],
-) -> Result<Bytes, NoMemory>
-    ensures { IfOk result (λ text. text ≡ codes "not survivable: state " ++ decimal state.0 ++ 32 ∷ name.now ++ codes " demand " ++ demand.now ++ 10 ∷ []) }
-{
-    let mut text = List::new(alloc);
-    text.append(b"not survivable: state ")?;
-    put_decimal(&mut text, state.0 as u128)?;
-    text.append(b" ")?;
-    text.append(name)?;
-    text.append(b" demand ")?;
-    text.append(demand)?;
-    text.append(b"\n")?;
-    Ok(text)
 }
 
 /// Puts the planner's line of the first separation last.
@@ -51,8 +30,7 @@ fn put_line(
     ensures { OnOk result (text.new ≡ text.old ++ (codes "not survivable: state " ++ decimal state.0 ++ 32
         ∷ state_name instance.now.states.now.listed state.0 ++ codes " demand " ++ demand.now ++ 10 ∷ [])) }
 {
-    let name = state_name(instance.states.listed().items(), state);
-    let line = separated_line(alloc, state, name, demand)?;
+    let line = separated_line(alloc, instance.states, state, demand)?;
     text.append(line.items())
 }
 
