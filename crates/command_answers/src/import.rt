@@ -1,6 +1,6 @@
 ghost use Rattle.std.specs.Prelude.{◌≡◌, ◌++◌, ◌∷◌, [], IfOk, OnOk};
 ghost use Rattle.plan_terms.specs.Terms.{case, case_of};
-ghost use Rattle.plan_report.specs.Terms.{known_of, node_name};
+ghost use Rattle.plan_report.specs.Terms.{known_of};
 ghost use Rattle.flow_file.specs.FlowFiles.{IsFlowFile};
 ghost use Rattle.flow_file.specs.declared.flow.FlowFile.{FlowFile as File};
 ghost use Rattle.lone_plan.specs.LonePlans.{IsSeparationOf, whole_report};
@@ -9,27 +9,18 @@ ghost use Rattle.check_answers.specs.Findings.{spaced};
 ghost use Rattle.command_answers.specs.ImportFaults.{import_fault_line, import_fault_words};
 ghost use Rattle.command_answers.specs.Answers.{EndsImported};
 
-use crate::plan::{planned, separated, state_name};
-use check_answers::{Answer, Status, demand_name, link_name, put_word};
+use crate::plan::{planned, separated};
+use check_answers::{Answer, Status, put_word};
 use flow_file::FlowFile;
 use flow_import::ImportFault;
 use lone_plan::PlannedReport;
-use net_core::{Bytes, Instance, List, Name, NoMemory, NodeId, Problem, StateId};
+use net_core::{Bytes, Instance, List, Name, NoMemory, Problem, StateId};
 use outside_io::Gate;
+use part_names::{demand_name, link_name, node_name, state_name};
 use plan_import::{ImportEnding, import_plan};
 use std::alloc::Global;
 use std::sync::Wait;
 use std::thread::Threads;
-
-/// The name of a node; nothing where there is no such node.
-fn node_name(nodes: &[Name], node: NodeId) -> &[u8]
-    ensures { result.now ≡ node_name nodes.now node }
-{
-    match nodes.get(node.0 as usize) {
-        Some(name) => name.bytes(),
-        None => b"",
-    }
-}
 
 /// Puts a word and two names last.
 fn put_names(text: &mut Bytes, word: &[u8], first: &[u8], second: &[u8]) -> Result<(), NoMemory>
@@ -59,26 +50,22 @@ fn put_fault(text: &mut Bytes, instance: &Instance, fault: ImportFault) -> Resul
     ensures { OnOk result (text.new ≡ text.old ++ spaced (import_fault_words (case_of instance.now) fault)) }
 {
     let links = instance.net.links().items();
+    let listed = instance.states.listed().items();
     match fault {
         ImportFault::Dead(s, e) => {
-            put_names(
-                text,
-                b"dead",
-                state_name(instance.states, s),
-                link_name(links, e),
-            )
+            put_names(text, b"dead", state_name(listed, s), link_name(links, e))
         }
         ImportFault::Unbalanced(s, k, n) => put_three_names(
             text,
             b"unbalanced",
-            state_name(instance.states, s),
+            state_name(listed, s),
             demand_name(instance.demands.items(), k),
             node_name(instance.net.nodes().items(), n),
         ),
         ImportFault::Overloaded(s, e) => put_names(
             text,
             b"overloaded",
-            state_name(instance.states, s),
+            state_name(listed, s),
             link_name(links, e),
         ),
         ImportFault::NoMemory => Ok(()),
@@ -169,7 +156,8 @@ fn answer_instance<R: Threads + Wait + Sync, G: Gate + Sync>(
     answer_ending(alloc, instance, ending)
 }
 
-/// The answer of an import into a problem. It may never return.
+/// The answer of an import into a problem. It takes the time and the memory of `import_plan`, and those of the report's text. It may never
+/// return.
 pub fn answer_import<R: Threads + Wait + Sync, G: Gate + Sync>(
     rt: &R,
     alloc: Global,

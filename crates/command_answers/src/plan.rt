@@ -7,47 +7,14 @@ ghost use Rattle.command_answers.specs.Answers.{EndsPlan};
 
 use check_answers::{Answer, Status};
 use lone_plan::{LonePlan, PlannedReport, plan_once};
-use net_core::{Bytes, Instance, List as Items, Name, Network, NoMemory, Problem, StateId, States};
+use net_core::{Instance, Name, Network, NoMemory, Problem, StateId, States};
 use outside_io::Gate;
 use plan_report::write_report;
 use plan_types::Report;
+use separation_texts::separated_line;
 use std::alloc::Global;
 use std::sync::Wait;
 use std::thread::Threads;
-use text_kit::write::put_decimal;
-
-/// The name of a state; nothing where there is no such state.
-pub fn state_name(states: &States, state: StateId) -> &[u8]
-    ensures { result.now ≡ state_name states.now.listed state.0 }
-{
-    if state.0 == 0 {
-        return b"none";
-    }
-    match states.listed().items().get(state.0 as usize - 1) {
-        Some(listed) => listed.name.bytes(),
-        None => b"",
-    }
-}
-
-/// The line of a network that isn't survivable.
-fn separated_line(
-    alloc: Global,
-    state: StateId,
-    name: &[u8],
-    demand: &[u8],
-) -> Result<Bytes, NoMemory>
-    ensures { IfOk result (λ text. text ≡ codes "not survivable: state " ++ decimal state.0 ++ 32 ∷ name.now ++ codes " demand " ++ demand.now ++ 10 ∷ []) }
-{
-    let mut text = Items::new(alloc);
-    text.append(b"not survivable: state ")?;
-    put_decimal(&mut text, state.0 as u128)?;
-    text.append(b" ")?;
-    text.append(name)?;
-    text.append(b" demand ")?;
-    text.append(demand)?;
-    text.append(b"\n")?;
-    Ok(text)
-}
 
 /// The answer to a network that isn't survivable.
 pub fn separated(
@@ -60,11 +27,9 @@ pub fn separated(
     ensures text { IfOk result (λ a. a.text ≡ codes "not survivable: state " ++ decimal state.0 ++ 32
         ∷ state_name states.now.listed state.0 ++ codes " demand " ++ demand.now ++ 10 ∷ []) }
 {
-    let name = state_name(states, state);
-    let text = separated_line(alloc, state, name, demand.bytes())?;
     Ok(Answer {
         status: Status::NotSurvivable,
-        text,
+        text: separated_line(alloc, states, state, demand.bytes())?,
     })
 }
 
@@ -152,7 +117,8 @@ fn answer_instance<R: Threads + Wait + Sync, G: Gate + Sync>(
     answer_lone(alloc, instance, lone)
 }
 
-/// The report of a plan of a problem, or the line of the first demand that a state separates. It may never return.
+/// The report of a plan of a problem, or the line of the first demand that a state separates. It takes the time and the memory of `plan_once`,
+/// and those of the report's text. It may never return.
 pub fn answer_plan<R: Threads + Wait + Sync, G: Gate + Sync>(
     rt: &R,
     alloc: Global,

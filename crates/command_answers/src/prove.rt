@@ -105,7 +105,8 @@ fn answer_instance<R: Threads + Wait + Sync, G: Gate + Sync>(
     answer_ending(alloc, instance, ending, limit)
 }
 
-/// The answer of a proof of a problem with at most `limit` splits, at most 9,999. It may never return.
+/// The answer of a proof of a problem with at most `limit` splits, at most 9,999. It takes the time and the memory of a plan, a trim and a
+/// branch tree, and those of the report's text. It may never return.
 pub fn answer_prove<R: Threads + Wait + Sync, G: Gate + Sync>(
     rt: &R,
     alloc: Global,

@@ -148,7 +148,8 @@ fn planned<R: Threads + Wait + Sync>(
     }
 }
 
-/// The summary of the plan of a sample, with each single-link failure. Nobody is held: a sample has one caller. It may never return.
+/// The summary of the plan of a sample, with each single-link failure. Nobody is held: a sample has one caller. It takes the time
+/// and the memory of `plan_once`. It may never return.
 pub fn answer_sample<R: Threads + Wait + Sync>(
     rt: &R,
     alloc: Global,

@@ -15,7 +15,7 @@ use std::alloc::Global;
 use std::sync::Wait;
 use std::thread::Threads;
 
-/// The report of a script's commands. It may never return.
+/// The report of a script's commands. It takes the time and the memory of `run_session`, and those of the report's text. It may never return.
 pub fn answer_session<R: Threads + Wait + Sync, G: Gate + Sync>(
     rt: &R,
     alloc: Global,

@@ -71,7 +71,8 @@ fn answer_instance<R: Threads + Wait + Sync, G: Gate + Sync>(
     answer_ending(alloc, instance, ending)
 }
 
-/// The answer of a trim of a problem. It may never return.
+/// The answer of a trim of a problem. It takes the time and the memory of a plan and of its trim, and those of the report's text. It may never
+/// return.
 pub fn answer_trim<R: Threads + Wait + Sync, G: Gate + Sync>(
     rt: &R,
     alloc: Global,
