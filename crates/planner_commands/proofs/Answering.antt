@@ -1,22 +1,16 @@
 -- how what one step comes to is what the run comes to
-use Rattle.std.proofs.Common.{ℕ, List, Option, Result, Ok, Err, inl, inr, String}
-use Rattle.std.specs.Global.{Global}
+use Rattle.std.proofs.Common.{ℕ, List, Option, Result, Ok, Err, inr}
 use Rattle.plan_terms.specs.Terms.{Problem, Notes, Case, case}
 use Rattle.outside_io.specs.Outside.{Files}
-use Rattle.planner_commands.specs.Commands.{Command, IsCommand}
-use Rattle.planner_commands.specs.Run.{Ends, EndsCommand}
+use Rattle.planner_commands.specs.Run.{Ends}
 use Rattle.planner_commands.specs.inner.Steps.{HasCause}
 use Rattle.input_files.specs.InputWords.{PlanWords}
-use Rattle.input_files.specs.Inputs.{EndsAfterInputs, HasInputs, StopsAtInputs}
+use Rattle.input_files.specs.Inputs.{EndsAfterInputs, HasInputs}
 use Rattle.input_files.specs.Stops.{Stops}
 use Rattle.input_files.specs.declared.stop.Stop.{Stop}
 use Rattle.input_files.proofs.Stopping.{stop_map}
 use Rattle.check_answers.specs.declared.answer.Answer.{Answer}
 use Rattle.check_answers.specs.declared.status.Status.{Status}
-
--- one of the files that every command has ends the run
-pub inputs_end : (files : Option Files) (w : PlanWords) (EndsWith : Case → Notes → Status → List ℕ → Type 0) (s : Stop) → Stops (StopsAtInputs files w) s → Stops (EndsAfterInputs files w EndsWith) s
-inputs_end files w EndsWith s = stop_map (StopsAtInputs files w) (EndsAfterInputs files w EndsWith) s (λ status text e. inl e)
 
 -- they are all read, and it comes to this
 module _ (files : Option Files) (w : PlanWords) (EndsWith : Case → Notes → Status → List ℕ → Type 0) (problem : Problem) (has : HasInputs files w problem.net problem.demands problem.states.listed) where
@@ -32,8 +26,3 @@ module _ (files : Option Files) (w : PlanWords) (EndsWith : Case → Notes → S
   pub answer_ends : (r : Result Answer Stop) → HasCause (EndsWith (case problem.net problem.states problem.demands) problem.net.notes) r → HasCause (EndsAfterInputs files w EndsWith) r
   answer_ends (Ok a) h = after_inputs a.status a.text h
   answer_ends (Err s) h = last_ends (EndsWith (case problem.net problem.states problem.demands) problem.net.notes) (λ status text e. e) s h
-
--- what a command comes to is what its words come to
-pub command_ends : (words : List (String Global)) (files : Option Files) (c : Command) (r : Result Answer Stop) → IsCommand words c → HasCause (EndsCommand files c) r → HasCause (Ends words files) r
-command_ends words files c (Ok a) is h = inr (inr (c, is, h))
-command_ends words files c (Err s) is h = stop_map (EndsCommand files c) (Ends words files) s (λ status text e. inr (inr (c, is, e))) h
