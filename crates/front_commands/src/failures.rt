@@ -6,11 +6,12 @@ ghost use Rattle.front_commands.specs.Endings.{EndsFailures, ListsFailures, Says
 ghost use Rattle.front_files.specs.Endings.{FailsReading, Halts, HasFrontCause};
 ghost use Rattle.front_commands.specs.inner.Causes.{apart_line};
 
-use check_answers::{Status, demand_name};
+use check_answers::Status;
 use failure_texts::{FailureAnswer, failure_list};
 use front_files::{Halt, load_network, told};
 use net_core::{Bytes, Demands, List, Network, NoMemory};
 use outside_io::Shelf;
+use part_names::demand_name;
 use std::alloc::Global;
 use text_kit::write::put_decimal;
 
