@@ -26,56 +26,6 @@ const ROUTES: &[u8] =
 const QUALITY: &[u8] =
     b"?planner report; version: 1\nNOTES()JOURNAL()POOL((0 state 0 right 0(0)))OUTCOMES(PLAN(caller 1 plan 1 version 0 position 0 DEMANDS(D(A B)1)cost 0 bound 0 raw 0 1 MODULES(a(0 0))CERTIFICATE(1)ROUTES(state 0 none 1())";
 
-/// The greatest number below 2^32.
-const LAST_32: &[u8] = b"4294967295";
-
-const PAST_32: &[u8] = b"4294967296";
-
-/// The greatest number below 2^62.
-const LAST_62: &[u8] = b"4611686018427387903";
-
-const PAST_62: &[u8] = b"4611686018427387904";
-
-/// The greatest number below 2^72.
-const LAST_72: &[u8] = b"4722366482869645213695";
-
-const PAST_72: &[u8] = b"4722366482869645213696";
-
-/// The greatest number below 2^84.
-const LAST_84: &[u8] = b"19342813113834066795298815";
-
-const PAST_84: &[u8] = b"19342813113834066795298816";
-
-/// The greatest number below 2^124.
-const LAST_124: &[u8] = b"21267647932558653966460912964485513215";
-
-const PAST_124: &[u8] = b"21267647932558653966460912964485513216";
-
-/// The greatest number below 2^126.
-const LAST_126: &[u8] = b"85070591730234615865843651857942052863";
-
-const PAST_126: &[u8] = b"85070591730234615865843651857942052864";
-
-/// The greatest amount.
-const LAST_AMOUNT: &[u8] = b"1099511627.775";
-
-const PAST_AMOUNT: &[u8] = b"1099511627.776";
-
-/// The greatest cost.
-const LAST_MONEY: &[u8] = b"85070591730234615865843651857942052.863";
-
-const PAST_MONEY: &[u8] = b"85070591730234615865843651857942052.864";
-
-/// The greatest amount with six places, which is the same number of units.
-const LAST_FINE_AMOUNT: &[u8] = b"1099511.627775";
-
-const PAST_FINE_AMOUNT: &[u8] = b"1099511.627776";
-
-/// The greatest cost with six places, which is the same number of units.
-const LAST_FINE_MONEY: &[u8] = b"85070591730234615865843651857942.052863";
-
-const PAST_FINE_MONEY: &[u8] = b"85070591730234615865843651857942.052864";
-
 /// A module of 0.001 and one of 10.00.
 const TWO: [Module; 2] = [
     Module {
@@ -88,172 +38,132 @@ const TWO: [Module; 2] = [
     },
 ];
 
-/// What stands between a front and a number, and the last token that is taken there, and one that is outside the range.
-type Row = (&'static [u8], &'static [u8], &'static [u8]);
+/// Numbers of the journal. Here and below a line has what stands between a front and a number, the last token that is taken there, and one
+/// that is outside the range.
+const IN_JOURNAL: &str = "(|1|2
+(|1|0
+(1 caller |8|9
+(1 caller |1|0
+(1 caller 1 drop D accepted |65536|65537
+(1 caller 1 drop D too-much |35184372088.831|35184372088.832
+(1 cut |4095|4096
+";
 
-/// Numbers of the journal.
-const IN_JOURNAL: [Row; 7] = [
-    (b"(", b"1", b"2"),
-    (b"(", b"1", b"0"),
-    (b"(1 caller ", b"8", b"9"),
-    (b"(1 caller ", b"1", b"0"),
-    (b"(1 caller 1 drop D accepted ", b"65536", b"65537"),
-    (
-        b"(1 caller 1 drop D too-much ",
-        b"35184372088.831",
-        b"35184372088.832",
-    ),
-    (b"(1 cut ", b"4095", b"4096"),
-];
-
-/// Numbers of the pool.
-const IN_POOL: [Row; 6] = [
-    (b"(", b"0", b"1"),
-    (b"(0 state ", b"0", b"1"),
-    (b"(0 state 0 right ", LAST_84, PAST_84),
-    (b"(0 state 0 right 0(", LAST_32, PAST_32),
-    (b"(0 state 0 right 0(", b"0", b")"),
-    (b"(0 state 0 right 0(0 ", b")", b"0"),
-];
+/// Numbers of the pool, with those around 2^84 and 2^32.
+const IN_POOL: &str = "(|0|1
+(0 state |0|1
+(0 state 0 right |19342813113834066795298815|19342813113834066795298816
+(0 state 0 right 0(|4294967295|4294967296
+(0 state 0 right 0(|0|)
+(0 state 0 right 0(0 |)|0
+";
 
 /// Numbers of what begins an outcome.
-const IN_OUTCOMES: [Row; 10] = [
-    (b"PLAN(caller ", b"8", b"9"),
-    (b"PLAN(caller ", b"1", b"0"),
-    (b"PLAN(caller 1 plan ", b"64", b"65"),
-    (b"PLAN(caller 1 plan ", b"1", b"0"),
-    (b"PLAN(caller 1 plan 1 version ", b"65536", b"65537"),
-    (
-        b"PLAN(caller 1 plan 1 version 0 position ",
-        b"65536",
-        b"65537",
-    ),
-    (b"UNSURVIVABLE(caller ", b"8", b"9"),
-    (b"UNSURVIVABLE(caller 1 plan ", b"64", b"65"),
-    (
-        b"UNSURVIVABLE(caller 1 plan 1 version 0 position ",
-        b"65536",
-        b"65537",
-    ),
-    (
-        b"UNSURVIVABLE(caller 1 plan 1 version 0 position 0 state ",
-        b"0",
-        b"1",
-    ),
-];
+const IN_OUTCOMES: &str = "PLAN(caller |8|9
+PLAN(caller |1|0
+PLAN(caller 1 plan |64|65
+PLAN(caller 1 plan |1|0
+PLAN(caller 1 plan 1 version |65536|65537
+PLAN(caller 1 plan 1 version 0 position |65536|65537
+UNSURVIVABLE(caller |8|9
+UNSURVIVABLE(caller 1 plan |64|65
+UNSURVIVABLE(caller 1 plan 1 version 0 position |65536|65537
+UNSURVIVABLE(caller 1 plan 1 version 0 position 0 state |0|1
+";
 
-/// The denominator of a raw value.
-const IN_DEMANDS: [Row; 2] = [
-    (b")cost 0 bound 0 raw 0 ", LAST_72, PAST_72),
-    (b")cost 0 bound 0 raw 0 ", b"1", b"0"),
-];
+/// The denominator of a raw value, with the numbers around 2^72.
+const IN_DEMANDS: &str = ")cost 0 bound 0 raw 0 |4722366482869645213695|4722366482869645213696
+)cost 0 bound 0 raw 0 |1|0
+";
 
 /// Counts of modules.
-const IN_MODULES: [Row; 5] = [
-    (b"", b"17592186044415", b"17592186044416"),
-    (b"7663 ", b"7036874417", b"7036874418"),
-    (b"7664 ", b"7036874416", b"7036874417"),
-    (b"0 ", b"0", b")"),
-    (b"0 0 ", b")", b"0"),
-];
+const IN_MODULES: &str = "|17592186044415|17592186044416
+7663 |7036874417|7036874418
+7664 |7036874416|7036874417
+0 |0|)
+0 0 |)|0
+";
 
-/// Numbers of a certificate.
-const IN_CERTIFICATE: [Row; 8] = [
-    (b"", b"1", b"0"),
-    (b"", LAST_72, PAST_72),
-    (b"1(", LAST_62, PAST_62),
-    (b"1(0 pool ", b"0", b"1"),
-    (b"1(0 local ", b"0", b"1"),
-    (b"1(0 local 0(", LAST_32, PAST_32),
-    (b"1(0 local 0(0)right ", LAST_84, PAST_84),
-    (b"1(0 pool 0 right ", LAST_84, PAST_84),
-];
+/// Numbers of a certificate, with those around 2^72, 2^62, 2^32 and 2^84.
+const IN_CERTIFICATE: &str = "|1|0
+|4722366482869645213695|4722366482869645213696
+1(|4611686018427387903|4611686018427387904
+1(0 pool |0|1
+1(0 local |0|1
+1(0 local 0(|4294967295|4294967296
+1(0 local 0(0)right |19342813113834066795298815|19342813113834066795298816
+1(0 pool 0 right |19342813113834066795298815|19342813113834066795298816
+";
 
-/// Numbers of the routes.
-const IN_ROUTES: [Row; 7] = [
-    (b"", b"state", b")"),
-    (b"state ", b"0", b"1"),
-    (b"state 0 none ", b"1", b"0"),
-    (b"state 0 none ", LAST_62, PAST_62),
-    (b"state 0 none 1(D ", b"1", b"0"),
-    (b"state 0 none 1(D ", LAST_124, PAST_124),
-    (b"state 0 none 1()", b")", b"state"),
-];
+/// Numbers of the routes, with those around 2^62 and 2^124.
+const IN_ROUTES: &str = "|state|)
+state |0|1
+state 0 none |1|0
+state 0 none |4611686018427387903|4611686018427387904
+state 0 none 1(D |1|0
+state 0 none 1(D |21267647932558653966460912964485513215|21267647932558653966460912964485513216
+state 0 none 1()|)|state
+";
 
-/// Numbers of what a plan says of its bound.
-const IN_QUALITY: [Row; 20] = [
-    (b"tight ", b"1", b"0"),
-    (b"tight ", LAST_62, PAST_62),
-    (b"tight 1(", LAST_62, PAST_62),
-    (b"tight 1(", b"0", b")"),
-    (b"tight 1(0 ", b")", b"0"),
-    (b"loose wide route ", b"0", b"1"),
-    (b"loose wide route 0 ", b"1", b"0"),
-    (b"loose wide route 0 ", LAST_62, PAST_62),
-    (b"loose wide route 0 1(0 ", b")", b"0"),
-    (b"loose wide route 0 1(0)(link a ", b"demand", b")"),
-    (b"loose wide route 0 1(0)(link a demand D ", b")", b"flow"),
-    (b"loose wide route 0 1(0)(link a demand D)row ", b"2", b"3"),
-    (b"loose wide route 0 1(0)(link a demand D)sum ", b"2", b"3"),
-    (
-        b"loose wide route 0 1(0)(link a demand D)entry ",
-        b"2",
-        b"3",
-    ),
-    (b"loose wide master(", b"link", b")"),
-    (b"loose wide master(link a ", b")", b"cut"),
-    (b"loose wide master(cut ", b"0", b"1"),
-    (b"loose wide master(cut 0(", LAST_32, PAST_32),
-    (b"loose wide master(link a)row ", b"1", b"2"),
-    (b"loose wide master(link a)entry ", b"1", b"2"),
-];
+/// Numbers of what a plan says of its bound, with those around 2^62 and 2^32.
+const IN_QUALITY: &str = "tight |1|0
+tight |4611686018427387903|4611686018427387904
+tight 1(|4611686018427387903|4611686018427387904
+tight 1(|0|)
+tight 1(0 |)|0
+loose wide route |0|1
+loose wide route 0 |1|0
+loose wide route 0 |4611686018427387903|4611686018427387904
+loose wide route 0 1(0 |)|0
+loose wide route 0 1(0)(link a |demand|)
+loose wide route 0 1(0)(link a demand D |)|flow
+loose wide route 0 1(0)(link a demand D)row |2|3
+loose wide route 0 1(0)(link a demand D)sum |2|3
+loose wide route 0 1(0)(link a demand D)entry |2|3
+loose wide master(|link|)
+loose wide master(link a |)|cut
+loose wide master(cut |0|1
+loose wide master(cut 0(|4294967295|4294967296
+loose wide master(link a)row |1|2
+loose wide master(link a)entry |1|2
+";
 
-/// Needs of the journal, whose range is that of their notation.
-const LARGE_IN_JOURNAL: [Row; 2] = [
-    (b"(1 caller 1 set D ", LAST_AMOUNT, PAST_AMOUNT),
-    (b"(1 caller 1 add D(A B)", LAST_AMOUNT, PAST_AMOUNT),
-];
+/// Needs of the journal, whose range is that of their notation: up to the greatest amount.
+const LARGE_IN_JOURNAL: &str = "(1 caller 1 set D |1099511627.775|1099511627.776
+(1 caller 1 add D(A B)|1099511627.775|1099511627.776
+";
 
-/// A need, a cost, a bound and a raw value, of the same kind.
-const LARGE_IN_DEMANDS: [Row; 4] = [
-    (b"D(A B)", LAST_AMOUNT, PAST_AMOUNT),
-    (b")cost ", LAST_MONEY, PAST_MONEY),
-    (b")cost 0 bound ", LAST_MONEY, PAST_MONEY),
-    (b")cost 0 bound 0 raw ", LAST_126, PAST_126),
-];
+/// A need, a cost, a bound and a raw value, of the same kind, with the greatest cost and the numbers around 2^126.
+const LARGE_IN_DEMANDS: &str = "D(A B)|1099511627.775|1099511627.776
+)cost |85070591730234615865843651857942052.863|85070591730234615865843651857942052.864
+)cost 0 bound |85070591730234615865843651857942052.863|85070591730234615865843651857942052.864
+)cost 0 bound 0 raw |85070591730234615865843651857942052863|85070591730234615865843651857942052864
+";
 
 /// A total with six places.
-const FINE_IN_JOURNAL: [Row; 1] = [(
-    b"(1 caller 1 drop D too-much ",
-    b"35184372.088831",
-    b"35184372.088832",
-)];
+const FINE_IN_JOURNAL: &str = "(1 caller 1 drop D too-much |35184372.088831|35184372.088832
+";
 
-/// Needs of the journal with six places.
-const LARGE_FINE_IN_JOURNAL: [Row; 2] = [
-    (b"(1 caller 1 set D ", LAST_FINE_AMOUNT, PAST_FINE_AMOUNT),
-    (
-        b"(1 caller 1 add D(A B)",
-        LAST_FINE_AMOUNT,
-        PAST_FINE_AMOUNT,
-    ),
-];
+/// Needs of the journal with six places. The greatest amount is the same number of units.
+const LARGE_FINE_IN_JOURNAL: &str = "(1 caller 1 set D |1099511.627775|1099511.627776
+(1 caller 1 add D(A B)|1099511.627775|1099511.627776
+";
 
-/// A need, a cost and a bound with six places.
-const LARGE_FINE_IN_DEMANDS: [Row; 3] = [
-    (b"D(A B)", LAST_FINE_AMOUNT, PAST_FINE_AMOUNT),
-    (b")cost ", LAST_FINE_MONEY, PAST_FINE_MONEY),
-    (b")cost 0 bound ", LAST_FINE_MONEY, PAST_FINE_MONEY),
-];
+/// A need, a cost and a bound with six places. The greatest cost is the same number of units.
+const LARGE_FINE_IN_DEMANDS: &str = "D(A B)|1099511.627775|1099511.627776
+)cost |85070591730234615865843651857942.052863|85070591730234615865843651857942.052864
+)cost 0 bound |85070591730234615865843651857942.052863|85070591730234615865843651857942.052864
+";
 
 /// A need and a cost with six places, and one with seven.
-const TOO_FINE_IN_DEMANDS: [Row; 2] = [
-    (b"D(A B)", b"0.000001", b"0.0000001"),
-    (b")cost ", b"0.000001", b"0.0000001"),
-];
+const TOO_FINE_IN_DEMANDS: &str = "D(A B)|0.000001|0.0000001
+)cost |0.000001|0.0000001
+";
 
-/// A capacity, of the same kind.
-const LARGE_IN_QUALITY: [Row; 1] = [(b"loose wide route 0 1(", LAST_126, PAST_126)];
+/// A capacity, of the same kind, with the numbers around 2^126.
+const LARGE_IN_QUALITY: &str =
+    "loose wide route 0 1(|85070591730234615865843651857942052863|85070591730234615865843651857942052864
+";
 
 /// Whether the first fault of a text in three parts has this place and this kind.
 fn faults_at(alloc: Global, parts: (&[u8], &[u8], &[u8]), at: u64, kind: &str) -> bool {
@@ -273,50 +183,58 @@ fn ends_at(alloc: Global, front: &[u8], rest: &[u8], tokens: (&[u8], &[u8]), kin
         && faults_at(alloc, (front, rest, past), at, kind)
 }
 
-/// Whether each range of these rows ends at its last number.
-fn each_ends(alloc: Global, front: &[u8], rows: &[Row], kind: &str) -> bool {
-    for (rest, last, past) in rows {
-        if !ends_at(alloc, front, rest, (last, past), kind) {
+/// Whether the range of a line ends at its last number.
+fn line_ends(alloc: Global, front: &[u8], line: &str, kind: &str) -> Option<bool> {
+    let (rest, tokens) = line.split_once('|')?;
+    let (last, past) = tokens.split_once('|')?;
+    let tokens = (last.as_bytes(), past.as_bytes());
+    Some(ends_at(alloc, front, rest.as_bytes(), tokens, kind))
+}
+
+/// Whether each range of these lines ends at its last number.
+fn each_ends(alloc: Global, front: &[u8], lines: &str, kind: &str) -> bool {
+    for line in lines.lines() {
+        if line_ends(alloc, front, line, kind) != Some(true) {
             return false;
         }
     }
     true
 }
 
-/// What the texts of some rows begin with, these rows, and the kind of what is past each last number.
-type Ranges = (&'static [u8], &'static [Row], &'static str);
+/// What the texts of some lines begin with, these lines, and the kind of what is past each last number.
+type Ranges = (&'static [u8], &'static str, &'static str);
 
 /// The ranges of what may be one too many.
 const RANGES: [Ranges; 8] = [
-    (JOURNAL, &IN_JOURNAL, "limit"),
-    (POOL, &IN_POOL, "limit"),
-    (OUTCOMES, &IN_OUTCOMES, "limit"),
-    (DEMANDS, &IN_DEMANDS, "limit"),
-    (MODULES, &IN_MODULES, "limit"),
-    (CERTIFICATE, &IN_CERTIFICATE, "limit"),
-    (ROUTES, &IN_ROUTES, "limit"),
-    (QUALITY, &IN_QUALITY, "limit"),
+    (JOURNAL, IN_JOURNAL, "limit"),
+    (POOL, IN_POOL, "limit"),
+    (OUTCOMES, IN_OUTCOMES, "limit"),
+    (DEMANDS, IN_DEMANDS, "limit"),
+    (MODULES, IN_MODULES, "limit"),
+    (CERTIFICATE, IN_CERTIFICATE, "limit"),
+    (ROUTES, IN_ROUTES, "limit"),
+    (QUALITY, IN_QUALITY, "limit"),
 ];
 
 /// The ranges of notations.
 const NOTATIONS: [Ranges; 3] = [
-    (JOURNAL, &LARGE_IN_JOURNAL, "number-large"),
-    (DEMANDS, &LARGE_IN_DEMANDS, "number-large"),
-    (QUALITY, &LARGE_IN_QUALITY, "number-large"),
+    (JOURNAL, LARGE_IN_JOURNAL, "number-large"),
+    (DEMANDS, LARGE_IN_DEMANDS, "number-large"),
+    (QUALITY, LARGE_IN_QUALITY, "number-large"),
 ];
 
 /// The ranges of amounts and money with six places.
 const FINE_RANGES: [Ranges; 4] = [
-    (FINE_JOURNAL, &FINE_IN_JOURNAL, "limit"),
-    (FINE_JOURNAL, &LARGE_FINE_IN_JOURNAL, "number-large"),
-    (FINE_DEMANDS, &LARGE_FINE_IN_DEMANDS, "number-large"),
-    (FINE_DEMANDS, &TOO_FINE_IN_DEMANDS, "number-fine"),
+    (FINE_JOURNAL, FINE_IN_JOURNAL, "limit"),
+    (FINE_JOURNAL, LARGE_FINE_IN_JOURNAL, "number-large"),
+    (FINE_DEMANDS, LARGE_FINE_IN_DEMANDS, "number-large"),
+    (FINE_DEMANDS, TOO_FINE_IN_DEMANDS, "number-fine"),
 ];
 
 /// Whether all these ranges end at their last numbers.
 fn all_end(alloc: Global, ranges: &[Ranges]) -> bool {
-    for (front, rows, kind) in ranges {
-        if !each_ends(alloc, front, rows, kind) {
+    for (front, lines, kind) in ranges {
+        if !each_ends(alloc, front, lines, kind) {
             return false;
         }
     }
