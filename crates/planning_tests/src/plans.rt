@@ -177,6 +177,9 @@ const PRIME_BUNDLES: [LinkRow; 24] = [
     (2, 3, 0, &HIGHER),
 ];
 
+/// What a demand from A to D needs, and what is looked at of its plan and of the certificate.
+type WideRow = (u64, Option<(Looked, Option<Numerators>)>);
+
 /// The first cuts have a least share of 3 / 23 of the demand on each link, whose units are over 23 and both primes: more than 2^62. At these
 /// capacities each failure finds the cut of its own bundle, and with those each link has 1 / 7 of the demand.
 ///
@@ -187,11 +190,9 @@ const PRIME_BUNDLES: [LinkRow; 24] = [
 /// The units of a seventh of the second demand are over 7 and both primes, again more than 2^62, and no failure finds a further cut. So the
 /// planning ends as without these rounds: with the first cut alone, at 161000 / 1000000009 for three times the demand, and with the fallback
 /// plan, seven modules on each of two links of a bundle.
-const WIDE_SHARES: [SinglesRow; 2] = [
+const WIDE_SHARES: [WideRow; 2] = [
     (
-        4,
-        &PRIME_BUNDLES,
-        (0, 3, 7000000000),
+        7000000000,
         Some((
             (
                 3864000,
@@ -203,9 +204,7 @@ const WIDE_SHARES: [SinglesRow; 2] = [
         )),
     ),
     (
-        4,
-        &PRIME_BUNDLES,
-        (0, 3, 7000000001),
+        7000000001,
         Some((
             (6762000, (3381000000483000, 1000000009), 3381000, false),
             Some((1000000009, 1, [161000, 0, 0, 0])),
@@ -333,6 +332,20 @@ fn is_planned_with_singles(alloc: Global, row: &SinglesRow) -> bool {
     is_so
 }
 
+/// What planning comes to in the bundles of prime capacities, of which each link fails alone.
+fn prime_answer(alloc: Global, need: u64) -> Option<PlanAnswer> {
+    let place = singles_of(alloc, 4, &PRIME_BUNDLES)?;
+    planned_for(alloc, &place, (0, 3, need))
+}
+
+/// Whether planning comes to what the row says there.
+fn is_planned_in_prime_bundles(alloc: Global, row: &WideRow) -> bool {
+    let answer = prime_answer(alloc, row.0);
+    let is_so = is_answered(&answer, &row.1);
+    discard(answer);
+    is_so
+}
+
 /// Whether planning comes to what each row says.
 fn are_planned(alloc: Global, rows: &[Row]) -> bool {
     for row in rows {
@@ -363,7 +376,7 @@ fn many_links_that_fail_alone_have_tight_plans(rt: HostRuntime) {
 #[test]
 fn rounds_at_wide_shares_lead_on_to_narrow_ones(rt: HostRuntime) {
     for row in &WIDE_SHARES {
-        assert!(rt; is_planned_with_singles(rt.alloc(), row));
+        assert!(rt; is_planned_in_prime_bundles(rt.alloc(), row));
     }
 }
 
