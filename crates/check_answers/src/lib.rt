@@ -14,5 +14,4 @@ mod status;
 pub use answer::Answer;
 pub use check::answer_check;
 pub use finding::put_word;
-pub use part_names::{demand_name, link_name};
 pub use status::Status;

@@ -5,5 +5,4 @@ mod found;
 mod texts;
 
 pub use found::separations;
-pub use part_names::state_name;
 pub use texts::{put_separations, separated_line};
