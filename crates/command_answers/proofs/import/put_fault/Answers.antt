@@ -13,6 +13,6 @@ returns-in-Unbalanced c =
     let put = c.put_three_names in
     let words : c.state_name-in-Unbalanced.result.now ∷ c.demand_name.result.now ∷ c.node_name.result.now ∷ []
     ≡ state_name i.states.now.listed arm.s.0 ∷ demand_name i.demands.now arm.k ∷ node_name i.net.now.nodes arm.n ∷ [] =
-    rw (c.state_name-in-Unbalanced.ensures, c.demand_name.ensures, c.node_name.ensures, c.items.ensures, c.items-in-Unbalanced.ensures, c.nodes.ensures) refl in
+    rw (c.state_name-in-Unbalanced.ensures, c.demand_name.ensures, c.node_name.ensures, c.items-listed.ensures, c.listed.ensures, c.items.ensures, c.items-in-Unbalanced.ensures, c.nodes.ensures) refl in
     subst (λ (f : ImportFault). OnOk put.result (put.new.text ≡ c.args.text.now ++ spaced (import_fault_words (case_of i) f))) (sym arm.is)
     (subst (λ (ws : List (List ℕ)). OnOk put.result (put.new.text ≡ c.args.text.now ++ spaced (codes "unbalanced" ∷ ws))) words put.ensures)
