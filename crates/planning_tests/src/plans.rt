@@ -185,7 +185,8 @@ type WideRow = (u64, Option<(Looked, Option<Numerators>)>);
 ///
 /// Of the first demand that is 1000000.000, in units over both primes, and the share costs 12 * 161000 * 10^9 * (1 / 1000000007 + 1 / 1000000009),
 /// a little less than a module on each link, which covers it. A cut has the multiplier 23000 * (4 / 1000000009 - 3 / 1000000007) where a lower
-/// module fails, and the other way round.
+/// module fails, and the other way round. Over both primes the demand is above 2^62, so no state is routed at that share: the plan is loose,
+/// though its cost meets its bound.
 ///
 /// The units of a seventh of the second demand are over 7 and both primes, again more than 2^62, and no failure finds a further cut. So the
 /// planning ends as without these rounds: with the first cut alone, at 161000 / 1000000009 for three times the demand, and with the fallback
@@ -198,7 +199,7 @@ const WIDE_SHARES: [WideRow; 2] = [
                 3864000,
                 (3864000030912000000000000, 1000000016000000063),
                 3864000,
-                true,
+                false,
             ),
             Some((1000000016000000063, 24, [0, 0, 0, 0])),
         )),
