@@ -28,7 +28,7 @@ module _ (desk : BoardDesk) (found : Option BoardPass) (there : IsPassThere desk
   pub some_pass : (pass : BoardPass) → found ≡ Some pass → IsPassOf desk pass
   some_pass pass is = subst (IsPassThere desk) is there
 
--- its own items stand at its places, which are places of the history
+-- its own items are those at its places, which are places of the history
 pub own_at : (p : Option BoardPass) → (seen_in p).own ≡ items_at (seen_in p).history (places_in p)
 own_at None = refl
 own_at (Some p) = refl

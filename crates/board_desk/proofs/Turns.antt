@@ -1,4 +1,4 @@
--- How a caller's turn comes to be what is said of it.
+-- Why a caller's turn is as its contract says.
 use Rattle.std.proofs.Common.{◌≡◌, ◌∙◌, ℕ, ◌-◌, ◌++◌, ◌∷◌, [], true, false, List, Some, length, subst, sym, ap, arith}
 use Rattle.net_core.proofs.Library.{range_with_len}
 use Rattle.std.proofs.lemmas.List.{append-nil, length-append}
@@ -64,7 +64,7 @@ cut_keeps found left cut (admitting.NoMemory back) answers = answers.4.origin
 
 -- a caller has taken a turn with its pass, and has another pass after it
 module _ (old new : Caller) (pass left : BoardPass) (turn : BoardTurn) (had : old.pass ≡ Some pass) (has : new.pass ≡ Some left) where
-  -- it is the same caller
+  -- it is this caller
   pub left_same : new.desk.now ≡ old.desk.now → new.number ≡ old.number → IsPassThere old.desk.now old.pass
       → AreOfOneDesk pass turn → AreOfOneDesk left turn → turn_units turn ≡ own_units pass → own_units left ≡ turn_units turn
       → IsSameCaller old new
