@@ -78,7 +78,7 @@ module _ (den : ℕ) where
       let found = amount_there rows amounts has.1.0 has.0 zip has.1.1 has.1.2 in
       (found.0, found.1, found.2.same_link ∙ has.2, found.2.same_module ∙ has.3)
 
--- what rows and their amounts come to
+-- rows and their amounts make a solution
 pub solution_is : (links : List Link) (box : List (List Span)) (n : ℕ) (rows : List ModuleRow) (s : Solution) → 0 < s.den → AreRowsOf links box rows → AllZip (IsAmountAt s.den) rows s.amounts → IsCertificateOf n s.cert
     → IsSolutionOf links n box s
 solution_is links box n rows s some are zip certificate = record {

@@ -60,7 +60,7 @@ fn widest(den: u128, terms: &[Term]) -> u128 {
     terms.iter().fold(den, |widest, term| widest.max(term.num))
 }
 
-/// What a denominator and all numerators are divided by: what divides them all; or so many times as much, where some would be wider than
+/// What a denominator and all numerators are divided by: what divides them all, or a multiple of it, where some would be wider than
 /// 60 bits.
 fn divisor_for(den: u128, terms: &[Term]) -> u128
     ensures { 0 < result }
@@ -70,7 +70,7 @@ fn divisor_for(den: u128, terms: &[Term]) -> u128
     common.saturating_mul(parts + 1).max(1)
 }
 
-/// Puts the multiplier of one of so many lines last, unless it is of one before the first, 0 or too wide.
+/// Puts the multiplier of one of the lines last, unless it is of one before the first, 0 or too wide.
 fn push_multiplier(
     multipliers: &mut List<Multiplier>,
     first: usize,

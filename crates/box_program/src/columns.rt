@@ -104,7 +104,7 @@ fn line_entries(
     Ok(Some(entries))
 }
 
-/// What a line gains and takes over a unit, where it gains so much; none where a number is too wide or nothing is gained or taken.
+/// What a line gains and takes over a unit, where this is its gain; none where a number is too wide or nothing is gained or taken.
 fn line_load(
     alloc: Global,
     modules: &[ModuleRow],

@@ -27,7 +27,7 @@ pub(crate) fn signed(n: u64) -> i64
     n as i64
 }
 
-/// The scale of a network, where the plan costs so much; none where its numbers are too wide.
+/// The scale of a network, where the plan has this cost; none where its numbers are too wide.
 pub(crate) fn scale_of(links: &[Link], cost: u128) -> Option<Scale> {
     let unit = cost_unit(links);
     let most = cost / unit as u128;

@@ -177,7 +177,7 @@ fn optimum_of(alloc: Global, program: &BoxProgram) -> Result<Option<Optimum<u32>
     }
 }
 
-/// What the program of a box leaves, where the plan costs so much: for each module of several counts an amount, in whole parts and
+/// What the program of a box leaves, where the plan has this cost: for each module of several counts an amount, in whole parts and
 /// further parts over one denominator, which together cost least of all that meet the lines; and numerators of lines over a
 /// denominator, a certificate of the greatest value for the box. None where a number is too wide.
 ///
@@ -189,7 +189,7 @@ fn optimum_of(alloc: Global, program: &BoxProgram) -> Result<Option<Optimum<u32>
 /// the certificate has the line 3 times over 5, and the rank is 7,200,000, which is 7.200 in thousandths of a unit.
 ///
 /// It takes time that grows with the turns of the simplex method, each in the square of the count of such modules and in their number
-/// times that of lines, and memory in the same.
+/// times that of lines, and as much memory.
 #[tactic(auto, using(crate::proofs::Amounts::solution_weaker))]
 pub fn solved(
     alloc: Global,
