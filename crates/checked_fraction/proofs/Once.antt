@@ -85,7 +85,7 @@ times_reduced n raw whole nums den pw r =
     product_of : (d g w : ℕ) → d * g ≡ w → pos w ≡ pos g *ℤ pos d
     product_of d g w e = omega (arith, ints)
 
--- two rows in lowest terms of the same fractions are each one of the other's fractions
+-- of two rows in lowest terms that reduce one row of fractions, each reduces the other
 over_other : (n : ℕ) (raw : ℕ → ℤ) (whole : ℤ) (nums : ℕ → ℤ) (den : ℤ) (others : ℕ → ℤ) (other : ℤ) → pos 0 <ℤ whole
     → IsReduced n raw whole nums den → IsReduced n raw whole others other → IsReduced n others other nums den
 over_other n raw whole nums den others other pw r s = record {

@@ -39,7 +39,7 @@ reduces f n whole g pw row =
     size : (k : ℕ) → pos g *ℤ over f g k ≡ f k → g * unsigned_abs (over f g k) ≡ unsigned_abs (f k)
     size k e = sym (unsigned_abs-mul (pos g) (over f g k)) ∙ ap unsigned_abs e
 
--- the same fractions over another denominator
+-- a row that reduces fractions reduces them also where numerators and denominator are d times as large
 pub scaled : (n d : ℕ) (raw low : ℕ → ℤ) (whole below : ℤ) (nums : ℕ → ℤ) (den : ℤ) → ((k : ℕ) → k < n → raw k ≡ pos d *ℤ low k) → whole ≡ pos d *ℤ below
     → IsReduced n low below nums den → IsReduced n raw whole nums den
 scaled n d raw low whole below nums den each all r = record {
@@ -65,7 +65,7 @@ pub made : (f : ℕ → ℤ) (n whole g : ℕ) (nums : ℕ → ℤ) (w : ℤ) �
 made f n whole g nums w pw row each e = subst (λ x. IsReduced n f x nums (pos (whole / g))) e
     (agreed n f (pos whole) (over f g) nums (pos (whole / g)) each (reduces f n whole g pw row))
 
--- the same by what was found
+-- numbers written as those divided by the common divisor that was found
 pub settled : (f : ℕ → ℤ) (n whole : ℕ) (found : Found) (nums : ℕ → ℤ) (w : ℤ) → 0 < whole → IsFoundDivisor f n whole found → ((k : ℕ) → k < n → nums k ≡ over f found.common.value k) → pos whole ≡ w
     → IsReduced n f w nums found.den
 settled f n whole found nums w pw found_of each e = subst (λ x. IsReduced n f w nums x) (sym found_of.den) (made f n whole found.common.value nums w pw found_of.common each e)
@@ -78,7 +78,7 @@ unmixed n nums pivot p q den none positive lowest = record {
   lowest = lowest;
 }
 
--- factors that are the same number of times others make the same fractions
+-- factors that are one number of times others make the fractions that those make
 pub times_same : (n : ℕ) (row pivot : List ℤ) (mix low : Mix) (whole : ℤ) (nums : ℕ → ℤ) (den : ℤ) → IsTimes mix low
     → IsReduced n (raw row pivot low) (whole *ℤ low.q) nums den → IsReduced n (raw row pivot mix) (whole *ℤ mix.q) nums den
 times_same n row pivot mix low whole nums den times r =

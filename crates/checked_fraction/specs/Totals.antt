@@ -2,7 +2,7 @@
 use Rattle.std.specs.Prelude.{ℤ, Option, Some, None, pos, ◌≡◌, ◌≤◌, ◌^◌, ◌+ℤ◌, ◌*ℤ◌, unsigned_abs}
 use Rattle.checked_fraction.specs.declared.sum.Sum.{Sum}
 
--- what a running sum stands for
+-- the value of a running sum
 abbrev pub total : Sum → ℤ
 total s = (s.high *ℤ pos (2 ^ 62)) +ℤ pos s.low
 

@@ -9,7 +9,7 @@ use crate::mix::{Mix, WIDE, reduced_at};
 /// The denominator comes last.
 #[derive(Clone, Copy)]
 pub struct WideNumber {
-    /// The place among the numbers, from 0; their count stands for the denominator.
+    /// The place among the numbers, from 0; their count means the denominator.
     pub at: u32,
     /// The number there, in lowest terms.
     pub value: i128,
