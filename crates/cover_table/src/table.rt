@@ -5,7 +5,7 @@ ghost use Rattle.cover_table.specs.inner.Rows.{IsNextRow};
 use net_core::{List, NoMemory};
 use std::alloc::Global;
 
-/// What stands where no cover is known: more than any weighs.
+/// The number where no cover is known: more than any weighs.
 const NONE: u64 = 1 << 45;
 
 /// The least weights of the covers of 0, 1, 2 and more that have one kind more; these are those without it.

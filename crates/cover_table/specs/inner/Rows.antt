@@ -12,7 +12,7 @@ pub record IsNextRow (row : List ℕ) (size weight : ℕ) (next : List ℕ) : Ty
   pub same : length next ≡ length row
   pub front : IsNextFront row size weight next
 
--- no cover weighs less, and one weighs so much where this is below 2^45
+-- no cover weighs less, and one weighs this where it is below 2^45
 pub record IsCoverBound (sizes weights : List ℕ) (need bound : ℕ) : Type 0 where
   pub at_most : (others : List ℕ) → CoversNeed sizes need others → bound ≤ total_of_kinds weights others
   pub reached : (2 ^ 45 ≤ bound) ⊎ ((numbers : List ℕ) × CoversNeed sizes need numbers × (bound ≡ total_of_kinds weights numbers))
