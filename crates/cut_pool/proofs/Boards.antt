@@ -14,7 +14,7 @@ use Rattle.cut_pool.proofs.Following.{stands_now}
 use Rattle.cut_pool.proofs.Growing.{cuts_more, left_more, legal_more}
 use Rattle.cut_pool.proofs.Sides.{IsAtDemands}
 
--- what holds of the cuts of a pool holds of the same cuts with other right sides
+-- what holds of the cuts of a pool holds where only their right sides change
 same_cuts : (P : Cut → Type 0) (old new : List PooledCut) → map (λ c. c.cut) new ≡ map (λ c. c.cut) old → All (λ c. P c.cut) old → All (λ c. P c.cut) new
 same_cuts P old new same all k c lt =
     let cut_of : PooledCut → Cut = λ d. d.cut in
@@ -102,7 +102,7 @@ module _ (p : Case) (es : List Entry) (demands : List Demand) (version : ℕ) (o
         };
       }
 
--- the same of what a board tells of itself
+-- what entries leave of a board, where only the existence of its pool and its history is told
 
 pub still_told : (p : Case) (old new : List PooledCut) → map (λ c. c.cut) new ≡ map (λ c. c.cut) old → ∥ ArePooledCuts p old ∥₁ → ∥ ArePooledCuts p new ∥₁
 still_told p old new same told = ∥∥₁_elim told (hlevel props) (λ cuts. ∣ still_cuts p old new same cuts ∣₁)
@@ -140,7 +140,7 @@ pub one_more : (es es' : List Entry) (caller : ℕ) (edit : Edit) (book old : Bo
 one_more es es' caller edit book old pool pool' (Ok reply) entries same = omega (arith, ap length entries, length-append es (Edited caller edit reply ∷ []))
 one_more es es' caller edit book old pool pool' (Err e) entries same = omega (arith, ap length same.1)
 
--- each pooled cut of a board stands at its demands
+-- each pooled cut of a board has its right side at the board's demands
 pub standing : (p : Case) (es : List Entry) (book : Book) (pool : List PooledCut) → length p.nodes ≡ length book.nodes → ∥ ArePooledCuts p pool ∥₁ → ∥ IsBoardAfter p es book.demands book.version (map line_of_pooled pool) ∥₁
     → All (λ c. c.right < 2 ^ 84) pool → All (StandsAt (length book.nodes) book.demands) pool
 standing p es book pool nodes cuts told low k d lt =

@@ -58,7 +58,7 @@ sum_low table (d ∷ ds) = omega (arith, sum_by-cons (part_of table) d ds, sum_b
 
 -- ---- one right side
 
--- a right side that stands can follow a change of one name's share
+-- a right side at the demands can follow a change of one name's share
 pub can_follow : (n : ℕ) (demands : List Demand) (name : List ℕ) (change : NeedChange) (c : PooledCut) → StandsAt n demands c → IsShareIn name demands change.before
     → IsShareOfDemand n change.before → IsShareOfDemand n change.after → CanFollow change c
 can_follow n demands name change c at share before after = record {
@@ -69,14 +69,14 @@ can_follow n demands name change c at share before after = record {
   part = omega (arith, at.right, share c.cut.table);
 }
 
--- where the shares are the same, nothing follows
+-- where the share is unchanged, nothing follows
 pub followed_same : (change : NeedChange) (pool : List PooledCut) → change.before ≡ change.after → All (CanFollow change) pool → pool ≡ map (followed change) pool
 followed_same change pool same can = same_lists pool (map (followed change) pool) (sym (length-map pool (followed change))) (λ k d lt.
     let c = get_or pool k d in
     let back : c.right ≡ (followed change c).right = omega (arith, (can k d lt).part, ap (asked_by c.cut.table) same) in
     ap (λ right. record { cut = c.cut; right = right }) back ∙ sym (get_or-map (followed change) pool k d d lt))
 
--- and stands at the demands after it, of which the other names' are the same
+-- and is that at the demands after the change, which leaves those of other names
 pub stands_after : (n : ℕ) (old new : List Demand) (name : List ℕ) (change : NeedChange) (c : PooledCut) → StandsAt n old c → IsShareIn name old change.before → IsShareIn name new change.after
     → without name new ≡ without name old → total_need new < 2 ^ 44 → StandsAt n new (followed change c)
 stands_after n old new name change c at before after others total =
@@ -100,7 +100,7 @@ next_right f xs ys k d lt is =
     ∙ (get_or-append-add front (drop k xs) 0 d
     ∙ (get_or-drop k xs 0 d ∙ ap (λ n. get_or xs n d) (let at : k + 0 ≡ k = omega arith in at))))
 
--- each right side of a pool stands after it has followed
+-- each right side of a pool is that at the demands after it has followed
 pub all_after : (n : ℕ) (old new : List Demand) (name : List ℕ) (change : NeedChange) (pool : List PooledCut) → All (StandsAt n old) pool → IsShareIn name old change.before → IsShareIn name new change.after
     → without name new ≡ without name old → total_need new < 2 ^ 44 → All (StandsAt n new) (map (followed change) pool)
 all_after n old new name change pool at before after others total =
@@ -112,7 +112,7 @@ cuts_same change (c ∷ pool) = ap (λ (cuts : List Cut). c.cut ∷ cuts) (cuts_
 
 -- ---- what a board tells of its cuts, and what it is told again
 
--- a pooled cut with its right side stands at the demands
+-- a pooled cut with its right side at the demands
 pub stands_now : (g : Graph) (n : ℕ) (demands : List Demand) (c : PooledCut) → IsCutOf g c.cut → length g.nodes ≡ n → AreDemands n demands → IsRight (Joins g) c.cut.lengths demands c.right → c.right < 2 ^ 84 → StandsAt n demands c
 stands_now g n demands c of nodes are right low = record {
   cut = ∣ (g, of) ∣₁;
@@ -132,7 +132,7 @@ at_demands n demands c are at = record {
 pub stands_among : (n : ℕ) (demands : List Demand) (c : PooledCut) → AreDemands n demands → StandsAt n demands c → StandsAmong demands c
 stands_among n demands c are at = (subst (λ m. AreDemands m demands) (sym at.nodes) are, subst (λ m. StandsAt m demands c) (sym at.nodes) at)
 
--- such a right side is the one that stands
+-- such a right side is the one that the pooled cut has
 pub summed_anew : (demands : List Demand) (c : PooledCut) (right : ℕ) → StandsAmong demands c → ((g : Graph) → IsCutOf g c.cut → IsRight (Joins g) c.cut.lengths demands right) → right ≡ c.right
 summed_anew demands c right stands is = ∥∥₁_elim stands.1.cut (hlevel props) (λ known.
     let of = known.1 in

@@ -36,7 +36,7 @@ none_passes test (x ∷ xs) i h (suc k) d lt = none_passes test xs (i + 1) (not_
 pub passes_nowhere : {X : Type 0} (test : X → Bool) (xs : List X) → position test xs ≡ None → (k : ℕ) (d : X) → k < length xs → test (get_or xs k d) ≡ false
 passes_nowhere test xs none = none_passes test xs 0 (sym (position_from-zero test xs) ∙ none)
 
--- a cut that has a place stands there
+-- a cut that has a place is there
 pub known_at : (cut : Cut) (pool : List PooledCut) (k : ℕ) → position (is_pooled_cut cut) pool ≡ Some k → slice_get (map (λ c. with_state c.cut) pool) k ≡ Some (with_state cut)
 known_at cut pool k at =
     let blank : PooledCut = record { cut = cut; right = 0 } in

@@ -15,11 +15,11 @@ use Rattle.cut_pool.specs.Rooms.{left_spare, sets_known}
 abbrev pub origin_of : Board → Network × States × List Demand
 origin_of b = (b.net.now, b.states.now, b.opening.value)
 
--- the same, as a case
+-- the network, the states and the opening demands of a board, as a case
 abbrev pub opening_case : Board → Case
 opening_case b = case b.net.now b.states.now b.opening.value
 
--- for so many edits that set the need of a known demand the board has memory
+-- how many edits that set the need of a known demand the board has memory for
 abbrev pub spare_of : Board → ℕ
 spare_of b = b.storage.spare
 

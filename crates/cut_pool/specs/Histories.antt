@@ -8,7 +8,7 @@ pub record Dated : Type 0 where
   pub demands : List Demand
   pub version : ℕ
 
--- what an entry leaves: an edit is made as far as it is accepted, whatever reply stands beside it, and a pooled cut changes nothing
+-- what an entry leaves: an edit is made as far as it is accepted, whatever reply it has, and a pooled cut changes nothing
 abbrev pub left_by_entry : List (List ℕ) → Dated → Entry → Dated
 left_by_entry nodes d (Edited caller edit reply) =
     let answer = edit_reply nodes d.demands d.version edit in

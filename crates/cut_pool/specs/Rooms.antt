@@ -8,6 +8,6 @@ sets_known demands (Set name need) = is_demand name demands
 sets_known demands (Add name from to need) = false
 sets_known demands (Drop name) = false
 
--- for so many edits memory is left once this one is committed
+-- how many such edits there is memory for once this one is committed
 abbrev pub left_spare : List Demand → Edit → ℕ → ℕ
 left_spare demands edit spare = cond (sets_known demands edit) (spare - 1) spare

@@ -8,7 +8,7 @@ use rayon::prelude::*;
 use std::alloc::Global;
 use std::thread::Threads;
 
-/// So many cuts are worth a thread of their own.
+/// The number of cuts that are worth a thread of their own.
 const CUTS_OF_A_THREAD: usize = 64;
 
 /// The right sides of the pool's cuts, in its order, each summed anew from the demands. Threads share the cuts.

@@ -18,10 +18,10 @@ use std::snapshot::Snapshot as Remembered;
 use std::thread::Threads;
 use turn_lock::Chronicle;
 
-/// So many entries are the most.
+/// The most entries of a board.
 const MOST_ENTRIES: usize = 65_536;
 
-/// So many cuts are the most.
+/// The most cuts of a pool.
 const MOST_CUTS: usize = 4096;
 
 /// One history of demand edits and pooled cuts, with what it leaves: the demands, their version, and each pooled cut with its
@@ -52,7 +52,7 @@ pub struct Board<'a> {
     pub ghost stands: { ∥ IsBoardAfter (case net.now states.now opening.value) entries book.demands book.version (map line_of_pooled pool) ∥₁ },
 }
 
-/// A board stands for its entries, and its origin is its network, states and opening demands.
+/// The history of a board is its entries, and its origin its network, states and opening demands.
 impl<'a> Chronicle for Board<'a> {
     ghost use Rattle.cut_pool.specs.Boards.{origin_of};
 
