@@ -35,7 +35,7 @@ drop_accepted nodes before after version next name known is one =
 pub place_below : (nodes : List (List ℕ)) (name : List ℕ) (k : ℕ) → position (λ n. are_same n name) nodes ≡ Some k → k < length nodes
 place_below nodes name k found = (position-Some (λ n. are_same n name) nodes k [] found).0
 
--- nodes of different names stand at different places
+-- nodes of different names are at different places
 pub ends_differ : (nodes : List (List ℕ)) (from to : List ℕ) (a b : ℕ) → position (λ n. are_same n from) nodes ≡ Some a → position (λ n. are_same n to) nodes ≡ Some b → are_same from to ≡ false → a ≢ b
 ends_differ nodes from to a b first second other same =
     let one : get_or nodes a [] ≡ from = same_is _ _ (position-Some (λ n. are_same n from) nodes a [] first).1 in

@@ -8,7 +8,7 @@ use net_core::{Copied, Demand, Demands, Edit, List, Name, Network, NoMemory, Nod
 /// From this many units on, all needs together are too much.
 const TOO_MUCH: u64 = 1 << 44;
 
-/// So many demands are the most.
+/// The most demands that a book takes.
 const MOST_DEMANDS: usize = 2048;
 
 /// The demands of a network's nodes, which edits change, with the version that counts the accepted ones.
