@@ -6,7 +6,7 @@ use Rattle.plan_terms.proofs.Lemmas.{joins_below}
 use Rattle.failure_states.specs.inner.Components.{AreComponents, HasEndsBelow, IsFirst, IsSplit}
 use Rattle.failure_states.proofs.Labelling.{components_apart, components_joined}
 
--- what is said of the demand at place k is said of the one that stands there
+-- what is said of a place k of the demands is said of the demand there
 pub split_test : (labels : List ℕ) (demands : List Demand) (k : ℕ) (d : Demand) → k < length demands → d ≡ get_or demands k d → IsSplit labels demands k → (0 < d.need) × (get_or labels d.from.0 0 ≢ get_or labels d.to.0 0)
 split_test labels demands k d lt is s =
     let here : slice_get demands k ≡ Some d = slice_get_read demands (length demands) k d refl lt is in
