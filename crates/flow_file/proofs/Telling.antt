@@ -15,7 +15,7 @@ told_ok : {X : Type 0} (q : Read ReportKind X) (x : X) (rest : Text) → retold 
 told_ok (Ok y) x rest e = let p : y ≡ (x, rest) = cc in ap (λ i. Ok i) p
 told_ok (Err d) x rest e = absurd cc
 
--- and a fault stands where it stood
+-- and a fault stays at its place
 record ToldFault {X : Type 0} (q : Read ReportKind X) (at : ℕ) (kind : FlowsKind) : Type 0 where
   pub before : ReportKind
   pub is : q ≡ Err (at, before)
@@ -44,7 +44,7 @@ online_told {X} r on = record {
       record { count = t.count; here = t.here; again = λ u same. ap retold (t.again u same) ∙ ap (λ (k : FlowsKind). Err (at, k)) d.now };
 }
 
--- what a call answered reads the same
+-- an answer agrees with its reading also where faults are told as those of the file
 pub told_reads : {X Y : Type 0} (view : X → Y) (a : Result X (Refusal ReportKind)) (rest : Text) (read : Read ReportKind Y) → ReadsAs view a rest read → ReadsAs view (told a) rest (retold read)
 told_reads view (Ok x) rest read h = ap retold h
 told_reads view (Err (Bad at kind)) rest read h = ap retold h

@@ -222,7 +222,7 @@ pub fn read_flows(
     ensures only { (f : File) → SpellsFlows (known_of net.now states.now) demands.now bytes.now f → AnswersAs (λ x. x) result f }
     // A fault is the first one that reading from left to right meets.
     ensures exact { ReadsAllAs (λ f. f) result (flows_of (known_of net.now states.now) demands.now bytes.now) }
-    // It doesn't stand too early: no bytes that agree past it are spelled right.
+    // It isn't too early: no bytes that agree past it are spelled right.
     ensures not_early { IfErr result (IsNotTooEarly (SpellsFlows (known_of net.now states.now) demands.now) bytes.now) }
 {
     let context = Context::new(alloc, net, states)?;
