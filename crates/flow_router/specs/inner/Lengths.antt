@@ -1,4 +1,4 @@
--- prices, and the same over a common divisor
+-- prices, and these over a common divisor
 use Rattle.std.specs.Prelude.{◌≡◌, ℕ, ℤ, ◌/◌, ◌^◌, ◌≤◌, ◌<◌, List, length, map, pos, slice_index}
 use Rattle.flow_router.specs.declared.cutting.LinkLengths.{LinkLengths}
 use Rattle.flow_router.specs.declared.cutting.LinkLengths.TheVariants.{Fit, Long}

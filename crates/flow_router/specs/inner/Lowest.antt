@@ -11,7 +11,7 @@ pub record IsCommonDivisor (den : ℕ) (flows : List Flow) (common : ℕ) : Type
   pub of_nums : All (λ f. common ∣ f.num) flows
   pub greatest : (d : ℕ) → d ∣ den → All (λ f. d ∣ f.num) flows → d ∣ common
 
--- a routing, and the same in lowest terms
+-- a routing, and this routing in lowest terms
 pub record IsInLowest (routing lowest : Routing) : Type 0 where
   pub common : ℕ
   pub positive : 0 < common
