@@ -123,7 +123,7 @@ module _ (joins : ℕ → ℕ → ℕ → Type 0) (demands : List Demand) (scale
         ended = All-more (IsEnded joins demands new) order i 0 lt (All-weaker (IsEnded joins demands old) (IsEnded joins demands new) still (take i order) r.ended) now;
       }
 
-  -- the same demands in another order
+  -- the demands in another order
   pub routed_all : (done all : List ℕ) (draft : Draft) → IsPermutation all done → AreRouted joins demands scale nums done draft → AreRouted joins demands scale nums all draft
   routed_all done all draft moved r = record {
     whole = r.whole;

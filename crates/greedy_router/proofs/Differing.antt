@@ -1,4 +1,4 @@
--- on a path no link stands twice
+-- on a path no link appears twice
 use Rattle.std.proofs.Common.{◌≡◌, ◌≢◌, ℕ, zero, suc, ◌<◌, true, eqb, List, [], ◌∷◌, get_or, length, sym, ◌∙◌, arith, AllPairs}
 use Rattle.std.proofs.lemmas.Bool.{eq-eqb}
 use Rattle.net_core.proofs.Library.{false≢true, list_any_at}

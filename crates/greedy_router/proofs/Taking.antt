@@ -13,7 +13,7 @@ Differ path = AllPairs (λ x y. x.0 ≢ y.0) path
 abbrev Taken : List LinkId → ℕ → ℕ → List ℕ → List ℕ → Type 0
 Taken path i num now old = (e : ℕ) → get_or now e 0 + cond (names_link e (take i path)) num 0 ≡ get_or old e 0
 
--- no link stands before itself
+-- no link comes before itself
 not_before : (path : List LinkId) (i : ℕ) (d : LinkId) → Differ path → i < length path → names_link (get_or path i d).0 (take i path) ≡ false
 not_before path i d differ lt =
     let same : length (take i path) ≡ i = length-take-le i path (omega (arith, lt)) in

@@ -4,7 +4,7 @@ use Rattle.greedy_router.specs.inner.Drafts.{Adds}
 use Rattle.greedy_router.specs.inner.FullLinks.{positives}
 use Rattle.greedy_router.proofs.routes.route_demand.Given as goal
 
--- paths are searched for in the same graph, and flows of the demand have been added
+-- paths are searched for in the graph of the beginning, and flows of the demand have been added
 abbrev pub invariant-loop-alloc : goal.invariant-loop-alloc
 invariant-loop-alloc l = (l.finder.graph ≡ l.initial.finder.graph) × Adds (Joins (graph_of l.initial.finder.graph)) l.k l.d l.initial.draft l.draft
 
