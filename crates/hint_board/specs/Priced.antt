@@ -2,7 +2,7 @@
 use Rattle.std.specs.Prelude.{◌≡◌, ℕ, List, length}
 use Rattle.route_law.specs.Terms.{ArePricedSomewhere}
 
--- a length for each of so many links, and the lengths are priced for some network
+-- there is a length for each of the links, and the lengths are priced for some network
 pub record AreHintLengths (links : ℕ) (lengths : List ℕ) : Type 0 where
   pub count : length lengths ≡ links
   pub priced : ArePricedSomewhere lengths
