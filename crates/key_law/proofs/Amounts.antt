@@ -31,7 +31,7 @@ module _ {N : Type 0} {links demands : ℕ} {bound : ℕ → ℤ} {basis : ℕ �
   kept_value_low i l packing columns narrow = subst (λ x. unsigned_abs x < 2 ^ 124) (row_product h i bound)
       (row_value_low (links + demands) bound is_column basis h.whole (place i) _ (den i) (h.roles.place_in i (omega (arith, l))) (kept_row h i l) (h.over i l) packing columns narrow)
 
-  -- the same of a key's, over a denominator for its demand's columns
+  -- the value of a key's row, over a denominator for its demand's columns, isn't negative, and below 2 ^ 124
   module _ (weight : ℕ → ℤ) (all : ℤ) (d : ℕ) (l : d < demands) (positive : pos 0 <ℤ all) (weights : HaveWeights links demands basis place den weight d all) where
     pub key_value_nonneg : pos 0 ≤ℤ key_dot links demands basis place kept weight all d bound
     key_value_nonneg = subst (λ x. pos 0 ≤ℤ x) (key_row_product h weight all d l bound)

@@ -11,7 +11,7 @@ use Rattle.key_law.proofs.Kept.{key_at_block, key_nums_product}
 use Rattle.key_law.proofs.Owned.{owned_difference}
 
 module _ (links demands : ℕ) (keys others : ℕ → ℕ → ℤ) (d : ℕ) (ld : d < demands) (same : (e k : ℕ) → e < demands → e ≢ d → others e k ≡ keys e k) where
-  -- where one key is new, differences change by as much of what the key changes as a column stands in its demand
+  -- where one key is new, a difference falls by the change of the key times the column's entry in its demand
   pub new_difference : (a : ℕ → ℤ) (k : ℕ) → difference links demands others a k ≡ difference links demands keys a k -ℤ (a (links + d) *ℤ (others d k -ℤ keys d k))
   new_difference a k =
       let changed : int_sum demands (λ e. (a (links + e) *ℤ others e k) -ℤ (a (links + e) *ℤ keys e k)) ≡ a (links + d) *ℤ (others d k -ℤ keys d k) =

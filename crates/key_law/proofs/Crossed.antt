@@ -1,4 +1,4 @@
--- how numbers over products compare, so do the same numbers but for factors
+-- cross products compare as those of numbers in proportion to theirs do
 use Rattle.std.proofs.Common.{◌≡◌, sym, ap, ◌∙◌, subst}
 use Rattle.std.proofs.Math.IntN.{ℤ, pos, ◌*ℤ◌}
 use Rattle.net_core.proofs.Library.{*ℤ_comm}
@@ -6,7 +6,7 @@ use Rattle.std.specs.Int.Signed.{◌<ℤ◌}
 use Rattle.simplex_law.proofs.Lemmas.{moved_out, times_less, lt_cancel}
 use Rattle.checked_fraction.proofs.Products.{regroup, positive_product, cancelled}
 
--- u over p stands to n over r as d and g to e and f
+-- the product of u and p is to that of n and r as d times g is to e times f
 crossed : (e d u n f g p r : ℤ) → e *ℤ u ≡ d *ℤ n → f *ℤ p ≡ g *ℤ r → (e *ℤ f) *ℤ (u *ℤ p) ≡ (d *ℤ g) *ℤ (n *ℤ r)
 crossed e d u n f g p r eu fp = pairs e f u p ∙ (ap (λ x. x *ℤ (f *ℤ p)) eu ∙ (ap (λ x. (d *ℤ n) *ℤ x) fp ∙ sym (pairs d g n r)))
   where

@@ -254,7 +254,7 @@ last_turned = record {
   prices_are = over_one (three _ refl refl refl);
 }
 
--- the path around stands where the slack stood, and has the last row
+-- the path around is where the slack was, and has the last row
 abbrev last : KeyedBasis ℕ
 last = record {
   links = 3;

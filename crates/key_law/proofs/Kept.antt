@@ -155,7 +155,7 @@ module _ {N : Type 0} (links demands : ℕ) (basis : ℕ → ColumnOf N) (place 
         together : (x s u v : ℤ) → x ≡ pos 0 -ℤ s → u ≡ v → x +ℤ (all *ℤ u) ≡ (all *ℤ v) -ℤ s
         together x s u v e f = ap (λ z. x +ℤ (all *ℤ z)) f ∙ omega (arith, ints, e)
 
--- a demand of which no column stands in the block: any weights and any denominator do, and its key's row takes nothing from the block's
+-- a demand with no column in the block: any weights and any denominator do, and its key's row takes nothing from the block's
 module _ {N : Type 0} (links demands : ℕ) (basis : ℕ → ColumnOf N) (place : ℕ → ℕ) (weight : ℕ → ℤ) (all : ℤ) (d : ℕ) (alone : (j : ℕ) → j < links → (basis (place j)).entry (links + d) ≡ pos 0) where
   pub alone_weights : (den : ℕ → ℤ) → HaveWeights links demands basis place den weight d all
   alone_weights den i l = ap (λ x. x *ℤ (weight i *ℤ den i)) (alone i l) ∙ (zero-*ℤ (weight i *ℤ den i) ∙ sym (ap (λ x. x *ℤ all) (alone i l) ∙ zero-*ℤ all))
@@ -167,7 +167,7 @@ module _ {N : Type 0} (links demands : ℕ) (basis : ℕ → ColumnOf N) (place 
       nothing : {x s : ℤ} → s ≡ pos 0 → x -ℤ s ≡ x
       nothing {x} {s} e = omega (arith, ints, e)
 
--- the same of what is kept
+-- a row of the block that is kept, as a row of the inverse, and its products
 module _ {N : Type 0} {links demands : ℕ} {bound : ℕ → ℤ} {basis : ℕ → ColumnOf N} {place role : ℕ → ℕ} {kept : ℕ → ℕ → ℤ} {den prices : ℕ → ℤ} {prices_den : ℤ}
     (h : IsKept links demands bound basis place role kept den prices prices_den) where
   -- row i of the block, as a row of the inverse

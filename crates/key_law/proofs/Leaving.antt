@@ -68,7 +68,7 @@ module _ {N : Type 0} {links demands : ℕ} {bound : ℕ → ℤ} {basis : ℕ �
     (c : ColumnOf N) (r : ℕ) (inside : r < links + demands)
     (pick : IsPick (links + demands) bound (λ j. role_nums links demands basis place kept den of_keys of_den (role j)) (full_prices links demands basis place prices prices_den) prices_den c (place r))
     (d : ℕ) (is : r ≡ links + d) (lone : IsLoneKey links demands basis place c d) where
-  -- where a key leaves for c, products fall by that with what the old keys leave of c, as often as a column stands in the demand
+  -- where a key leaves for c, products fall by that with what the old keys leave of c, times the column's entry in the demand
   pub key_turned_product : (nums a : ℕ → ℤ) → dot links nums (left_column links demands (put basis (place r) c) place a)
       ≡ dot links nums (left_column links demands basis place a) -ℤ (a (links + d) *ℤ dot links nums (left_column links demands basis place c.entry))
   key_turned_product nums a = key_turn_product links demands (key_part links demands basis place) (key_part links demands (put basis (place r) c) place) d lone.inside

@@ -23,7 +23,7 @@ module _ (links demands : ℕ) (keys : ℕ → ℕ → ℤ) (a : ℕ → ℤ) wh
     owned_product nums = sum-same links _ (λ k. (nums k *ℤ a k) -ℤ (nums k *ℤ keys d k)) (λ k l. ap (λ x. nums k *ℤ x) (owned_difference k) ∙ minus_left (a k) (keys d k) (nums k))
         ∙ sum-minus links (λ k. nums k *ℤ a k) (λ k. nums k *ℤ keys d k)
 
-    -- the column stands in no other demand
+    -- the column has no entry in another demand
     pub owned_apart : (e : ℕ) → e < demands → d ≢ e → a (links + e) ≡ pos 0
     owned_apart e l ne = owned e l ∙ unit-other d e ne
 

@@ -1,4 +1,4 @@
--- among rows of the block the kept rows decide: by their values and link entries they stand as whole rows do
+-- among rows of the block the kept rows decide: they are ordered by their values and link entries as whole rows are
 use Rattle.std.proofs.Common.{◌≡◌, ℕ, zero, suc, ◌<◌, ◌+◌, sym, ap, ◌∙◌, arith, subst}
 use Rattle.std.proofs.Math.IntN.{ℤ, pos, ◌-ℤ◌, ◌*ℤ◌}
 use Rattle.net_core.proofs.Library.{*ℤ-zero, ints}

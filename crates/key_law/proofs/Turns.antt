@@ -17,7 +17,7 @@ use Rattle.key_law.proofs.Kept.{inverse_block, row_product, cost_product}
 use Rattle.key_law.proofs.Roles.{role_tableau, role_den}
 use Rattle.checked_fraction.proofs.Products.{positive_product}
 
--- numbers that agree below m are the same row
+-- a row is a row of the basis where its numbers agree with one below m
 row_same : (m : ℕ) (basic : ℕ → ℕ → ℤ) (target u v : ℕ → ℤ) (d : ℤ) → ((k : ℕ) → k < m → u k ≡ v k) → IsRow m basic target u d → IsRow m basic target v d
 row_same m basic target u v d e row j l = dot-same m v u (basic j) (basic j) (λ k h. sym (e k h)) (λ k h. refl) ∙ row j l
 
@@ -158,7 +158,7 @@ module _ {N : Type 0} {links demands : ℕ} {bound : ℕ → ℤ} {basis : ℕ �
     pub old_key : (e : ℕ) → e < demands → e ≢ at → after (place (links + e)) ≡ basis (place (links + e))
     old_key e l ne = elsewhere (links + e) (omega (arith, l)) (λ f. ne (omega (arith, f, is)))
 
-    -- no column of the block stands in the row of the demand whose key leaves
+    -- no column of the block has an entry in the row of the demand whose key leaves
     same_sum : (j : ℕ) (f : ColumnOf N → ℤ) → j < links
         → int_sum demands (λ e. (after (place j)).entry (links + e) *ℤ f (after (place (links + e)))) ≡ int_sum demands (λ e. (basis (place j)).entry (links + e) *ℤ f (basis (place (links + e))))
     same_sum j f l = sum-same demands _ _ (λ e le. ap (λ x. x.entry (links + e) *ℤ f (after (place (links + e)))) (same_column j l) ∙ ⊎_elim

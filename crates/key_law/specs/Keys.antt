@@ -6,7 +6,7 @@ use Rattle.simplex_law.specs.Terms.{int_sum, dot, unit_vector, ColumnOf}
 -- path or the demand's slack. Of the other columns only what differs from the keys is kept: where the key of a demand runs over link 2,
 -- a path of it over links 0 and 1 leaves 1, 1 and -1.
 
--- a column in the rows of links, less each key as often as the column stands in the key's demand
+-- a column in the rows of links, less each key times the column's entry in the key's demand
 abbrev pub difference : ℕ → ℕ → (ℕ → ℕ → ℤ) → (ℕ → ℤ) → ℕ → ℤ
 difference links demands keys a k = a k -ℤ int_sum demands (λ d. a (links + d) *ℤ keys d k)
 
@@ -49,7 +49,7 @@ module _ {N : Type 0} (links demands : ℕ) (basis : ℕ → ColumnOf N) (place 
   abbrev pub key_part : ℕ → ℕ → ℤ
   key_part d = (key d).entry
 
-  -- a key stands once in its demand, and in no other
+  -- a key has the entry 1 in its demand, and 0 in each other
   abbrev pub AreKeys : Type 0
   AreKeys = (d e : ℕ) → d < demands → e < demands → (key d).entry (links + e) ≡ unit_vector d e
 
