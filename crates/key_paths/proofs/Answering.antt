@@ -21,7 +21,7 @@ use Rattle.key_rows.specs.declared.keyed.Keyed.{Keyed}
 use Rattle.key_paths.proofs.Costs.{none_gains}
 use Rattle.key_paths.proofs.Fitting.{above, share_times, role_over_is, role_low}
 
--- an optimum is one with the same values and prices
+-- a basis is optimal also with values and prices that equal its own
 optimum_same : {N : Type 0} (m : ℕ) (bound : ℕ → ℤ) (is_column : ColumnOf N → Type 0) (basis : ℕ → ColumnOf N) (values others : ℕ → ℤ) (den : ℤ) (duals prices : ℕ → ℤ) (duals_den : ℤ)
     → ((j : ℕ) → j < m → others j ≡ values j) → ((k : ℕ) → k < m → prices k ≡ duals k)
     → IsOptimum m bound is_column basis values den duals duals_den → IsOptimum m bound is_column basis others den prices duals_den

@@ -64,7 +64,7 @@ module _ (g : Graph) (demands : List Demand) {bound : ℕ → ℤ} {basis : ℕ 
       both : {x y s t : ℤ} → x ≡ y → s ≡ t → x +ℤ s ≡ y +ℤ t
       both {x} {y} {s} {t} e f = omega (arith, ints, e, f)
 
-  -- the same by what the keys leave of it
+  -- the cost of a named column by what the keys leave of it
   pub key_cost_named : (name : RouteColumn) (c : ColumnOf RouteColumn) → IsRouteName g demands name → IsColumnNamed (length g.links) (length demands) name c
       → cost (length g.links) (length demands) basis place (num b.prices.nums) b.prices.den c ≡ cost_at b name
   key_cost_named name c is named = sym (cost_product h.kept c) ∙ cost_named name c is named

@@ -11,7 +11,7 @@ use Rattle.key_paths.specs.inner.Ends.{row_den, shares, key_over, FitOver}
 use Rattle.key_rows.specs.Terms.{amounts, times_taken, weighted}
 use Rattle.key_rows.specs.declared.keyed.Keyed.{Keyed}
 
--- the denominator of a row at hand
+-- the denominator of a row that is given
 pub row_den_at : (rows : List Row) (i : ℕ) (row : Row) → slice_get rows i ≡ Some row → unsigned_abs row.den ≡ row_den rows i
 row_den_at rows i row at = ap (λ o. unsigned_abs (den_of o)) (sym at)
 

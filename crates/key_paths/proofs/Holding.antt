@@ -115,7 +115,7 @@ module _ {links demands : ℕ} {bound : ℕ → ℤ} {basis : ℕ → ColumnOf R
 pub shaped_here : {links demands : ℕ} {b : Keyed} → IsShapedBasis links demands b → IsShapedBasis (length b.rows) (length b.duals) b
 shaped_here {links} {demands} {b} s = subst (λ n. IsShapedBasis n (length b.duals) b) (sym s.rows) (subst (λ n. IsShapedBasis links n b) (sym s.duals) s)
 
--- the key of a demand stands in the lists, along links that there are
+-- the key of a demand is in the lists, along links that there are
 pub has_key : {links demands : ℕ} {b : Keyed} → IsShapedBasis links demands b → (d : ℕ) → d < demands → HasKey b.names b.places links d
 has_key {links} {demands} {b} s d l = (omega (arith, l, s.places), omega (arith, s.inside (links + d) (omega (arith, l)), s.names))
 

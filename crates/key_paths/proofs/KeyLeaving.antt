@@ -17,7 +17,7 @@ use Rattle.key_rows.specs.declared.keyed.Keyed.{Keyed}
 use Rattle.key_paths.proofs.Named.{own_none}
 use Rattle.checked_fraction.proofs.Products.{cancelled}
 
--- a column that stands in a demand is one of it
+-- a column with an entry in a demand is one of it
 unit_at : (f d : ℕ) → pos 0 <ℤ unit_vector f d → f ≡ d
 unit_at f d p = ⊎_elim (λ e. e) (λ ne. absurd (none (unit-other f d ne) p)) (cases_eq f d)
   where
@@ -42,7 +42,7 @@ module _ {links demands : ℕ} {bound : ℕ → ℤ} {basis : ℕ → ColumnOf R
   none_stands j lj = (e.held.keyed.named (place j) (kept.roles.place_in j (omega (arith, lj)))).demand d low
       ∙ own_none (column_name b.names (place j)) demands d (λ f. alone j lj (e.held.keyed.owned j lj ∙ f))
 
-  -- over any weights its row takes of the column what stands in the demand
+  -- over any weights its row takes of the column its entry in the demand
   module _ (weight : ℕ → ℤ) (all : ℤ) (positive : pos 0 <ℤ all) (weights_are : (i : ℕ) → i < links → weight i *ℤ den_at b.rows i ≡ all) where
     have : (f : ℕ) → f < demands → HaveWeights links demands basis place (den_at b.rows) weight f all
     have f lf i li = ap (λ x. (basis (place i)).entry (links + f) *ℤ x) (weights_are i li)
@@ -71,7 +71,7 @@ module _ {links demands : ℕ} {bound : ℕ → ℤ} {basis : ℕ → ColumnOf R
       let w = weights links (den_at b.rows) kept.over in
       own_some name d (subst (λ x. pos 0 <ℤ x) (e.named.demand d low) (positive_cancel w.1 (c.entry (links + d)) w.2 (stands w.0 w.1 w.2 w.3)))
 
--- what a column costs is the same for all ways to keep one basis
+-- a column has one cost for all ways to keep a basis
 pub same_priced : {links demands : ℕ} {bound : ℕ → ℤ} {basis : ℕ → ColumnOf RouteColumn} {place role other_place other_role : ℕ → ℕ} {b other : Keyed} {name : RouteColumn} {c : ColumnOf RouteColumn} {x : ℤ} (r i : ℕ)
     → IsEntering links demands bound basis place role b name c r → IsEntering links demands bound basis other_place other_role other name c i → other.prices ≡ b.prices
     → IsPriced links demands basis place b c x → IsPriced links demands basis other_place other c x

@@ -29,7 +29,7 @@ use Rattle.key_paths.proofs.Starting.{start_keyed}
 abbrev pub whole_price : ℕ → Keyed → ℕ → ℤ
 whole_price n b k = cond (ltb k n) (num b.prices.nums k) (num b.duals (k - n))
 
--- the measure is the same for the same prices
+-- equal prices have one measure
 lex_same : (base edge square n : ℕ) (v w : ℕ → ℤ) (d : ℕ) → ((k : ℕ) → k < n → v k ≡ w k) → lex_number base edge square n v d ≡ lex_number base edge square n w d
 unfolding lex_number
 lex_same base edge square zero v w d same = refl

@@ -76,13 +76,13 @@ gain_narrow (LinkSlack l) = omega (arith, ints)
 gain_narrow (DemandSlack d) = omega (arith, ints)
 gain_narrow (Carry d path) = omega (arith, ints)
 
--- what gains stands in its demand
+-- a column that gains has the entry 1 in its demand
 gains_own : (name : RouteColumn) → pos 0 <ℤ gain_in name → (d : ℕ) × (demand_in name ≡ Some d) × (own_entry name d ≡ pos 1)
 gains_own (LinkSlack l) h = absurd (omega (arith, ints, h))
 gains_own (DemandSlack d) h = absurd (omega (arith, ints, h))
 gains_own (Carry d path) h = (d, refl, unit-same d)
 
--- two columns of one name are the same
+-- two columns of one name are equal
 same_named : (links demands : ℕ) (name other : RouteColumn) (c e : ColumnOf RouteColumn) → IsColumnNamed links demands name c → IsColumnNamed links demands other e → name ≡ other → (k : ℕ) → k < links + demands → c.entry k ≡ e.entry k
 same_named links demands name other c e nc ne same k l = ⊎_elim
     (λ lt. nc.link k lt ∙ (ap (λ x. uses x k) same ∙ sym (ne.link k lt)))

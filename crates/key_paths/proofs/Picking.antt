@@ -109,7 +109,7 @@ module _ {links demands : ℕ} {bound : ℕ → ℤ} {basis : ℕ → ColumnOf R
       over_links d weights all ld = ap (λ n. (all *ℤ own_entry name d) -ℤ weighted b.owners weights d (num b.products) n) h.shaped.rows
           ∙ key_dot_is h c.entry have weights all d (own_entry name d) (num b.products) c.entry ld (own d ld) have
 
--- the products that are at hand are those with what the keys leave of the column
+-- the products that the basis holds are those with what the keys leave of the column
 pub asked : (bound : ℕ → ℤ) (basis : ℕ → ColumnOf RouteColumn) (place role : ℕ → ℕ) (b : Keyed) (products : List ℤ) (name : RouteColumn) (c : ColumnOf RouteColumn) → length products ≡ length b.rows
     → HaveColumnProducts (with_products b products) name (key_links b.names b.places (length b.rows) (demand_in name))
     → IsGainingIn (length b.rows) (length b.duals) bound basis place role b name c → IsAsked bound basis place role (with_products b products) name c

@@ -67,7 +67,7 @@ fn replace(keyed: &mut Keyed, room: &mut Room, name: RouteColumn, cost: &i128, i
     }
 }
 
-/// The place that the row of this number among the products stands for: one of the rows of links, or the objective row.
+/// The place of the row with this number among the products: one of the rows of links, or the objective row.
 fn product_place(places: &[u32], links: usize, k: u32) -> u32
     requires inside { k ≤ links }
     requires links { links ≤ length places.now }

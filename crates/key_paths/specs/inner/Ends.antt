@@ -46,7 +46,7 @@ HasFittingValues b = (all : ℕ) → 0 < all → all < 2 ^ 62 → DivideAll (row
 abbrev pub AreApartPlaces : List ℕ → Type 0
 AreApartPlaces places = (r s : ℕ) → r < s → s < length places → get_or places r 0 ≢ get_or places s 0
 
--- the values of the roles over all stand at their places
+-- the value of each role over the denominator is at the role's place
 abbrev pub AreValuesOver : Keyed → ℕ → List ℕ → Type 0
 AreValuesOver b all values = (r : ℕ) → r < length b.places → pos (get_or values (get_or b.places r 0) 0) ≡ role_over b all r
 
@@ -59,7 +59,7 @@ pub record IsEnded (b : Keyed) (best : Optimum RouteColumn) : Type 0 where
   pub duals : best.duals.nums ≡ b.prices.nums ++ b.duals
   pub duals_den : best.duals.den ≡ b.prices.den
 
--- the same beside the names
+-- an end beside the names of a basis makes its optimum
 abbrev pub IsEndOf : Keyed → Ended → Type 0
 IsEndOf b end = (names : List RouteColumn) → names ≡ b.names → IsEnded b (record { basis = names; den = end.den; values = end.values; duals = end.duals })
 

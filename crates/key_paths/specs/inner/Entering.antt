@@ -15,7 +15,7 @@ use Rattle.key_rows.specs.declared.ratio_test.WideTest.TheVariants.{Common as Te
 use Rattle.key_paths.specs.declared.turns.Turn.{Turn}
 use Rattle.key_paths.specs.declared.turns.Turn.TheVariants.{Again, Unbounded, Wide}
 
--- the same basis with other products
+-- a basis with other products
 abbrev pub with_products : Keyed → List ℤ → Keyed
 with_products b products = record { names = b.names; places = b.places; owners = b.owners; rows = b.rows; prices = b.prices; duals = b.duals; bounds = b.bounds; rest = b.rest; values = b.values; products = products }
 

@@ -43,7 +43,7 @@ IsCarrier g demands c = IsCarried g demands c.demand c.path
 abbrev pub NoneIsCheap : Graph → Keyed → ℕ → Demand → Type 0
 NoneIsCheap g b k d = (path : List LinkId) → 0 < d.need → IsPath (Joins g) d.from.0 d.to.0 path → pos 0 ≤ℤ cost_at b (Carry k path)
 
--- a path of demand k that gains has come to the others
+-- a path of demand k that gains has been added to the others
 pub record Adds (g : Graph) (b : Keyed) (k : ℕ) (d : Demand) (old new : List Carrier) : Type 0 where
   pub path : List LinkId
   pub is : new ≡ old ++ record { demand = k; path = path } ∷ []
@@ -51,7 +51,7 @@ pub record Adds (g : Graph) (b : Keyed) (k : ℕ) (d : Demand) (old new : List C
   pub leads : IsPath (Joins g) d.from.0 d.to.0 path
   pub cheap : cost_at b (Carry k path) <ℤ pos 0
 
--- a path of demand k that gains, if there is one, has come to the others
+-- a path of demand k that gains, if there is one, has been added to the others
 abbrev pub Offers : Graph → Keyed → ℕ → Demand → List Carrier → List Carrier → Type 0
 Offers g b k d old new = Adds g b k d old new ⊎ ((new ≡ old) × NoneIsCheap g b k d)
 

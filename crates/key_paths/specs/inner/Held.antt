@@ -39,7 +39,7 @@ pub record IsHeld (links demands : ℕ) (bound : ℕ → ℤ) (basis : ℕ → C
 abbrev pub HaveProducts : ℕ → List ℤ → (ℕ → ℕ → ℤ) → (ℕ → ℤ) → Type 0
 HaveProducts links products rows left = (i : ℕ) → i < links → num products i ≡ dot links (rows i) left
 
--- a column of this name, whose products with the rows are at hand, enters for that of role r, which is first by the ratio test
+-- a column of this name, whose products with the rows the basis holds, enters for that of role r, which is first by the ratio test
 pub record IsEntering (links demands : ℕ) (bound : ℕ → ℤ) (basis : ℕ → ColumnOf RouteColumn) (place role : ℕ → ℕ) (b : Keyed) (name : RouteColumn) (c : ColumnOf RouteColumn) (r : ℕ) : Type 0 where
   pub held : IsHeld links demands bound basis place role b
   pub named : IsColumnNamed links demands name c

@@ -21,7 +21,7 @@ abbrev pub wide_spread : Keyed → ℕ → WideKey → WideKind RouteColumn
 wide_spread b d KeyCommon = Common
 wide_spread b d KeyRow = RowOf (get_or b.places (length b.rows + d) 0)
 
--- the place that a number of a product stands for: that of a row of a link, or the objective row
+-- the place of the row with this number among the products: that of a row of a link, or the objective row
 abbrev pub IsProductPlace : List ℕ → ℕ → ℕ → ℕ → Type 0
 IsProductPlace places links k place = ((k < links) × (place ≡ get_or places k 0)) ⊎ ((k ≡ links) × (place ≡ length places))
 

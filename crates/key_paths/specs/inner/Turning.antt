@@ -16,11 +16,11 @@ use Rattle.key_rows.specs.declared.keyed.Keyed.{Keyed}
 abbrev pub key_takes : Keyed → ℕ → ℕ → ℤ
 key_takes b d k = num b.bounds (length b.rows + d) *ℤ path_uses (links_in (key_name b.names b.places (length b.rows) d)) k
 
--- the same basis with another rest
+-- a basis with another rest
 abbrev pub with_rest : Keyed → List ℤ → Keyed
 with_rest b rest = record { names = b.names; places = b.places; owners = b.owners; rows = b.rows; prices = b.prices; duals = b.duals; bounds = b.bounds; rest = rest; values = b.values; products = b.products }
 
--- the same basis with other values and products
+-- a basis with other values and products
 abbrev pub with_numbers : Keyed → List ℕ → List ℤ → Keyed
 with_numbers b values products = record { names = b.names; places = b.places; owners = b.owners; rows = b.rows; prices = b.prices; duals = b.duals; bounds = b.bounds; rest = b.rest; values = values; products = products }
 
@@ -48,7 +48,7 @@ pub record IsRoleSwap (old : Keyed) (i d : ℕ) (new : Keyed) : Type 0 where
   pub rest_count : length new.rest ≡ length old.rest
   pub rest : (k : ℕ) → num new.rest k ≡ (num old.rest k +ℤ key_takes old d k) -ℤ key_takes new d k
 
--- the column of this name and cost stands in the place of that of row i: names, owners, rows and prices are those of the next basis
+-- the column of this name and cost has the place of that of row i: names, owners, rows and prices are those of the next basis
 pub record AreRowsTurned (old : Keyed) (name : RouteColumn) (cost : ℤ) (i : ℕ) (new : Keyed) : Type 0 where
   pub names : new.names ≡ slice_set old.names (get_or old.places i 0) name
   pub places : new.places ≡ old.places
