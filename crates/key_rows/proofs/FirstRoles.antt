@@ -14,7 +14,7 @@ module _ {links demands : ℕ} {bound : ℕ → ℤ} {basis : ℕ → ColumnOf R
   abbrev m : ℕ
   m = links + demands
 
-  -- two rows of one role are the same but for a factor
+  -- two rows of one role are equal but for a factor
   same_rows : (r : ℕ) (u v : ℕ → ℤ) (d e : ℤ) → IsInverseRow m basis (place r) u d → IsInverseRow m basis (place r) v e → (k : ℕ) → k < m → e *ℤ u k ≡ d *ℤ v k
   same_rows r u v d e hu hv k l = let t = h.whole.tableau in
       row_unique m (λ j. (basis j).entry) h.whole.nums h.whole.den t.filling.0 t.filling.1 (unit_vector (place r)) u v d e k t.filling.2 hu.1 hv.1 l

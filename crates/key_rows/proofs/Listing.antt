@@ -15,14 +15,14 @@ each_more P xs i v lt before here j l = ⊎_elim
     (λ ne. subst (λ x. P j x) (sym (get_or-set_other xs i j v (pos 0) ne)) (before j (omega (arith, l, ne))))
     (cases_eq j i)
 
--- a product with row i, whose numbers are at hand
+-- a product with row i, whose numbers are given
 pub product_at : (rows : List Row) (n i : ℕ) (row : Row) (nums : List ℤ) (a : ℕ → ℤ) (x : ℤ) → IsRectangle n rows → i < length rows → slice_get rows i ≡ Some row → nums ≡ row.nums
     → x ≡ dot (length nums) (num nums) a → x ≡ dot n (nums_at rows i) a
 product_at rows n i row nums a x rectangle lt at same is =
     subst (λ m. x ≡ dot m (nums_at rows i) a) (rectangle i lt)
     (subst (λ xs. x ≡ dot (length xs) (num xs) a) (same ∙ ap nums_of (sym at)) is)
 
--- which of rows i and j comes first, by their numbers, which are at hand
+-- which of rows i and j comes first, by their numbers, which are given
 pub tie_at : (rows : List Row) (n i j : ℕ) (nums others : List ℤ) (p q : ℤ) (a b : ℕ) → n ≡ length rows → nums ≡ nums_of (slice_get rows i) → others ≡ nums_of (slice_get rows j)
     → IsTieFirst n (num nums) p (num others) q a b → IsTieFirst (length rows) (nums_at rows i) p (nums_at rows j) q a b
 tie_at rows n i j nums others p q a b width here there first =

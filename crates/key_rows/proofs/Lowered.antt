@@ -37,7 +37,7 @@ abbrev pub ComesNoLater : ℕ → ℕ → (ℕ → ℤ) → (ℕ → ColumnOf Ro
 ComesNoLater links demands bound basis place b name x y = (full others : ℕ → ℤ) → IsWholeRow links demands basis place b name x full → IsWholeRow links demands basis place b name y others
     → IsNoLater (links + demands) bound full x.product others y.product
 
--- the same number over three denominators
+-- one number over three denominators
 same_over : (den all whole q r s : ℤ) → pos 0 <ℤ whole → whole *ℤ q ≡ all *ℤ r → whole *ℤ s ≡ den *ℤ r → den *ℤ q ≡ all *ℤ s
 same_over den all whole q r s pw e f = cancelled whole (den *ℤ q) (all *ℤ s) pw
     (moved_out whole den q ∙ (ap (λ x. den *ℤ x) e ∙ (moved_out den all r ∙ (ap (λ x. all *ℤ x) (sym f) ∙ moved_out all whole s))))

@@ -28,7 +28,7 @@ less_rows_product rows owners weights d n m x =
     flip : (s x : ℤ) → (pos 0 -ℤ s) *ℤ x ≡ pos 0 -ℤ (x *ℤ s)
     flip s x = distribute_minus (pos 0) s x ∙ omega (arith, ints, *ℤ_comm s x)
 
--- the same over another denominator
+-- the product of a row in lowest terms, over the denominator that it has then
 pub reduced_product : (m : ℕ) (f nums x : ℕ → ℤ) (all den : ℤ) → IsReduced m f all nums den → all *ℤ dot m nums x ≡ den *ℤ dot m f x
 reduced_product m f nums x all den r =
     sym (sum-times m all (λ k. nums k *ℤ x k)) ∙ (sum-same m _ _ (λ k l. each (nums k) (f k) (x k) (r.same k l)) ∙ sum-times m den (λ k. f k *ℤ x k))

@@ -31,11 +31,11 @@ row_more rows owners weights d n k row new old at before after =
     less : (x : ℤ) → new ≡ old -ℤ x → old ≡ pos 0 -ℤ int_sum n (λ i. times_taken owners weights d i *ℤ nums_at rows i k) → new ≡ pos 0 -ℤ (int_sum n (λ i. times_taken owners weights d i *ℤ nums_at rows i k) +ℤ x)
     less x a b = omega (arith, ints, a, b)
 
--- the same numbers in lowest terms
+-- equal numbers in lowest terms
 pub reduced_of : (f g : ℕ → ℤ) (n : ℕ) (whole den : ℤ) (nums : ℕ → ℤ) → ((k : ℕ) → k < n → f k ≡ g k) → IsReduced n f whole nums den → IsReduced n g whole nums den
 reduced_of f g n whole den nums each low = record { positive = low.positive; same = λ k l. low.same k l ∙ ap (λ x. x *ℤ den) (each k l); lowest = low.lowest }
 
--- the same numbers are too wide
+-- equal numbers are too wide
 pub wide_of : (f g : ℕ → ℤ) (n : ℕ) (whole : ℤ) (wide : WideNumber) → ((k : ℕ) → k < n → f k ≡ g k) → IsTooWide n f whole wide → IsTooWide n g whole wide
 wide_of f g n whole wide each (nums, den, low, first) = (nums, den, reduced_of f g n whole den nums each low, first)
 

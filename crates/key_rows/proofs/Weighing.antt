@@ -20,7 +20,7 @@ multiple_of_one a p l = record {
   least = λ c h k. h;
 }
 
--- the denominator of a row at hand
+-- the denominator of a row that is given
 pub own_den_row : (rows : List Row) (owners : List ℕ) (d i : ℕ) (row : Row) → slice_get rows i ≡ Some row → cond (eqb (get_or owners i 0) d) (unsigned_abs row.den) 1 ≡ own_den rows owners d i
 own_den_row rows owners d i row at = ap (λ o. cond (eqb (get_or owners i 0) d) (unsigned_abs (den_of o)) 1) (sym at)
 

@@ -27,7 +27,7 @@ module _ (m : ℕ) (bound : ℕ → ℤ) (basis : ℕ → ColumnOf RouteColumn) 
   IsFirstRole these None = (r : ℕ) → r < m → these r → LimitsNothing r
   IsFirstRole these (Some r) = (r < m) × HasStep r × ((s : ℕ) → s < m → these s → IsNoLaterRole r s)
 
--- a column of this name may enter a basis that is held by its keys; its products with the rows are at hand
+-- a column of this name may enter a basis that is held by its keys; its products with the rows are those that the basis holds
 pub record IsAsked (bound : ℕ → ℤ) (basis : ℕ → ColumnOf RouteColumn) (place role : ℕ → ℕ) (b : Keyed) (name : RouteColumn) (c : ColumnOf RouteColumn) : Type 0 where
   pub keyed : IsKeyed (length b.rows) (length b.duals) bound basis place role b
   pub named : IsColumnNamed (length b.rows) (length b.duals) name c

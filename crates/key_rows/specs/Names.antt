@@ -61,7 +61,7 @@ abbrev pub key_links : List RouteColumn → List ℕ → ℕ → Option ℕ → 
 key_links names places links None = []
 key_links names places links (Some d) = links_in (key_name names places links d)
 
--- the role of a demand's key, and its place, stand in the lists
+-- the role of a demand's key, and its place, are in the lists
 abbrev pub HasKey : List RouteColumn → List ℕ → ℕ → ℕ → Type 0
 HasKey names places links d = (links + d < length places) × (get_or places (links + d) 0 < length names)
 
@@ -71,7 +71,7 @@ own_entry (LinkSlack link) d = pos 0
 own_entry (DemandSlack demand) d = unit_vector demand d
 own_entry (Carry demand path) d = unit_vector demand d
 
--- the demand of a column as the owner of a row, of all demands: their count stands for none
+-- the demand of a column as the owner of a row, of all demands: their count means none
 abbrev pub owner_in : ℕ → RouteColumn → ℕ
 owner_in demands (LinkSlack link) = demands
 owner_in demands (DemandSlack demand) = demand

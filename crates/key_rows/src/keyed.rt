@@ -3,7 +3,7 @@ use net_core::{List, RouteColumn};
 
 /// A basis by its keys. There is a row for each link, and those of the demands aren't kept.
 ///
-/// The columns stand at places; roles say what each place is for: the first roles are the rows of links, and then
+/// Each column has a place; roles say what each place is for: the first roles are the rows of links, and then
 /// each demand has one, whose place holds its key.
 #[derive(Drop)]
 pub struct Keyed {
@@ -17,7 +17,7 @@ pub struct Keyed {
     pub rows: List<Row>,
     /// The prices of the links.
     pub prices: Row,
-    /// The prices of the demands, over the same denominator.
+    /// The prices of the demands, over the denominator of those of the links.
     pub duals: List<i64>,
     /// The bounds of the links, and then those of the demands.
     pub bounds: List<i64>,

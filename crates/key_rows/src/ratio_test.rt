@@ -36,7 +36,7 @@ pub enum WideTest {
     Row(u32),
 }
 
-/// Whether the first row comes before the second, of the same value.
+/// Whether the first row comes before the second, where their values tie.
 fn row_before(rows: &[Row], first: &Candidate, second: &Candidate) -> bool
     requires rectangle { IsRectangle (length rows.now) rows.now }
     requires short { length rows.now < 2 ^ 32 }
@@ -233,7 +233,7 @@ fn key_candidate(
     weighed_candidate(keyed, room.weights.items(), own, &all, demand, role)
 }
 
-/// Whether a key comes before the best so far, of the same value.
+/// Whether a key comes before the best so far, where their values tie.
 fn key_before(
     entrant: &Entrant,
     room: &mut Room,

@@ -115,7 +115,7 @@ fn positive_step(
     }
 }
 
-/// Whether a key comes before the best row so far, of the same value.
+/// Whether a key comes before the best row so far, where their values tie.
 pub(crate) fn tie_with_row(
     entrant: &Entrant,
     room: &mut Room,
@@ -142,7 +142,7 @@ pub(crate) fn tie_with_row(
     ))
 }
 
-/// Whether a key comes before the best so far, of the same value, where that is the key of another demand.
+/// Whether a key comes before the best so far, where their values tie and that is the key of another demand.
 pub(crate) fn tie_with_key(
     entrant: &Entrant,
     room: &mut Room,

@@ -85,7 +85,7 @@ module _ (b : Keyed) (name : RouteColumn) (key : List LinkId) where
   abbrev pub IsLowered : Candidate → List ℤ → ℤ → Type 0
   IsLowered x nums product = ((x.role < length b.rows) × (nums ≡ nums_of (slice_get b.rows x.role)) × (product ≡ x.product)) ⊎ IsLoweredKey x nums product
 
-  -- the first comes before the second, which has the same value
+  -- the first comes before the second, where their values tie
   pub record IsTiedFirst (x y : Candidate) : Type 0 where
     pub nums : List ℤ
     pub product : ℤ

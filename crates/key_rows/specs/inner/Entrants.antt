@@ -11,7 +11,7 @@ use Rattle.key_rows.specs.declared.entrant.Entrant.{Entrant}
 use Rattle.key_rows.specs.declared.keyed.Keyed.{Keyed}
 use Rattle.key_rows.specs.declared.order.Candidate.{Candidate}
 
--- it runs over links that there are, and so does the key; its products are at hand
+-- it runs over links that there are, and so does the key; the basis holds its products
 pub record IsEntrant (e : Entrant) : Type 0 where
   pub shaped : IsShapedBasis (length e.keyed.now.rows) (length e.keyed.now.duals) e.keyed.now
   pub within : IsNameWithin (length e.keyed.now.rows) e.name.now

@@ -12,7 +12,7 @@ use Rattle.key_rows.specs.declared.order.Candidate.{Candidate}
 abbrev pub IsCandidateFirst : ℕ → Candidate → (ℕ → ℤ) → ℤ → Candidate → (ℕ → ℤ) → ℤ → Type 0
 IsCandidateFirst links first n r second o s = ComesFirst links (pos first.value) first.product (pos second.value) second.product n r o s first.role second.role
 
--- the same of two rows
+-- the first of two rows comes before the second, by their link entries where their values tie
 abbrev pub IsRowFirst : ℕ → List Row → Candidate → Candidate → Type 0
 IsRowFirst links rows first second = IsCandidateFirst links first (nums_at rows first.role) first.product second (nums_at rows second.role) second.product
 
