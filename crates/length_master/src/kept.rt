@@ -175,7 +175,7 @@ impl KeptMaster {
 
     /// The best certificate of cuts and a least share of theirs, or why there is none: as `master` answers, whatever is kept.
     ///
-    /// It begins with the basis that the last call ended with, which stays feasible where cuts have come to the list. The basis that it
+    /// It begins with the basis that the last call ended with, which stays feasible where cuts are added to the list. The basis that it
     /// ends with is tested; where it fails, a number is too wide or 20,000 turns don't suffice, `master` answers.
     ///
     /// It takes time that grows with the turns, each in the square of the count of links and in the lengths of the cuts that aren't 0,

@@ -5,7 +5,7 @@ use crate::row::{KeptRow, combine, enter, unit_row, worth};
 use net_core::{List, NoMemory};
 use std::alloc::Global;
 
-/// So many turns are taken at most in a call.
+/// The most turns that are taken in a call.
 const MOST_TURNS: usize = 20_000;
 
 /// A basis of the program over lengths.
