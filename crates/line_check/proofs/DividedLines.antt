@@ -55,7 +55,7 @@ up_least n d k positive h = ⊎_elim
     (λ (few : divided_up n d ≤ k). few)
     (cases_lt k (divided_up n d))
 
--- a quotient that is rounded up where a rest is left is the same
+-- a quotient with one more where a rest is left is the quotient rounded up
 pub up_is : (n d : ℕ) → 1 ≤ d → n / d + min 1 (n % d) ≡ divided_up n d
 up_is n d positive =
     let own = div_ceil_times n d (omega (arith, positive)) in

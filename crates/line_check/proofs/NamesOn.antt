@@ -25,7 +25,7 @@ or_before [] ys i d lt = absurd (omega (arith, lt))
 or_before (x ∷ xs) ys zero d lt = refl
 or_before (x ∷ xs) ys (suc i) d lt = or_before xs ys i d (omega (arith, lt))
 
--- the index of a test names the same line where others are put after
+-- the index of a test names its line also where others are put after
 pub tested_front : (tested more : List Tested) (robust : Bool) (i : ℕ) (line : Inequality) → names_by tested robust i line → names_by (tested ++ more) robust i line
 tested_front tested more robust i line names =
     let same : test_at tested i ≡ test_at (tested ++ more) i = sym (or_before tested more i no_test names.0) in (

@@ -9,7 +9,7 @@ use Rattle.line_check.proofs.KindWeights.{AreRising, rising_head, rising_tail}
 
 -- ---- one rising list of these members
 
--- what stands in a list is its first number, or one of the others
+-- an item of a list is its first number, or one of the others
 at_place : (x : ℕ) (xs : List ℕ) (n k : ℕ) → k < length (x ∷ xs) → slice_index_or (x ∷ xs) k n ≡ n → (x ≡ n) ⊎ Contains xs n
 at_place x xs n zero inside is = inl is
 at_place x xs n (suc k) inside is = inr (k, omega (arith, inside), is)
@@ -30,7 +30,7 @@ above_first x xs n rising has = omega (arith, rising_head x xs has.0 rising has.
 not_below : (x : ℕ) (xs : List ℕ) (n : ℕ) → AreRising (x ∷ xs) → Contains (x ∷ xs) n → x ≤ n
 not_below x xs n rising has = ⊎_elim (λ (same : x ≡ n). omega (arith, same)) (λ (later : Contains xs n). omega (arith, above_first x xs n rising later)) (contains_cases x xs n has)
 
--- the others of one list are among the others of the list of the same members
+-- where each number of one list is in another that begins alike, its others are among the others of that
 others_within : (x : ℕ) (xs ys : List ℕ) → AreRising (x ∷ xs) → ((n : ℕ) → Contains (x ∷ xs) n → Contains (x ∷ ys) n) → (n : ℕ) → Contains xs n → Contains ys n
 others_within x xs ys rising within n has = ⊎_elim
     (λ (same : x ≡ n). absurd (omega (arith, same, above_first x xs n rising has)))

@@ -44,7 +44,7 @@ counts_row (l ∷ ls) [] shape e = absurd shape
 counts_row (l ∷ ls) (c ∷ cs) shape zero = shape.0
 counts_row (l ∷ ls) (c ∷ cs) shape (suc e) = counts_row ls cs shape.1 e
 
--- the same counts of a link come to the same capacity
+-- equal counts of a link give it equal capacities
 same_capacity : (links : List Link) (a b : List (List ℕ)) → AreCounts links a → AreCounts links b → (e : ℕ) → slice_index_or a e [] ≡ slice_index_or b e [] → slice_index (capacities links a) e ≡ slice_index (capacities links b) e
 same_capacity [] [] [] one other e same = refl
 same_capacity [] (c ∷ cs) b one other e same = absurd one

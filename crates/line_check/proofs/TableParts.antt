@@ -110,7 +110,7 @@ not_paired p over kind weights kinds are no_pairs made is =
     let same = ap length (kinds_same p.links over is.kinds kinds is.are are) in
     no_pairs (omega (arith, same, some_by_right p over is.kinds weights kind is.right is.is_right is.some), omega (arith, same, is.paired))
 
--- lines are the same where their coefficients are
+-- lines are equal where their coefficients are
 abbrev pub line_with : List (List ℕ) → ℕ → Inequality
 line_with coefs right = record { coefs = coefs; given = 0; right = right }
 

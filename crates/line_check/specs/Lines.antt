@@ -44,7 +44,7 @@ pub record IsDividedLine (links : List Link) (names : ℕ → Inequality → Typ
 abbrev pub capped : Inequality → ℕ → ℕ → ℕ
 capped over e m = min (entry over.coefs e m) (need_of over)
 
--- some module gives so much
+-- some module gives this number
 abbrev pub GivesSome : List Link → Inequality → ℕ → Type 0
 GivesSome links over n = (e : ℕ) × (m : ℕ) × (e < length links) × (m < module_number links e) × (capped over e m ≡ n)
 
@@ -57,7 +57,7 @@ pub record AreKinds (links : List Link) (over : Inequality) (kinds : List ℕ) :
 abbrev pub NeverFails : Case → ℕ → Type 0
 NeverFails p e = (s : ℕ) → fails p.listed s e ≡ false
 
--- a module that gives so much lies on a link that no state fails
+-- a module that gives this number lies on a link that no state fails
 abbrev pub IsSpared : Case → Inequality → ℕ → Type 0
 IsSpared p over n = (e : ℕ) × (m : ℕ) × (e < length p.links) × (m < module_number p.links e) × (capped over e m ≡ n) × NeverFails p e
 

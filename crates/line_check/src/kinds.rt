@@ -39,7 +39,7 @@ fn next_on_link(
     least
 }
 
-/// The least of what modules give above a number; one more than is needed where no module gives so much.
+/// The least of what modules give above a number; one more than is needed where no module gives more.
 fn next_kind(links: &[Link], over: &Inequality, need: u32, above: u32) -> u32
     requires need { need ≡ need_of over.now }
     requires few { need ≤ 4096 }

@@ -72,7 +72,7 @@ fn all_coefs(
     Ok(coefs)
 }
 
-/// Whether some of the first modules of a link gives so much.
+/// Whether some of the first modules of a link gives what a kind does.
 fn gives_on(over: &Inequality, need: u32, e: usize, modules: usize, kind: u32) -> bool
     requires { need ≡ need_of over.now }
     ensures { IsTrue result ↔ GivesOn over.now e modules kind }
@@ -97,7 +97,7 @@ fn never_fails(states: &States, link: LinkId) -> bool
     true
 }
 
-/// Whether some module of a link gives so much, and no state fails the link.
+/// Whether some module of a link gives what a kind does, and no state fails the link.
 fn is_spared_on(
     states: &States,
     over: &Inequality,

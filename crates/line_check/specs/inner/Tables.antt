@@ -6,11 +6,11 @@ use Rattle.line_check.specs.Inequalities.{module_number}
 use Rattle.line_check.specs.Lines.{GivesSome, capped}
 use Rattle.line_check.specs.declared.inequality.Inequality.{Inequality}
 
--- some of the first modules of a link gives so much
+-- some of the first modules of a link gives this number
 abbrev pub GivesOn : Inequality → ℕ → ℕ → ℕ → Type 0
 GivesOn over e modules n = (m : ℕ) × (m < modules) × (capped over e m ≡ n)
 
--- some module of the first links gives so much
+-- some module of the first links gives this number
 abbrev pub GivesAmong : List Link → Inequality → ℕ → ℕ → Type 0
 GivesAmong links over count n = (e : ℕ) × (m : ℕ) × (e < count) × (m < module_number links e) × (capped over e m ≡ n)
 
