@@ -3,7 +3,7 @@ use crate::point::{Point, num_at};
 use net_core::{List, NoMemory};
 use std::alloc::Global;
 
-/// Each number is tried over 1 to so many.
+/// Each number is tried over 1 to this number.
 const PARTS: usize = 4;
 
 /// Puts a number last, unless it is there or 0.

@@ -134,7 +134,7 @@ pub(crate) fn in_lowest(alloc: Global, numbers: &Numbers, divisor: u128) -> Resu
     })
 }
 
-/// Whether two rows of numbers are the same.
+/// Whether two rows of numbers are equal.
 pub(crate) fn are_same(a: &Numbers, b: &Numbers) -> bool {
     a.need == b.need && a.coefs == b.coefs
 }

@@ -24,7 +24,7 @@ pub(crate) struct Pair {
     pub second: Multiplier,
 }
 
-/// A number so many times, or the greatest one.
+/// A product, or the greatest number where it is greater.
 fn times(number: u128, num: u64) -> u128 {
     number.saturating_mul(num as u128)
 }
@@ -75,7 +75,7 @@ fn push_pair(
     Ok(())
 }
 
-/// The numerators by which two lines ask for the same, if they are small and not both 1.
+/// The numerators by which two lines need equally much, if they are small and not both 1.
 fn even_nums(a: u128, b: u128) -> Option<(u128, u128)> {
     let common = gcd(a, b).max(1);
     let (n, m) = (b / common, a / common);
@@ -83,7 +83,7 @@ fn even_nums(a: u128, b: u128) -> Option<(u128, u128)> {
     if small && n != m { Some((n, m)) } else { None }
 }
 
-/// Puts the ways of adding two lines last that are tried: once each, and so that both ask for the same.
+/// Puts the ways of adding two lines last that are tried: once each, and so that both need equally much.
 fn push_ways(pairs: &mut List<Pair>, known: &Known, i: u32, j: u32) -> Result<(), NoMemory>
     requires { All (AreTwoTerms known.now.tested.now) pairs.old }
     ensures { OnOk result (All (AreTwoTerms known.now.tested.now) pairs.new) }

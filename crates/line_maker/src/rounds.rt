@@ -42,7 +42,7 @@ fn push_new(
     Ok(())
 }
 
-/// The first candidates that are new, at most so many, as lines.
+/// The first candidates that are new, at most `most`, as lines.
 fn lines_of(
     alloc: Global,
     links: &[Link],
@@ -62,9 +62,9 @@ fn lines_of(
     Ok(lines)
 }
 
-/// Divided lines that the point of a box's program doesn't meet, at most so many, those first that it misses by most of their right
-/// side: over each line that was tested, the divisor that tells most; and over sums of two of those that the program's certificate names,
-/// once each, and so that both ask for the same.
+/// Divided lines that the point of a box's program doesn't meet, at most `most`, those first that it misses by most of their right
+/// side: over each line that was tested, the divisor by which it misses most; and over sums of two of those that the program's certificate
+/// names, once each, and so that both need equally much.
 ///
 /// What is promised is that each of them holds, so that counts which carry the demands meet it. How good they are is left free, and so is
 /// whether there are any.
