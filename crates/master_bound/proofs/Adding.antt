@@ -10,7 +10,7 @@ all_more P cuts more cut is all one = subst (All P) (sym is) (All-push P cuts cu
 pub few_more : (state : ℕ) (cuts more : List CutLine) (cut : CutLine) → more ≡ cuts ++ cut ∷ [] → length cuts ≤ state → length more ≤ state + 1
 few_more state cuts more cut is few = omega (arith, ap length is, length-append cuts (cut ∷ []), few)
 
--- a cut of the next state comes to cuts of states before it
+-- a cut of the next state is added to cuts of states before it
 pub before_more : (state : ℕ) (cuts more : List CutLine) (cut : CutLine) → more ≡ cuts ++ cut ∷ [] → cut.state.0 ≡ state → All (λ line. line.state.0 < state) cuts → All (λ line. line.state.0 < state + 1) more
 before_more state cuts more cut is next before =
     all_more (λ line. line.state.0 < state + 1) cuts more cut is (All-weaker (λ (line : CutLine). line.state.0 < state) (λ (line : CutLine). line.state.0 < state + 1) (λ line h. omega (arith, h)) cuts before) (omega (arith, next))

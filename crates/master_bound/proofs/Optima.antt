@@ -47,7 +47,7 @@ module _ (links : List Link) (pairs : List UnitPair) (cuts : List CutLine) (best
       (λ (is : IsSlack (length links) master_slack (solution.basis j)). absurd (no_metric (cut_at cuts place) is.row (sym stands.named ∙ is.named)))
       (column j (subst (λ n. j < n) solution.names.count lt))
 
-  -- columns of one name have the same entries, so that no inverse tells them apart
+  -- columns of one name have equal entries, so that no inverse tells them apart
   pub all_named : IsPacking (length links) (master_bound pairs) (IsMasterColumn links pairs cuts) → HaveOneName best.basis → ⊥
   all_named packing h =
       let m = length links in

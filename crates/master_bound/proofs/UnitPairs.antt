@@ -9,7 +9,7 @@ use Rattle.master_law.specs.Terms.{IsPairOfLink}
 abbrev pub ArePairsBelow : List Link → List UnitPair → ℕ → Type 0
 ArePairsBelow links pairs n = (length pairs ≡ n) × All (λ p. p.cost < 2 ^ 40) pairs × ((e : ℕ) (l : Link) (p : UnitPair) → slice_get links e ≡ Some l → slice_get pairs e ≡ Some p → IsPairOfLink l.modules p)
 
--- what stands at a place of a list with one more is of the list, or the last
+-- an item of a list with one more is of the list, or the last
 last_or_before : {X : Type 0} (xs : List X) (y x : X) (i : ℕ) → slice_get (xs ++ y ∷ []) i ≡ Some x → (slice_get xs i ≡ Some x) ⊎ ((i ≡ length xs) × (y ≡ x))
 last_or_before [] y x zero at = inr (refl, cc at)
 last_or_before [] y x (suc i) at = absurd (cc at)

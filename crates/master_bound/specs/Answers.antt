@@ -1,4 +1,4 @@
--- what is answered of given cuts: their best certificate with a share of the same cost, or evidence
+-- what is answered of given cuts: their best certificate with a share that costs as much, or evidence
 use Rattle.std.specs.Prelude.{◌≡◌, ◌≢◌, ℕ, ◌*◌, ◌^◌, ◌≤◌, ◌<◌, List, [], All, AllPairs, Contains, Result, Ok, Err, get_or, length, map}
 use Rattle.std.specs.Int.{◌∣◌}
 use Rattle.module_prices.specs.declared.cheapest.UnitPair.{UnitPair}

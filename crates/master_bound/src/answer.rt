@@ -9,7 +9,7 @@ pub struct Multiplier {
     pub num: u64,
 }
 
-/// The best certificate of some cuts, and a share of the same cost.
+/// The best certificate of some cuts, and a share that costs as much.
 #[derive(Drop)]
 pub struct Best {
     /// The denominator of the multipliers.

@@ -9,7 +9,7 @@ pub record IsBetterOwn (links : List Link) (old : GreatestOwn) (k : ℕ) (cut : 
   pub own : IsOwnBound links cut.lengths cut.right bound
   pub is : ((bound ≤ old.bound) × (new ≡ old)) ⊎ ((old.bound < bound) × (new ≡ record { cut = k; bound = bound }))
 
--- a cut has an own bound that is at most the best one, and less where the cut stands before the best one
+-- a cut has an own bound that is at most the best one, and less where the cut comes before the best one
 pub record IsNoBetter (links : List Link) (cut : CutLine) (i : ℕ) (best : GreatestOwn) : Type 0 where
   pub bound : ℕ
   pub own : IsOwnBound links cut.lengths cut.right bound

@@ -27,7 +27,7 @@ pub record IsPlaceOf (cuts : List CutLine) (name : MasterColumn) (place : ℕ) :
   pub inside : place < length cuts
   pub named : name ≡ Metric (cut_at cuts place).state (cut_at cuts place).lengths
 
--- a column's multiplier has come to the others, unless it is 0
+-- a column's multiplier has been added to the others, unless it is 0
 abbrev pub PushesMultiplier : List CutLine → MasterColumn → ℕ → List Multiplier → List Multiplier → Type 0
 PushesMultiplier cuts name num old new =
     ((num ≡ 0) × (new ≡ old))
