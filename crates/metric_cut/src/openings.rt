@@ -64,7 +64,7 @@ fn each_once(alloc: Global, unit: Option<Cut>, price: Option<Cut>) -> Result<Lis
 /// The opening cuts of a state, with which a planning begins: what the state keeps of lengths of 1, then what it keeps of the
 /// price lengths. One that is 0 on all surviving links, or equals the other, is left out. It takes two searches from each node.
 ///
-/// A triangle whose links cost the same has the one opening cut 1, 1, 1 without failures, and 1, 1, 0 in a state that fails the
+/// A triangle whose links have one price has the one opening cut 1, 1, 1 without failures, and 1, 1, 0 in a state that fails the
 /// third link. Where a unit of capacity costs half as much on the first link, the second cut is 1, 2, 2.
 /// It takes memory for two cuts.
 pub fn opening(
