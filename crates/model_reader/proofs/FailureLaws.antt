@@ -36,7 +36,7 @@ name_at_place links e lt = rw (slice_get-get_or links e.0 no_link lt) refl
 
 -- ---- states
 
--- a state that may stand after earlier ones
+-- a state that may come after earlier ones
 abbrev IsStateAfter : List Link → List Listed → Listed → Type 0
 IsStateAfter links sofar s = IsNew (λ x. x.name) 256 sofar s.name × ((1 ≤ length s.links) × ComeAfter (λ before e. IsLinkIn links e) [] s.links)
 
@@ -158,7 +158,7 @@ failures_lawful links pairs = lawful_whole Section (failure_list_at links) (list
     (lawful_as (failure_list_at links) _ (list_items links) _ (IsListInForm links) AnyText (λ l h. all_items links l) (λ l h. h.1.1) (λ l h. (tt, (refl, h)))
     (lawful_then _ _ _ _ _ _ AnyText is_one_by_one (λ b l h. h.0) first_lawful (after_lawful links pairs)))
 
--- ---- faults stand where they are met
+-- ---- a fault is at the place where it is met
 
 link_online : (links : List Link) → IsOnline (failing_link_at links)
 link_online links = online_then _ _ (online_word Token Ended _) (λ i. online_give _)

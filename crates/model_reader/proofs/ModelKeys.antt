@@ -88,7 +88,7 @@ value_again k w (Plain j) key value = rw (key, value, is_same (plain_word j)) re
 value_again k w Reconfiguration key value = rw (key, value) refl
 value_again k w Charge key value = rw (key, value) refl
 
--- ---- each key stands once
+-- ---- each key is there once
 
 none_some : (x : ModelKey) → Some x ≡ None → ⊥
 none_some x e = absurd cc

@@ -49,7 +49,7 @@ value_word Charge = codes "YES"
 abbrev pub setting_items : Setting → List Item
 setting_items s = Verbatim (key_word (key_of s)) ∷ Verbatim (codes "=") ∷ Verbatim (value_word s) ∷ []
 
--- each key stands once
+-- each key is there once
 pub record IsEachOnce (settings : List Setting) : Type 0 where
   pub different : AllPairs (λ a b. key_of a ≢ key_of b) settings
   pub all : (key : ModelKey) → Any (λ s. key_of s ≡ key) settings

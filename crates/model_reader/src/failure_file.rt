@@ -101,7 +101,7 @@ pub fn read_failures(alloc: Global, net: &Network, bytes: &[u8]) -> Result<State
     ensures only { (states : List State) → SpellsFailures net.now.links bytes.now states → AnswersAs (λ s. s.listed) result states }
     // A fault is the first one that reading from left to right meets.
     ensures exact { ReadsAllAs (λ s. s.listed) result (failures_of net.now.links bytes.now) }
-    // It doesn't stand too early: no bytes that agree past it are spelled right.
+    // It isn't too early: no bytes that agree past it are spelled right.
     ensures not_early { IfErr result (IsNotTooEarly (SpellsFailures net.now.links) bytes.now) }
 {
     file(alloc, net, bytes)

@@ -50,7 +50,7 @@ pub enum ModelKind {
     DoubleKey,
     /// The value of the key is none that is served.
     Unsupported(ModelKey),
-    /// The first key that doesn't stand in the file.
+    /// The first key that the file lacks.
     Missing(ModelKey),
 }
 

@@ -280,7 +280,7 @@ pub fn read_model(alloc: Global, bytes: &[u8]) -> Result<Model, ModelRefusal>
     ensures only { (m : Mod) → SpellsModel bytes.now m → AnswersAs (λ x. x) result m }
     // A fault is the first one that reading from left to right meets.
     ensures exact { ReadsAllAs (λ m. m) result (model_of bytes.now) }
-    // It doesn't stand too early: no bytes that agree past it are spelled right.
+    // It isn't too early: no bytes that agree past it are spelled right.
     ensures not_early { IfErr result (IsNotTooEarly SpellsModel bytes.now) }
 {
     file(alloc, bytes)
