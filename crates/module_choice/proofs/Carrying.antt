@@ -39,7 +39,7 @@ named_survives g a (x ∷ es) (c ∷ cs) e leads named = ⊎_elim
 named_survives g a [] (c ∷ cs) e leads named = absurd leads
 named_survives g a (x ∷ es) [] e leads named = absurd leads
 
--- where no link stands twice, a link stands once where it is named
+-- where no link appears twice, a link appears once where it is named
 times_once : (e : ℕ) (es : List LinkId) → DistinctLinks es → times e es ≡ one_if (names_link e es)
 times_once e [] different = refl
 times_once e (x ∷ es) different =

@@ -90,7 +90,7 @@ needs_some : (capacity need count : ℕ) → 0 < need → need ≤ capacity * co
 needs_some capacity need zero some reaches = absurd (omega arith)
 needs_some capacity need (suc c) some reaches = omega arith
 
--- so many of the best kind reach a need
+-- the count of the best kind reaches the need
 best_reaches : (ms : List Module) (need : ℕ) (kind : Kind) → IsBestKind ms need kind → Reaches ms need (set (replicate (length ms) 0) kind.at kind.count)
 best_reaches ms need kind best = record {
   shape = length-set (replicate (length ms) 0) kind.at kind.count ∙ length-replicate (length ms) 0;
@@ -134,7 +134,7 @@ best_cheapest ms need kind many some limit sound best =
       narrow = omega (arith, value-one (λ m. m.capacity) ms kind.at kind.count best.module_at best.is, fewest-capacity best.module_at.capacity need kind.count (needs_some best.module_at.capacity need kind.count some best.reaches) best.fewest, limit, is.capacity);
     }
 
--- so many modules reach the need, and no fewer do
+-- this number of modules reaches the need, and no smaller one does
 pub record IsEnough (capacity need count : ℕ) : Type 0 where
   pub enough : need ≤ capacity * count
   pub least : (c : ℕ) → need ≤ capacity * c → count ≤ c

@@ -188,7 +188,7 @@ kind_known ms entries left least some lt =
 pub kind_carries : (ms : List Module) (entries : List Entry) (left : ℕ) (d : Module) → All IsModule ms → AreLeastCosts ms entries → 0 < left → left < length entries → 0 < (get_or ms (get_or entries left nothing).kind d).capacity
 kind_carries ms entries left d sound least some lt = (sound (get_or entries left nothing).kind d (kind_known ms entries left least some lt)).carries
 
--- the same, by what stands in the lists
+-- a further module is taken, where the entry and its module are read from their lists
 pub taken_next : (ms : List Module) (entries : List Entry) (steps left after v : ℕ) (cs : List ℕ) (d : Module) → All IsModule ms → AreLeastCosts ms entries → 0 < left → left < length entries → v ≡ get_or cs (get_or entries left nothing).kind 0 → after ≡ left - (get_or ms (get_or entries left nothing).kind d).capacity → AreTakenSoFar ms entries steps left cs → AreTakenSoFar ms entries steps after (set cs (get_or entries left nothing).kind (v + 1))
 taken_next ms entries steps left after v cs d sound least some lt same less taken =
     let x = get_or entries left nothing in

@@ -96,7 +96,7 @@ loads_covered links needs peaks counts each all =
       small = λ e l c at got. (here e l c at got).narrow;
     }
 
--- the same of what a call answers
+-- the counts that a call answers cover each load less the fixed capacity
 pub all_loads_covered : {E : Type 0} (links : List Link) (needs peaks : List ℕ) (answer : Result (List (List ℕ)) E) → ((e : ℕ) (l : Link) → slice_get links e ≡ Some l → get_or needs e 0 ≡ get_or peaks e 0 - l.fixed) → IfOk answer (CoverNeeds links needs) → IfOk answer (AreCovered links (slice_index peaks))
 all_loads_covered links needs peaks (Ok counts) each all = loads_covered links needs peaks counts each all
 all_loads_covered links needs peaks (Err e) each all = tt

@@ -62,7 +62,7 @@ fn best_kind(modules: &[Module], need: u64) -> Kind
     best
 }
 
-/// So many modules of one kind, and none of the others.
+/// A number of modules of one kind, and none of the others.
 fn one_kind(alloc: Global, kinds: usize, kind: Kind) -> Result<List<u64>, NoMemory>
     requires { kind.at < kinds }
     ensures { IfOk result (λ c. c ≡ slice_set (replicate kinds 0) kind.at kind.count) }

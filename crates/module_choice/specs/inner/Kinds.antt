@@ -3,7 +3,7 @@ use Rattle.std.specs.Prelude.{◌≡◌, ℕ, ◌*◌, ◌≤◌, List, Some, sl
 use Rattle.plan_terms.specs.Terms.{Module}
 use Rattle.module_choice.specs.declared.covers.Kind.{Kind}
 
--- so many modules of this kind reach the need, no fewer of them do, and no modules of one kind that reach it cost less
+-- this count of modules of this kind reaches the need, no smaller one does, and no modules of one kind that reach it cost less
 pub record IsBestKind (modules : List Module) (need : ℕ) (kind : Kind) : Type 0 where
   pub module_at : Module
   pub is : slice_get modules kind.at ≡ Some module_at

@@ -3,7 +3,7 @@ use Rattle.std.specs.Prelude.{◌≡◌, ℕ, ◌*◌, ◌^◌, ◌<◌, ◌==�
 use Rattle.plan_terms.specs.Terms.{Demand, LinkId, Link, Module, Flow, Routing, Case, graph_in, Joins, modules_capacity, CoverLoads, IsLeastFlow, IsLeastRouting, peak, IsLeastPath}
 use Rattle.module_choice.specs.inner.Cheapest.{AreCheapest}
 
--- how often link e stands on the path
+-- how often link e is on the path
 abbrev pub times : ℕ → List LinkId → ℕ
 times e path = count_by (λ x. x.0 == e) path
 
