@@ -80,7 +80,7 @@ link_again links n k l a b = cc (a, b)
 some_link : (links : List Link) (n : ℕ) (l : Link) (m : Module) → slice_get links n ≡ Some l → HasLeastUnitCost l.modules m → Any (λ l. HasLeastUnitCost l.modules m) links
 some_link links n l m at is = (n, l, slice_get_within links n l at, get_or_from_slice_get links n l l at, is)
 
--- what stands at a place
+-- the link at a place
 read_link : (links : List Link) (e : ℕ) (l : Link) → e < length links → get_or links e l ≡ l → slice_get links e ≡ Some l
 read_link links e l lt is = slice_get-get_or links e l lt ∙ ap Some is
 
