@@ -38,7 +38,7 @@ not_same a b h e =
     let told : are_same a b ≡ true = (slice_eq-Decides Decides-eqb a b (are_same a b) refl).1 e in
     absurd (cc)
 
--- where no name is the same, each is another
+-- where no name equals this one, each name differs from it
 pub none_named : {X : Type 0} (name_of : X → List ℕ) (name : List ℕ) (xs : List X) → is_named name_of name xs ≡ false → (k : ℕ) (d : X) → k < length xs → name_of (get_or xs k d) ≢ name
 none_named name_of name xs h k d lt =
     not_same (name_of (get_or xs k d)) name (none_passes (λ x. are_same (name_of x) name) xs h k d lt)
@@ -60,6 +60,6 @@ pub or_none : {F : Type 0} → (a b : Option F) → is_some a ≡ false → opti
 or_none None b h = refl
 or_none (Some x) b h = absurd (cc)
 
--- words are the same by their bytes
+-- words with the same bytes are equal
 pub same_is : (a b : List ℕ) → are_same a b ≡ true → a ≡ b
 same_is a b h = (slice_eq-Decides Decides-eqb a b (are_same a b) refl).0 h

@@ -8,7 +8,7 @@ use Rattle.net_core.specs.declared.states.StatesFault.{StatesFault}
 use Rattle.net_core.specs.declared.states.StatesFault.TheVariants.{TooMany, Empty, UnknownLink, DoubleState}
 use Rattle.net_core.specs.Tests.{first_fault, is_named}
 
--- the link stands in the list
+-- the link is in the list
 abbrev pub names_link : ℕ → List LinkId → Bool
 names_link e links = list_any (λ x. x.0 == e) links
 

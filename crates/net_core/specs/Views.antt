@@ -1,4 +1,4 @@
--- the graph and the case that values of the program stand for
+-- the graph and the case of values of the program
 use Rattle.std.specs.Prelude.{ℕ, List}
 use Rattle.net_core.specs.declared.demand.Demand.{Demand}
 use Rattle.net_core.specs.declared.graph.Surviving.{Surviving}
@@ -12,7 +12,7 @@ use Rattle.net_core.specs.Graphs.{Graph}
 abbrev pub graph : Network → States → ℕ → Graph
 graph net states s = record { nodes = net.nodes; links = net.links; listed = states.listed; state = s }
 
--- the graph that a value of the program stands for
+-- the graph of a network, its states and one of them
 abbrev pub graph_of : Surviving → Graph
 graph_of g = graph g.net.now g.states.now g.state.0
 
@@ -20,6 +20,6 @@ graph_of g = graph g.net.now g.states.now g.state.0
 abbrev pub case : Network → States → List Demand → Case
 case net states demands = record { nodes = net.nodes; links = net.links; listed = states.listed; demands = demands; places = net.places }
 
--- the case that a value of the program stands for
+-- the case of a network, its states and its demands
 abbrev pub case_of : Instance → Case
 case_of i = case i.net.now i.states.now i.demands.now
