@@ -59,7 +59,7 @@ fn spread_from(
 }
 
 /// A cut of the set of nodes that lie within some distance of a node under lengths, one per link. Of the sets whose boundary has less
-/// capacity than the demands across it need it takes the same one as `grown_set` does, and `None` says as little.
+/// capacity than the demands across it need it takes the one that `grown_set` would take, and `None` says as little as there.
 ///
 /// Lengths of 0, 1 and 1 on AB, BC and AC give the set of A and B, and that of C.
 ///
