@@ -4,7 +4,7 @@ use Rattle.net_core.proofs.Library.{cases_eq, get_or_default, get_or_from_slice_
 use Rattle.plan_checker.specs.Places.{HoldsAt}
 
 module _ {X : Type 0} (xs : List X) (P : ℕ → X → Type 0) where
-  -- what holds of the item at hand holds at its place
+  -- what holds of an item holds at its place
   pub holds_here : (k : ℕ) (x : X) → k < length xs → x ≡ get_or xs k x → P k x → HoldsAt xs k (P k)
   holds_here k x lt is p = record { item = x; at = slice_get_read xs (length xs) k x refl lt is; holds = p }
 
@@ -35,7 +35,7 @@ module _ {X : Type 0} (xs : List X) (P : ℕ → X → Type 0) where
       (λ other. before j (omega (arith, lt, other)))
       (cases_eq j k)
 
-  -- the same of an item that is read with something in place of those that aren't there
+  -- what holds of an item holds at its place, where the item is read with a default for those that aren't there
   pub holds_read : (k : ℕ) (d : X) → k < length xs → P k (get_or xs k d) → HoldsAt xs k (P k)
   holds_read k d lt = holds_here k (get_or xs k d) lt (get_or_default xs k d (get_or xs k d) lt)
 

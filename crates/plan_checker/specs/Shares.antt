@@ -9,7 +9,8 @@ use Rattle.plan_checker.specs.Places.{HoldsAt}
 use Rattle.plan_checker.specs.declared.finding.Finding.{Finding}
 use Rattle.plan_checker.specs.declared.finding.Finding.TheVariants.{NotTight}
 
--- units of a link's unit pair, over the scale: the capacity that they and the pre-installed one give, and what the units cost; without a module they give and cost 0
+-- units of a link's unit pair, over the scale: the capacity that they and the pre-installed one give, and what the units cost; without a
+-- module they give and cost 0
 pub record IsShareOf (l : Link) (scale units num cost : ℕ) : Type 0 where
   pub pair : ℕ × ℕ
   pub is_pair : IsUnitPair l.modules pair.0 pair.1 ⊎ ((l.modules ≡ []) × (pair ≡ (0, 0)))

@@ -46,7 +46,7 @@ pub fn check_instance(alloc: Global, instance: &Instance, plan: &Plan, full: boo
 
 /// Checks a plan in form for demands, trusting nothing of whoever made it: each demand is carried in each state within the
 /// capacities of the counts, the cost is theirs, and the bound is certified by cuts that the plan lists. `pool_full` says that
-/// the pool has no room, so that a cut of the certificate may stand outside it.
+/// the pool has no room, so that a cut of the certificate may be outside it.
 ///
 /// It takes a search from each node for each line of the certificate, the links times these lines, and else time in the size of
 /// the plan. At one time it takes memory for one line's lengths and the distances between its nodes, or for two numbers of each

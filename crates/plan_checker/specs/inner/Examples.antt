@@ -2,7 +2,7 @@
 use Rattle.std.specs.Prelude.{ℕ, List, [], ◌∷◌}
 use Rattle.plan_terms.specs.Terms.{Demand}
 
--- 12.00 from A to C, and so much from A to B
+-- 12.00 from A to C, and a need from A to B
 abbrev pub two_demands : ℕ → List Demand
 two_demands need =
     record { name = 65 ∷ []; from = record { 0 = 0 }; to = record { 0 = 2 }; need = 12000 }

@@ -11,7 +11,7 @@ abbrev pub IsFirstPlace : (ℕ → Type 0) → Option ℕ → Type 0
 IsFirstPlace P None = (k : ℕ) → P k → ⊥
 IsFirstPlace P (Some k) = IsLeastPlace P k
 
--- the same of a state and a place
+-- the least state and place at which this holds, or none where it holds at none
 abbrev pub IsFirstPair : (ℕ → ℕ → Type 0) → Option Place → Type 0
 IsFirstPair P None = (s k : ℕ) → P s k → ⊥
 IsFirstPair P (Some x) = IsLeastPair P x.group x.at

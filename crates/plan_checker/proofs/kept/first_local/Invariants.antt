@@ -4,7 +4,7 @@ use Rattle.plan_checker.specs.Certified.{IsLocalCut}
 use Rattle.plan_checker.specs.Places.{HoldsAt}
 use Rattle.plan_checker.proofs.kept.first_local.Given as goal
 
--- the lines so far may stand
+-- the lines so far are allowed
 abbrev pub invariant-loop-i : goal.invariant-loop-i
 invariant-loop-i l = let p = case_of l.instance in record {
   none : (j : ℕ) → j < l.i → HoldsAt l.lines j (IsLocalCut p l.full) → ⊥;
