@@ -106,7 +106,7 @@ module _ (p : Case) (snapshot : List CutLine) where
       reach = All-weaker (IsReached s taken) (IsReached s (taken ++ lengths ∷ [])) (reached_on s taken lengths) o.opened o.reach;
     }
 
-    -- the first of a state's opening cuts stands before the second
+    -- the first of a state's opening cuts comes before the second
     first_of_two : (done : List (List ℕ)) (lengths first : List ℕ) (rest : List (List ℕ)) → AreOpening (graph_in p s) (done ++ lengths ∷ rest) → Contains done first → AreOpening (graph_in p s) (first ∷ lengths ∷ [])
     first_of_two [] lengths first rest opening inside = absurd (omega (arith, inside.1))
     first_of_two (x ∷ []) lengths first [] opening inside = subst (λ ls. AreOpening (graph_in p s) (ls ∷ lengths ∷ [])) (only x first inside) opening

@@ -68,7 +68,7 @@ abbrev pub HasQuality : Case → List UnitPair → List CutLine → Plan → Lis
 HasQuality p pairs snapshot plan rounds cuts (Tight fractional) = IsTightPlan p pairs plan fractional
 HasQuality p pairs snapshot plan rounds cuts (Loose cause) = IsLooseBy p pairs snapshot plan rounds cuts cause
 
--- The plan comes of this worked list of the snapshot: all cuts of its certificate stand there, and it is tight, or loose by that list.
+-- The plan comes of this worked list of the snapshot: all cuts of its certificate are in it, and it is tight, or loose by that list.
 pub record IsWorkedPlan (p : Case) (snapshot cuts : List CutLine) (plan : Plan) : Type 0 where
   pub pairs : List UnitPair
   pub rounds : List Round

@@ -50,7 +50,7 @@ pub record Round : Type 0 where
   pub share : Share
   pub cuts : List CutLine
 
--- the list after some rounds, of which the last stands first
+-- the list after some rounds, of which the last comes first
 abbrev pub after_rounds : List CutLine → List Round → List CutLine
 after_rounds start [] = start
 after_rounds start (last ∷ earlier) = after_rounds start earlier ++ last.cuts
