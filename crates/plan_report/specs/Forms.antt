@@ -208,7 +208,7 @@ pub record HasPoolLine (pool : List CutLine) (index : ℕ) (cut : CutLine) : Typ
   pub same_state : cut.state.0 ≡ line_state (slice_get pool index)
   pub same_lengths : cut.lengths ≡ line_lengths (slice_get pool index)
 
--- a cut of a certificate is the pool's, where it is said to stand there
+-- a cut of a certificate is the pool's, where it is said to be there
 abbrev pub IsOfPool : List CutLine → Spot → CutLine → Type 0
 IsOfPool pool (Pool i) cut = HasPoolLine pool i cut
 IsOfPool pool Local cut = Unit {0}

@@ -51,7 +51,7 @@ reply_items places SelfDemand = Verbatim (codes "self-demand") ∷ []
 reply_items places TooMany = Verbatim (codes "too-many") ∷ []
 reply_items places (TooMuch total) = Verbatim (codes "too-much") ∷ Money places total ∷ []
 
--- an entry: a caller with an edit and its reply, or the place of a cut in the pool, whose state and lengths stand there
+-- an entry: a caller with an edit and its reply, or the place of a cut in the pool, with its state and lengths
 abbrev pub event_items : Places → Entry → List Item
 event_items places (Edited caller edit reply) = Verbatim (codes "caller") ∷ Whole caller ∷ edit_items places edit ++ reply_items places reply
 event_items places (Pooled index state lengths) = Verbatim (codes "cut") ∷ Whole index ∷ []
@@ -127,7 +127,7 @@ demand_items places nodes d = Verbatim d.name ∷ ends_items (node_name nodes d.
 abbrev pub modules_items : Link × List ℕ → List Item
 modules_items p = Verbatim p.0.name ∷ numbers_items p.1
 
--- where a cut stands: its place in the pool, or its own state and lengths
+-- the spot of a cut: its place in the pool, or its own state and lengths
 abbrev pub spot_items : Spot → CutLine → List Item
 spot_items (Pool i) cut = Verbatim (codes "pool") ∷ Whole i ∷ []
 spot_items Local cut = Verbatim (codes "local") ∷ Whole cut.state.0 ∷ numbers_items cut.lengths
@@ -164,7 +164,7 @@ plan_items known p =
 abbrev pub separation_items : List Listed → StateId → List ℕ → List Item
 separation_items listed state demand = Verbatim (codes "state") ∷ Whole state.0 ∷ Verbatim (state_name listed state.0) ∷ Verbatim (codes "demand") ∷ Verbatim demand ∷ []
 
--- what a plan command came to
+-- the outcome of a plan command
 abbrev pub outcome_items : KnownNames → Outcome → List Item
 outcome_items known (Planned caller serial plan) =
     section (codes "PLAN") (head_items caller serial plan.version plan.position ++ plan_items known plan)

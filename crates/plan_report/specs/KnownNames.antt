@@ -1,4 +1,4 @@
--- What the names in a report stand for.
+-- What the names in a report refer to.
 use Rattle.std.specs.Prelude.{ℕ, List}
 use Rattle.plan_terms.specs.Terms.{Link, Network, Places, Listed, States, Case}
 

@@ -1,4 +1,4 @@
--- what the names stand for that a value of the program holds
+-- what the names refer to that a value of the program holds
 use Rattle.plan_report.specs.declared.names.Names.{Names}
 use Rattle.plan_report.specs.KnownNames.{KnownNames, known_as}
 
