@@ -1,4 +1,4 @@
--- cuts as they come to the list
+-- cuts as they are added to the list
 use Rattle.std.proofs.Common.{◌≡◌, ◌≢◌, ◌^◌, ◌<◌, ◌≤◌, inl, inr, ⊎_elim, List, [], ◌++◌, AllPairs, Some, get_or, length, map, take, drop, slice_get, sym, ap, subst, ◌∙◌, arith, option_map}
 use Rattle.net_core.proofs.Library.{get_or-map, length-map, All-push, all_pairs_push, slice_get-map, slice_get_within}
 use Rattle.std.proofs.lemmas.List.{take-append-drop}
@@ -41,7 +41,7 @@ listed_later p net states old new c more seen are = record {
       (stand_later old.history more.further c.lines c.spots (subst (λ es. length es ≤ 65536) more.seen seen.few) (subst (λ es. length (cuts_of es) ≤ 4096) more.seen seen.few_cuts) are.spots);
 }
 
--- a cut that is admitted comes to the list
+-- a cut that is admitted is added to the list
 pub listed_take : (p : Case) (h : List Entry) (cut : Cut) (line : CutLine) (spot : Spot) (old new : Candidates) → IsCutOf (graph_in p cut.state.0) cut → IsLineAt p.demands cut line → IsSpotIn h (cut.state.0, cut.lengths) spot → AreListed p h old → PutsLine line spot old new → AreListed p h new
 listed_take p h cut line spot old new of is at are puts =
     listed_put p h line spot old new (line_is_cut p cut.state.0 cut line of is) is.low (subst (λ c. IsSpotIn h c spot) (sym (line_is p.demands cut line is)) at) are puts

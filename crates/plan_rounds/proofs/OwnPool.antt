@@ -80,7 +80,7 @@ one_more xs (c ∷ d ∷ cs) cut different all = absurd (
     different (length xs + 0) (length xs + 1) cut (omega arith) (omega (arith, length-append xs (c ∷ d ∷ cs)))
     (get_or-append-add xs (c ∷ d ∷ cs) 0 cut ∙ (all 0 cut (omega arith) ∙ (sym (all 1 cut (omega arith)) ∙ sym (get_or-append-add xs (c ∷ d ∷ cs) 1 cut)))))
 
--- a cut that stands isn't pooled again
+-- a cut that is there isn't pooled again
 none_more : (xs : List (ℕ × List ℕ)) (cut : ℕ × List ℕ) → AllPairs (λ a b. a ≢ b) (xs ++ cut ∷ []) → Contains xs cut → ⊥
 none_more xs cut different at =
     different at.0 (length xs + 0) cut (omega (arith, at.1)) (omega (arith, length-append xs (cut ∷ [])))
@@ -137,7 +137,7 @@ not_among lines line lacks at =
     let lengths : l.lengths ≡ line.lengths = ap (λ x. x.1) pair in
     lacks at.0 line inside (sym (ap (λ n. record { 0 = n }) state), sym lengths)
 
--- ---- least shares of the same cuts
+-- ---- least shares of equal cuts
 
 module _ (links : List Link) (pairs : List UnitPair) (xs ys : List CutLine) (within : Within xs ys) where
   cut_column : (c : ColumnOf MasterColumn) → IsCutColumn links pairs xs c → IsCutColumn links pairs ys c
@@ -242,9 +242,9 @@ pool_round p pairs caps pool lines share cuts old least found separates differen
     })
     old.same
 
--- ---- opening cuts that come to the list
+-- ---- opening cuts that are added to the list
 
--- a cut that is admitted is pooled where it comes to the list
+-- a cut that is admitted is pooled where it is added to the list
 pub opening_taken : (net : Network) (states : States) (before now : Seen Entry) (cut : Cut) (demands : List Demand) (line : CutLine) (spot : Spot) (old new : Candidates) → IsPartOf before.own before.history → SeesMore before now → IsSeenHistory net states now
     → All (λ c. c ≡ (cut.state.0, cut.lengths)) (cuts_since before now) → IsSpotIn now.history (cut.state.0, cut.lengths) spot → IsLineAt demands cut line → PutsLine line spot old new → PoolsOpening before now old.lines new.lines
 opening_taken net states before now cut demands line spot old new part more seen only at is puts = record { grows = grows; pools = pools }
@@ -304,7 +304,7 @@ without_keeps (y ∷ ys) zero x z lt here other (suc k, inside, is) = (k, omega 
 without_keeps (y ∷ ys) (suc n) x z lt here other (zero, inside, is) = (zero, omega arith, is)
 without_keeps (y ∷ ys) (suc n) x z lt here other (suc k, inside, is) = push_within y (without ys n) z (without_keeps ys n x z (omega (arith, lt)) here other (k, omega (arith, inside), is))
 
--- different items that stand among others are no more than those
+-- different items that are among others are no more than those
 pub few_within : {X : Type 0} (xs ys : List X) → AllPairs (λ a b. a ≢ b) xs → All (Contains ys) xs → length xs ≤ length ys
 few_within [] ys different inside = omega arith
 few_within (x ∷ xs) ys different inside =

@@ -1,4 +1,4 @@
--- histories that a separator has seen, as they grow, and where cuts stand in them
+-- histories that a separator has seen, as they grow, and the spots of cuts in them
 use Rattle.std.proofs.Common.{◌≡◌, ◌≢◌, ℕ, zero, suc, ◌<◌, ◌≤◌, ⊎_elim, List, [], ◌∷◌, ◌++◌, AllPairs, Some, length, take, slice_get, refl, sym, subst, ◌∙◌, arith}
 use Rattle.std.proofs.lemmas.List.{append_assoc, append-nil, length-append}
 use Rattle.net_core.proofs.Library.{all_pairs_push}
@@ -20,7 +20,7 @@ goes_none frame seen = record { same = refl; more = sees_none seen }
 pub goes_both : {M : Type 0} (f0 f1 f2 : Frame M) (s0 s1 s2 : Seen Entry) → GoesOn f0 f1 s0 s1 → GoesOn f1 f2 s1 s2 → GoesOn f0 f2 s0 s2
 goes_both f0 f1 f2 s0 s1 s2 a b = record { same = b.same ∙ a.same; more = sees_both s0 s1 s2 a.more b.more }
 
--- ---- what stands, stands later
+-- ---- spots are kept
 
 pub stand_later : (h f : List Entry) (lines : List CutLine) (spots : List Spot) → length (h ++ f) ≤ 65536 → length (cuts_of (h ++ f)) ≤ 4096 → StandAtSpots h lines spots → StandAtSpots (h ++ f) lines spots
 stand_later h f lines spots few few_cuts s = record {

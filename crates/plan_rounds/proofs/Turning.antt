@@ -142,7 +142,7 @@ module _ (p : Case) (pairs : List UnitPair) where
   ends_as cuts Full Other IsLast IsAfter best (Loose (Wide (Master basis kind))) full back last e = (e.0, last best e.1)
   ends_as cuts Full Other IsLast IsAfter best (Loose Cuts) full back last e = (full e.0, e.1)
 
-  -- ---- what the answers of the states come to
+  -- ---- what is found of the answers of the states
 
   pub taken_some : (m l : ℕ) → 0 < m → 0 < l → 0 < min m l
   taken_some m l some more = omega (arith, some, more)

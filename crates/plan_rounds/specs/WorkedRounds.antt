@@ -1,4 +1,4 @@
--- what the rounds of a planning come to
+-- how the rounds of a planning end
 use Rattle.std.specs.Prelude.{◌≡◌, ℕ, ◌+◌, ◌*◌, ◌^◌, ◌<◌, ◌≤◌, ◌⊎◌, List, [], ◌∷◌, Option, None, Some, All, IsSomeAnd, length, map, slice_get, take}
 use Rattle.plan_terms.specs.Terms.{Evidence, Route, Master, RouteColumn, WideKind, Entry, Caps, CutLine, Routing, Case, graph_in, Joins, IsCut, Carries}
 use Rattle.module_prices.specs.declared.cheapest.UnitPair.{UnitPair}
@@ -20,7 +20,7 @@ use Rattle.turn_lock.specs.Passes.{Seen}
 use Rattle.separator.specs.Separators.{IsSpotIn}
 use Rattle.plan_rounds.specs.declared.rounds.Worked.{Worked}
 
--- ---- cuts and where they stand
+-- ---- cuts and their spots
 
 -- The lines are the cuts that the first entries of a history pool, in their order: cuts of the case, with right sides below 2^84.
 pub record IsPoolOf (p : Case) (history : List Entry) (lines : List CutLine) : Type 0 where
@@ -29,7 +29,7 @@ pub record IsPoolOf (p : Case) (history : List Entry) (lines : List CutLine) : T
   pub cuts : All (IsCut p) lines
   pub low : All (λ c. c.right < 2 ^ 84) lines
 
--- one spot for each line: where its cut stands in the history
+-- one spot for each line: that of its cut in the history
 pub record StandAtSpots (history : List Entry) (lines : List CutLine) (spots : List Spot) : Type 0 where
   pub count : length spots ≡ length lines
   pub each : (i : ℕ) (line : CutLine) (spot : Spot) → slice_get lines i ≡ Some line → slice_get spots i ≡ Some spot → IsSpotIn history (cut_of_line line) spot
@@ -97,7 +97,7 @@ abbrev pub IsBestOfLast : Case → List UnitPair → List CutLine → List Round
 IsBestOfLast p pairs start [] best = best ≡ None
 IsBestOfLast p pairs start (last ∷ earlier) best = IsSomeAnd best (λ b. (b.share ≡ last.share) × IsBestAt p pairs (after_rounds start earlier) b)
 
--- Rounds from the pool's cuts on: a worked list, where its cuts stand in the history, and how the rounds end, tight or loose.
+-- Rounds from the pool's cuts on: a worked list, the spots of its cuts in the history, and how the rounds end, tight or loose.
 pub record AreWorkedRounds (p : Case) (history : List Entry) (pool : List CutLine) (w : Worked) : Type 0 where
   pub pairs : List UnitPair
   pub rounds : List Round

@@ -29,7 +29,7 @@ use plan_types::{Cause, Quality, Spot};
 use separator::{Separate, StateAnswer};
 use std::alloc::Global;
 
-/// So many cuts are added at most.
+/// The most cuts that are added.
 const MOST_ADDED: usize = 4096;
 
 /// How the rounds of a planning end.

@@ -9,7 +9,7 @@ use net_core::{Caps, Link, List, Network, NoMemory};
 use plan_types::Share;
 use std::alloc::Global;
 
-/// Capacities of a share, and the same in lowest terms: scale and numbers over the divisor.
+/// Capacities of a share, and these in lowest terms: scale and numbers over the divisor.
 #[derive(Drop)]
 pub struct ShareCaps {
     pub whole: Caps,
@@ -72,7 +72,7 @@ fn numbers_over(alloc: Global, nums: &[u128], divisor: u64) -> Result<List<u128>
     Ok(divided)
 }
 
-/// Capacities, and the same in lowest terms.
+/// Capacities, and these in lowest terms. It takes time and memory in the number of links.
 pub fn divided_caps(alloc: Global, whole: Caps) -> Result<ShareCaps, NoMemory>
     requires { 0 < whole.scale }
     ensures { IfOk result (IsDividedCaps whole) }

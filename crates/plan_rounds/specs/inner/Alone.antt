@@ -24,7 +24,7 @@ pub record PoolsOpening (old new : Seen Entry) (lines lines_now : List CutLine) 
 abbrev pub Within : List CutLine → List CutLine → Type 0
 Within xs ys = (c : CutLine) → Contains xs c → Contains ys c
 
--- as many cuts, and the same
+-- as many cuts, and each of the one list is one of the other
 pub record HasSameCuts (lines made : List CutLine) : Type 0 where
   pub count : length lines ≡ length made
   pub to : Within lines made

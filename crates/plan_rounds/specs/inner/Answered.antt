@@ -1,4 +1,4 @@
--- what the answers of all states come to
+-- what is found of the answers of all states
 use Rattle.std.specs.Prelude.{◌≡◌, ◌≢◌, ℕ, ◌<◌, ◌≤◌, ◌⊎◌, ◌++◌, List, [], ◌∷◌, None, Some, All, AllPairs, IfSome, length, slice_get}
 use Rattle.plan_terms.specs.Terms.{Evidence, Entry, Caps, Routing, Case, graph_in, HasShortLengths}
 use Rattle.flow_router.specs.Answers.{IsEvidenceHere, IsRouted}
@@ -36,8 +36,8 @@ module _ (p : Case) (caps : Caps) where
     pub each : (s : ℕ) (r : Routing) → slice_get routings s ≡ Some r → IsRouted (graph_in p s) p.demands caps r
 
 module _ (p : Case) (caps : Caps) (history : List Entry) where
-  -- The answers of the first n states: cuts of different states, each with the spot where it stands, and evidence of one state where
-  -- one is wide. Where there is no cut, each state is routed or wide, and where there is no evidence either, each is routed.
+  -- The answers of the first n states: cuts of different states, each with its spot, and evidence of one state where one is wide. Where
+  -- there is no cut, each state is routed or wide, and where there is no evidence either, each is routed.
   pub record AreSorted (n : ℕ) (a : Answered) : Type 0 where
     pub cuts : All (IsSeparatingCut p caps) a.found.lines
     pub short : All HasShortLengths a.found.lines

@@ -1,4 +1,4 @@
--- the cuts of a planning, as they come to its list
+-- the cuts of a planning, as they are added to its list
 use Rattle.std.specs.Prelude.{◌≡◌, ℕ, ◌^◌, ◌<◌, ◌⊎◌, ◌++◌, List, [], ◌∷◌, All, Some, length, slice_get}
 use Rattle.plan_terms.specs.Terms.{Demand, Entry, CutLine, Case, IsCut}
 use Rattle.plan_types.specs.declared.certificate.Spot.{Spot}
@@ -15,7 +15,7 @@ pub record GoesOn {M : Type 0} (frame frame_now : Frame M) (old new : Seen Entry
   pub same : frame_now ≡ frame
   pub more : SeesMore old new
 
--- cuts of the case with right sides below 2^84, no two the same, each with the spot where it stands in the history
+-- cuts of the case with right sides below 2^84, all different, each with its spot in the history
 pub record AreListed (p : Case) (history : List Entry) (c : Candidates) : Type 0 where
   pub cuts : All (IsCut p) c.lines
   pub low : All (λ l. l.right < 2 ^ 84) c.lines
@@ -27,13 +27,13 @@ pub record AreFirstSpots (n : ℕ) (spots : List Spot) : Type 0 where
   pub count : length spots ≡ n
   pub each : (i : ℕ) → i < n → slice_get spots i ≡ Some (Pool i)
 
--- the line goes after the others, with its spot, unless its cut stands among them
+-- the line goes after the others, with its spot, unless its cut is among them
 abbrev pub PutsLine : CutLine → Spot → Candidates → Candidates → Type 0
 PutsLine line spot old new =
     (HasCut old.lines line.state.0 line.lengths × (new ≡ old))
     ⊎ (Lacks old.lines line × (new ≡ record { lines = old.lines ++ line ∷ []; spots = old.spots ++ spot ∷ [] }))
 
--- the cut's line goes after the others, unless the cut stands among them
+-- the cut's line goes after the others, unless the cut is among them
 abbrev pub TakesCut : List Demand → Cut → List CutLine → List CutLine → Type 0
 TakesCut demands cut old new =
     (HasCut old cut.state.0 cut.lengths × (new ≡ old))

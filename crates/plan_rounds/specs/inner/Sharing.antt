@@ -12,13 +12,13 @@ use Rattle.master_law.specs.Terms.{share_caps}
 use Rattle.plan_rounds.specs.inner.Answered.{AreRoutedStates, IsEvidenceOfState}
 use Rattle.plan_rounds.specs.declared.shares.ShareCaps.{ShareCaps}
 
--- capacities, and the same over a divisor of scale and numbers
+-- capacities, and these with scale and numbers over a divisor
 pub record IsDividedCaps (caps : Caps) (c : ShareCaps) : Type 0 where
   pub whole : c.whole ≡ caps
   pub positive : 0 < c.divisor
   pub times : caps_times c.divisor c.divided ≡ c.whole
 
--- the share's capacities, and the same over such a divisor
+-- the share's capacities, and these over such a divisor
 abbrev pub IsDividedShare : List Link → List UnitPair → Share → ShareCaps → Type 0
 IsDividedShare links pairs share c = IsDividedCaps (share_caps links pairs share) c
 
@@ -50,7 +50,7 @@ pub record HasWideNeed (demands : List Demand) (scale k : ℕ) : Type 0 where
   pub at : slice_get demands k ≡ Some demand
   pub wide : 2 ^ 62 ≤ demand.need * scale
 
--- the slacks of the first n rows of a program of so many links
+-- the slacks of the first n rows of a program with this number of links
 pub record AreSlackNames (links n : ℕ) (names : List RouteColumn) : Type 0 where
   pub count : length names ≡ n
   pub each : (row : ℕ) → row < n → slice_get names row ≡ Some (beside links (λ e. LinkSlack (record { 0 = e })) (λ k. DemandSlack k) row)

@@ -16,7 +16,7 @@ use Rattle.plan_rounds.specs.declared.rounds.Turn.TheVariants.{Further, Last}
 use Rattle.plan_rounds.specs.declared.rounds.Worked.{Worked}
 use Rattle.plan_rounds.specs.declared.sorting.Answered.{Answered}
 
--- the first cuts, as many as there is room for, have come to the list with their spots
+-- the first cuts, as many as there is room for, have been added to the list with their spots
 pub record AddsFirst (room : ℕ) (found old new : Candidates) : Type 0 where
   pub lines : new.lines ≡ old.lines ++ take room found.lines
   pub spots : new.spots ≡ old.spots ++ take room found.spots
@@ -64,13 +64,13 @@ pub record Extends (old new : Candidates) : Type 0 where
   pub lines : new.lines ≡ old.lines ++ more_lines
   pub spots : new.spots ≡ old.spots ++ more_spots
 
--- the first cuts that were found have come to the list, or it is as it was
+-- the first cuts that were found have been added to the list, or it is as it was
 abbrev pub AddsFound : ℕ → Answered → Candidates → Candidates → Bool → Type 0
 AddsFound room a old new true = AddsFirst room a.found old new × (0 < room) × (0 < length a.found.lines)
 AddsFound room a old new false = new ≡ old
 
 module _ (p : Case) (pairs : List UnitPair) where
-  -- a round of at least one cut has come to the list, or the list is as it was
+  -- a round of at least one cut has been added to the list, or the list is as it was
   abbrev pub AddsRound : ℕ → Candidates → Candidates → Bool → Type 0
   AddsRound room old new true = (round : Round) × IsRound p pairs old.lines round × (new.lines ≡ old.lines ++ round.cuts) × (0 < length round.cuts) × (length round.cuts ≤ room) × Extends old new
   AddsRound room old new false = new ≡ old
@@ -80,7 +80,7 @@ module _ (p : Case) (pairs : List UnitPair) where
   IsOpenTurn room mid new (Further best) = IsFurther p pairs room None mid new best
   IsOpenTurn room mid new (Last best quality) = (new ≡ mid) × EndsBy p pairs mid (room ≡ 0) (λ b. ⊥) best quality
 
-  -- such a turn after rounds, which leave so much room
+  -- such a turn after rounds, which leave room for this number of cuts
   pub record IsLaterTurn (room : ℕ) (old new : List CutLine) (turn : Turn) : Type 0 where
     pub mid : List CutLine
     pub rest : ℕ

@@ -6,7 +6,7 @@ use Rattle.plan_rounds.specs.inner.Listing.{AreListed, GoesOn}
 use Rattle.plan_rounds.specs.inner.Turns.{ArePassed, Extends}
 use Rattle.plan_rounds.proofs.wide_rounds.pass_wide.Given as goal
 
--- rounds have come to the list, and the pool is that of the list
+-- rounds have been added to the list, and the pool is that of the list
 abbrev pub invariant-loop-caps : goal.invariant-loop-caps
 invariant-loop-caps g l =
     let before = l.fn.separator in
