@@ -50,7 +50,7 @@ lowest_positive a b (suc n) zero some low =
     absurd (omega (arith, low.same, positive))
 lowest_positive a b c (suc d) some low = omega arith
 
--- the same fraction has the same bound
+-- a fraction in lowest terms has each bound of the fraction
 pub bound_same : (links : List Link) (a b c d bound : ℕ) → 0 < b → IsLowest a b c d → IsBound links a b bound → IsBound links c d bound
 bound_same links a b c d bound some low is = record {
   divisor = is.divisor;
@@ -94,7 +94,7 @@ divisor_unique xs g h first second = dvd_antisymm (second.greatest g first.divid
 zero_divides : (x : ℕ) → 0 ∣ x → x ≡ 0
 zero_divides x h = let whole = mul-div_cancel' 0 h in omega (arith, whole)
 
--- a bound of a fraction is no more than one of the same fraction
+-- a bound of a fraction is at most each bound of an equal fraction
 bound_least : (links : List Link) (a b c d x y : ℕ) → 0 < d → a * d ≡ c * b → IsBound links a b x → IsBound links c d y → x ≤ y
 bound_least links a b c d x y some same first second =
     let one = divisor_unique (charges links) first.divisor second.divisor first.is_divisor second.is_divisor in

@@ -1,4 +1,4 @@
--- the links of a path: each is a link of the network, and none stands twice
+-- the links of a path: each is a link of the network, and none appears twice
 use Rattle.std.proofs.Common.{◌≡◌, ◌≢◌, ℕ, ◌<◌, List, [], ◌∷◌, length, get_or, true, false, eqb, eqb-true, ◌⊎◌, inl, inr, ⊎_elim, refl, sym, subst, ◌∙◌}
 use Rattle.net_core.proofs.Library.{cases_Bool, false≢true, All-from_recursion, AllByRecursion}
 use Rattle.net_core.specs.declared.ids.LinkId.{LinkId}
@@ -7,12 +7,12 @@ use Rattle.net_core.specs.Terms.{names_link, Graph, HasEnds, Joins}
 use Rattle.plan_terms.specs.Paths.{Leads, AreDifferent, IsPath}
 use Rattle.plan_terms.proofs.Joining.{joins_below}
 
--- no link stands twice
+-- no link appears twice
 abbrev pub DistinctLinks : List LinkId → Type 0
 DistinctLinks [] = Unit {0}
 DistinctLinks (x ∷ xs) = (names_link x.0 xs ≡ false) × DistinctLinks xs
 
--- a stands in the list
+-- a is in the list
 abbrev pub Has : ℕ → List ℕ → Type 0
 Has a [] = ⊥
 Has a (x ∷ xs) = (a ≡ x) ⊎ Has a xs
@@ -22,7 +22,7 @@ not_has a [] h all = h
 not_has a (x ∷ xs) (inl e) all = all.0 e
 not_has a (x ∷ xs) (inr h) all = not_has a xs h all.1
 
--- links below n are those that join nodes, and a link joins the same two nodes wherever it stands
+-- links below n are those that join nodes, and a link joins the same two nodes wherever it is used
 module _ (joins : ℕ → ℕ → ℕ → Type 0) (n : ℕ) (inside : (e x y : ℕ) → joins e x y → e < n) (again : (e x y p q : ℕ) → joins e x y → joins e p q → (x ≡ p) ⊎ (x ≡ q)) where
   -- a link of the list joins two of the nodes
   named_at : (c : ℕ) (es : List LinkId) (cs : List ℕ) (e : ℕ) → Leads joins c es cs → names_link e es ≡ true → (p : ℕ) × (q : ℕ) × joins e p q × Has p (c ∷ cs) × Has q (c ∷ cs)
@@ -34,7 +34,7 @@ module _ (joins : ℕ → ℕ → ℕ → Type 0) (n : ℕ) (inside : (e x y : �
   named_at c [] (k ∷ cs) e leads named = absurd leads
   named_at c (x ∷ es) [] e leads named = absurd leads
 
-  -- the first link of different nodes joins the first of them, so it stands only once
+  -- the first link of different nodes joins the first of them, so it appears only once
   first_once : (a : ℕ) (e : LinkId) (es : List LinkId) (c : ℕ) (cs : List ℕ) → Leads joins a (e ∷ es) (c ∷ cs) → AreDifferent (a ∷ c ∷ cs) → names_link e.0 es ≡ true → ⊥
   first_once a e es c cs leads different named =
       let r = named_at c es cs e.0 leads.1 named in
@@ -65,7 +65,7 @@ same_ends l x y p q (inl s) (inr t) = inr (sym s.0 ∙ t.1)
 same_ends l x y p q (inr s) (inl t) = inr (sym s.0 ∙ t.1)
 same_ends l x y p q (inr s) (inr t) = inl (sym s.0 ∙ t.0)
 
--- a link joins the same two nodes wherever it stands
+-- a link joins the same two nodes wherever it is used
 pub joins_again : (g : Graph) (e x y p q : ℕ) → Joins g e x y → Joins g e p q → (x ≡ p) ⊎ (x ≡ q)
 joins_again g e x y p q i j =
     let one : i.survives.link ≡ j.survives.link = cc (i.survives.at, j.survives.at) in
@@ -80,7 +80,7 @@ pub path_links_known : (g : Graph) (a b : ℕ) (es : List LinkId) → IsPath (Jo
 path_links_known g a b es p =
     All-from_recursion (λ e. e.0 < length g.links) es (path_links_inside g a b es p)
 
--- a link with the test stands below n where each does
+-- a link that a list names is below n where each of the list is
 pub named_inside : (n e : ℕ) (es : List LinkId) → AllByRecursion (λ x. x.0 < n) es → names_link e es ≡ true → e < n
 named_inside n e [] all named = absurd (false≢true named)
 named_inside n e (x ∷ xs) all named = ⊎_elim
@@ -92,7 +92,7 @@ pub path_names_known : (g : Graph) (a b : ℕ) (es : List LinkId) (e : ℕ) → 
 path_names_known g a b es e p named =
     named_inside (length g.links) e es (path_links_inside g a b es p) named
 
--- on a path no link stands twice
+-- on a path no link appears twice
 pub path_links_differ : (g : Graph) (a b : ℕ) (es : List LinkId) → IsPath (Joins g) a b es → DistinctLinks es
 path_links_differ g a b es p =
     distinct_links (Joins g) (length g.links) (joins_below g) (joins_again g) a es p.0 p.1 p.3

@@ -1,4 +1,4 @@
--- what `Joins` says of the link that is at hand
+-- what `Joins` says of a link that is given
 use Rattle.std.proofs.Common.{◌≡◌, ◌≢◌, ℕ, ◌<◌, [], length, get_or, Some, false, inl, inr, refl, sym, arith, subst, All, slice_get}
 use Rattle.net_core.proofs.Library.{∥∥₁_elim, props, slice_get_read, slice_get_within, get_or_from_slice_get}
 use Rattle.net_core.specs.declared.network.Link.{Link}

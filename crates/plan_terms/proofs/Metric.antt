@@ -109,7 +109,7 @@ module _ (g : Graph) (demands : List Demand) where
       omega (arith, right_carried scale nums lengths right routing c r, all_carried far (length demands) routing.flows known, longer, all_loaded n lengths routing.flows, within, below-times n routing.den (λ e. slice_index lengths e * slice_index nums e)) in
       le_of_mul-le-mul_left all c.den
 
-  -- the same with one number per link
+  -- the metric inequality as a sum over pairs, where lengths and capacities have one number for each link
   pub metric_inequality_listed : (scale : ℕ) (nums lengths : List ℕ) (right : ℕ) (routing : Routing) → length lengths ≡ length g.links → length nums ≡ length g.links → Carries (Joins g) demands scale nums routing → IsRight (Joins g) lengths demands right
       → right * scale ≤ sum_by (λ p. p.0 * p.1) (zip lengths nums)
   metric_inequality_listed scale nums lengths right routing count nums_count c r =

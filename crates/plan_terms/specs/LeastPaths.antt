@@ -3,7 +3,7 @@ use Rattle.std.specs.Prelude.{◌≡◌, ℕ, ◌<◌, ◌≤◌, List, [], ◌�
 use Rattle.net_core.specs.declared.ids.LinkId.{LinkId}
 use Rattle.plan_terms.specs.Paths.{IsPath, length_of}
 
--- xs stands before ys in lexicographic order, or is ys, or its beginning
+-- xs comes before ys in lexicographic order, or is ys, or its beginning
 abbrev pub IsLexLe : List LinkId → List LinkId → Type 0
 IsLexLe [] ys = Unit {0}
 IsLexLe (x ∷ xs) [] = ⊥

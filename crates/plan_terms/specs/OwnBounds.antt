@@ -26,7 +26,7 @@ pub record IsOwnBound (links : List Link) (lengths : List ℕ) (right bound : �
   pub multiplier : IsMultiplier links lengths num den
   pub rounded : IsBound links (num * (right - fixed_along lengths links)) den bound
 
--- Cut k is the first of greatest own bound: each cut's own bound is at most that of cut k, and less where the cut stands before it.
+-- Cut k is the first of greatest own bound: each cut's own bound is at most that of cut k, and less where the cut comes before it.
 pub record IsBestOwn (links : List Link) (cuts : List CutLine) (k : ℕ) : Type 0 where
   pub cut : CutLine
   pub at : slice_get cuts k ≡ Some cut

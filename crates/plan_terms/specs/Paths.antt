@@ -15,7 +15,7 @@ abbrev pub last_node : ℕ → List ℕ → ℕ
 last_node a [] = a
 last_node a (c ∷ cs) = last_node c cs
 
--- no node stands twice
+-- no node appears twice
 abbrev pub AreDifferent : List ℕ → Type 0
 AreDifferent [] = Unit {0}
 AreDifferent (x ∷ xs) = AllByRecursion (λ y. x ≢ y) xs × AreDifferent xs
