@@ -9,7 +9,7 @@ use net_core::{Copied, Counts, Demands, List, NoMemory, Routing};
 pub struct Plan {
     /// How many edits had been accepted.
     pub version: u64,
-    /// How many entries of the journal stood before the plan.
+    /// How many entries the journal had when the plan was made.
     pub position: u64,
     pub demands: Demands,
     /// One count for each module of each link.

@@ -1,7 +1,7 @@
 use crate::plan::Plan;
 use net_core::{Copied, CutLine, Entry, List, Name, NoMemory, Notes, StateId};
 
-/// What one plan command of a caller came to. Serials count the caller's plan commands from 1.
+/// The outcome of one plan command of a caller. Serials count the caller's plan commands from 1.
 #[derive(Drop)]
 pub enum Outcome {
     Planned {
