@@ -15,12 +15,12 @@ pub record IsCandidate (p : Case) (cut : CutLine) : Type 0 where
   pub cut_is : IsCut p cut
   pub low : cut.right < 2 ^ 84
 
--- the rounds' cuts are cuts of the case, each with the spot where it stands in the history
+-- the rounds' cuts are cuts of the case, each with its spot in the history
 pub record AreCandidates (p : Case) (history : List Entry) (w : Worked) : Type 0 where
   pub cuts : All (IsCandidate p) w.lines
   pub stand : StandAtSpots history w.lines w.spots
 
--- a certificate of the case, its raw value and its bound, in form and in lowest terms, of cuts that stand in the history
+-- a certificate of the case, its raw value and its bound, in form and in lowest terms, of cuts that have spots in the history
 pub record IsCertifiedBound (p : Case) (history : List Entry) (b : CertifiedBound) : Type 0 where
   pub certificate : IsCertificate p b.certificate.den (lines_of_certificate b.certificate)
   pub raw : IsLowest (raw_value p.links (lines_of_certificate b.certificate)) b.certificate.den b.raw.num b.raw.den

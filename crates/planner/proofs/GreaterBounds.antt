@@ -29,7 +29,7 @@ unmap P f (x ∷ xs) all = All-cons (λ x. P (f x)) x xs (All-head P (f x) (map 
 abbrev none_cut : CutLine
 none_cut = record { state = record { 0 = 0 }; lengths = []; right = 0 }
 
--- a fraction and the same in lowest terms have the same bounds
+-- a fraction and its lowest terms have equal bounds
 bound_back : (links : List Link) (a b c d bound : ℕ) → 0 < b → 0 < d → a * d ≡ c * b → IsBound links c d bound → IsBound links a b bound
 bound_back links a b c d bound some_b some_d same is = record {
   divisor = is.divisor;
@@ -48,7 +48,7 @@ bound_back links a b c d bound some_b some_d same is = record {
 -- ---- best certificates
 
 module _ (w : Worked) (cuts more : List CutLine) (following : w.lines ≡ cuts ++ more) where
-  -- the cut at a place of the cuts before is that at the same place of all
+  -- the cut at a place of the cuts before is at this place of all
   cut_before : (k : ℕ) → k < length cuts → cut_at w.lines k ≡ cut_at cuts k
   cut_before k lt = ap (λ xs. cut_at xs k) following ∙ get_or_append_left cuts more none_cut k lt
 

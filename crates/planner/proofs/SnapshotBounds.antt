@@ -71,7 +71,7 @@ module _ {p : Case} {before history : List Entry} {s : Snapshot} {w : Worked} (f
   pub shares_are : IfSome w.best (IsShareFor p w.quality)
   shares_are = if_some (IsShareFor p w.quality) w.best (λ best e. share_for p are.pairs s.cuts w.lines are.rounds are.list w.quality best (subst EndsAs e are.ends))
 
-  -- each cut stands in the history, or that takes no further one
+  -- each cut is in the history, or that takes no further one
   pub lines_held : AreHeld history w.lines
   lines_held = ⊎_elim
       (λ (full : length (cuts_of history) ≡ 4096). inr (inl full))

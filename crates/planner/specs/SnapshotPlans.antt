@@ -21,14 +21,14 @@ pub record IsSnapshotIn (p : Case) (history : List Entry) (snapshot : Snapshot) 
   pub pooled : map cut_of_line snapshot.cuts ≡ cuts_of (take snapshot.position history)
   pub cuts : All (IsCut p) snapshot.cuts
 
--- each of the cuts stands in the history, or that takes no further cut
+-- each of the cuts is in the history, or that takes no further cut
 abbrev pub AreHeld : List Entry → List CutLine → Type 0
 AreHeld history cuts = All (λ c. Contains (cuts_of history) (cut_of_line c)) cuts ⊎ IsFullHistory history
 
--- The plan is sound for a snapshot, where this history stands when it is made: it is of the snapshot's version, position and demands; it
+-- The plan is sound for a snapshot, where the history is this one when it is made: it is of the snapshot's version, position and demands; it
 -- carries the demands in each state, its cost and its certificate are right, its bound is at least the own bound of each cut of the snapshot
 -- and of each opening cut, its cost at most that of the fallback plan, and it is in form and in lowest terms. It comes of one worked list of
--- the snapshot, whose cuts stand in the history, and it is tight, or loose by that list.
+-- the snapshot, whose cuts are in the history, and it is tight, or loose by that list.
 pub record IsSnapshotPlan (p : Case) (snapshot : Snapshot) (history : List Entry) (plan : Plan) : Type 0 where
   pub same_version : plan.version ≡ snapshot.version
   pub same_position : plan.position ≡ snapshot.position

@@ -18,7 +18,7 @@ use Rattle.planner.specs.inner.Candidates.{IsBestBound}
 
 -- ---- the bound
 
--- the line of a multiplier: the cut at its place, with the spot where that stands
+-- the line of a multiplier: the cut at its place, with its spot
 abbrev pub line_at : Worked → Multiplier → CertLine
 line_at w m = record { num = m.num; spot = get_or w.spots m.cut Local; cut = cut_at w.lines m.cut }
 
