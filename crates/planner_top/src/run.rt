@@ -26,7 +26,7 @@ pub fn run<Rt: Threads + Wait + Sync, S: Shelf, K: Sink, G: Gate + Sync>(
     out: &mut K,
     gate: &G,
 ) -> Status
-    // What the run comes to has its cause in the words and the files, reading fails only where the shelf counts it, and the
+    // The answer of the run has its cause in the words and the files, reading fails only where the shelf counts it, and the
     // text is written. The files stay as they are, and no count of faults falls.
     ensures outcome { (status : Status) × (text : List ℕ) × Ends words.now (S.files shelf.old) status text
         × KeepsShelf S.files S.faults (status ≡ Status.ReadFault) shelf.old shelf.new
