@@ -28,14 +28,14 @@ fn cut_number(entries: &[Entry]) -> usize
     count
 }
 
-/// Where the next cut and the next line stand.
+/// The places of the next cut and the next line.
 #[derive(Clone, Copy)]
 struct Next {
     cut: usize,
     line: usize,
 }
 
-/// Where an entry stands.
+/// The place of an entry: among the cuts for a cut, among the lines for a line.
 fn entry_place(entry: &Entry, next: Next) -> u32
     requires cut { next.cut < 2 ^ 32 }
     requires line { next.line < 2 ^ 32 }
@@ -47,7 +47,7 @@ fn entry_place(entry: &Entry, next: Next) -> u32
     }
 }
 
-/// Where the next ones stand after an entry.
+/// The places of the next cut and the next line after an entry.
 fn next_after(entry: &Entry, next: Next) -> Next
     requires cut { next.cut < 2 ^ 32 }
     requires line { next.line < 2 ^ 32 }

@@ -3,7 +3,7 @@ use Rattle.proof_order.specs.Orders.{cuts_among, cuts_before, lines_before}
 use Rattle.proof_order.proofs.Placed.{ArePlaces}
 use Rattle.proof_order.proofs.places.places_of.Given as goal
 
--- the places of the first entries, and where the next cut and the next line stand
+-- the places of the first entries, and those of the next cut and the next line
 abbrev pub invariant-loop-entry : goal.invariant-loop-entry
 invariant-loop-entry l = record {
   places : ArePlaces l.fn.entries l.entry-index l.places;
