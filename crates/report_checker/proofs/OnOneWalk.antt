@@ -27,7 +27,7 @@ pub walked_there : (p : Case) (r : Report) (o : Outcome) (place : ℕ) (w : Walk
 walked_there p r o place w is =
     subst (λ b. HasPassed p b w) (sym (ap (λ n. take n r.entries) is) ∙ take_min (outcome_position o) r.entries)
 
--- what the check of an outcome there comes to
+-- what the check of an outcome there shows
 pub sound_met : (p : Case) (r : Report) (o : Outcome) (place : ℕ) (t : Result ⊤ Stop) → TellFirst (findings_there p r o) t → OnOk t (IsSaid (case_at p r.entries (outcome_position o)) o)
     → OnOk t (outcome_place r o ≡ place → IsSoundOutcome p r o)
 sound_met p r o place (Ok u) told said = λ _. (subst HoldNone (all_there p r o) told, accepted p r o said)

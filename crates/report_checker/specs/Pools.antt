@@ -11,7 +11,7 @@ abbrev pub HoldsPoolCount : List Entry → List CutLine → Finding → Type 0
 HoldsPoolCount entries pool (PoolCount a b) = (length pool ≡ a) × (length (cuts_of entries) ≡ b) × (a ≢ b)
 HoldsPoolCount entries pool _ = ⊥
 
--- the state of line k doesn't keep its lengths, or an earlier line is the same cut
+-- the state of line k doesn't keep its lengths, or its cut is already that of an earlier line
 abbrev pub IsBadCut : Case → List CutLine → ℕ → CutLine → Type 0
 IsBadCut p pool k line =
     (AreKept (graph_in p line.state.0) line.lengths → ⊥)

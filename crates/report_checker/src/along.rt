@@ -71,7 +71,7 @@ fn check_along(alloc: Global, instance: &Instance, report: &Report) -> Result<Ch
     check_outcomes_at(alloc, instance, &walk, report, entries.len(), checked)
 }
 
-/// What the checks of all outcomes come to.
+/// The answer of the checks of all outcomes.
 fn answer_of_all(checked: Checked) -> CheckAnswer
     requires { checked.clean ≤ 64 }
     ensures told { (p : Case) (r : Whole) → AreChecked p r (length r.entries + 1) checked → TellOutcomes p r result }

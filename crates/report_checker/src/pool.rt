@@ -35,7 +35,7 @@ fn is_same_cut(a: &CutLine, b: &CutLine) -> bool
     a.state == b.state && are_equal(a.lengths.items(), b.lengths.items())
 }
 
-/// Whether one of the first lines is of the same cut as line `k`.
+/// Whether the cut of line `k` is already that of one of the first lines.
 fn stands_before(pool: &[CutLine], k: usize) -> bool
     requires { k < length pool.now }
     ensures { (line : Line) → slice_get pool.now k ≡ Some line
@@ -49,7 +49,7 @@ fn stands_before(pool: &[CutLine], k: usize) -> bool
     false
 }
 
-/// Whether the state of line `k` doesn't keep its lengths, or an earlier line is the same cut.
+/// Whether the state of line `k` doesn't keep its lengths, or its cut is already that of an earlier line.
 fn is_bad(instance: &Instance, pool: &[CutLine], k: usize) -> bool
     requires inside { k < length pool.now }
     requires form { All (IsCutInForm instance.now.net.now.links instance.now.states.now.listed) pool.now }

@@ -17,7 +17,7 @@ outcome_place r o = min (outcome_position o) (length r.entries)
 abbrev pub IsSoundOutcome : Case → Report → Outcome → Type 0
 IsSoundOutcome p r o = HoldNone (outcome_findings p r o) × IsAcceptedOutcome p r o
 
--- so many outcomes are sound, as far as they are of places before this one
+-- each of the first outcomes is sound, as far as they are of places before this one
 abbrev pub AreSoundBefore : Case → Report → ℕ → ℕ → Type 0
 AreSoundBefore p r place many = (i : ℕ) (o : Outcome) → i < many → slice_get r.outcomes i ≡ Some o → outcome_place r o < place → IsSoundOutcome p r o
 

@@ -1,4 +1,4 @@
--- what tests of outcomes come to
+-- what is found by tests of outcomes
 use Rattle.std.specs.Prelude.{ℕ, zero, suc, ◌<◌, All}
 use Rattle.plan_terms.specs.Terms.{Case}
 use Rattle.plan_types.specs.declared.report.Report.{Report}
