@@ -58,7 +58,7 @@ module _ (names : KnownNames) (pool : List CutLine) where
       made_last _ (λ (lengths : List ℕ). record { spot = Local; state = record { 0 = state }; lengths = lengths }) _ _ (numbers_law (length names.links) (2 ^ 32))))
       (lawful_no_branch true Token placed_cut)))
 
-  -- a line, and where its cut stands
+  -- a line, and the spot of its cut
   abbrev pub IsLine : CertLine → Type 0
   IsLine l = IsCertificateLineInForm names.links names.listed l × IsOfPool pool l.spot l.cut
 

@@ -19,11 +19,11 @@ use text_kit::steps::{closes, placed, word};
 
 const DEMANDS: &[u8] = b"DEMANDS";
 
-/// So many demands can be told apart by their places.
+/// The most demands that are told apart by their places.
 const MAX_PLACES: usize = u32::MAX as usize;
 
 /// The demands of a plan, which are found by their names, in time that doesn't grow with their number.
-/// The names stand in the text, which is lent.
+/// The names are parts of the text, which is lent.
 #[derive(Drop)]
 pub struct PlanDemands<'a> {
     pub list: Demands,
