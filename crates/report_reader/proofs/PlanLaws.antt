@@ -82,7 +82,7 @@ module _ (names : KnownNames) (pool : List CutLine) where
   IsPlanOf head p = ((head.version ≡ p.version) × (head.position ≡ p.position)) × (ComeAfter (IsDemandInForm names.nodes) [] p.demands × (AreValues (values_of p) × ((AreCounts names.links p.counts × AreWithinLimits names.links p.counts)
       × (IsCertificate names pool p.certificate × (AreRoutingsInForm names p.demands p.routings × IsQualityInForm names p.demands p.quality)))))
 
-  -- what stands after the demands of a plan, part by part
+  -- what follows the demands of a plan, part by part
   abbrev AreParts : List Demand → PlanParts → Type 0
   AreParts demands s = AreValues s.values × ((AreCounts names.links s.counts × AreWithinLimits names.links s.counts) × (IsCertificate names pool s.certificate × AreRoutedInForm names demands s.routed))
 

@@ -132,7 +132,7 @@ pub fn read_report(
     // What is read is what reading from left to right gives, and a fault is the first one that it
     // meets.
     ensures exact { ReadsAllAs (λ r. r) result (report_of (known_of net.now states.now) bytes.now) }
-    // It doesn't stand too early: no bytes that agree past it are spelled right.
+    // It isn't too early: no bytes that agree past it are spelled right.
     ensures not_early { IfErr result (IsNotTooEarly (SpellsReport (known_of net.now states.now)) bytes.now) }
 {
     file(alloc, net, states, bytes)
