@@ -8,7 +8,7 @@ use Rattle.report_words.specs.declared.fault.ReportKind.{ReportKind}
 use Rattle.report_words.specs.declared.fault.ReportKind.TheVariants.{Token, Ended, Limit}
 use Rattle.report_words.specs.ReportChoices.{Branches, branch_of, branch_or}
 
--- readings that answer the same are online alike
+-- a reading that answers as another does is online where that one is
 pub online_same : {K X : Type 0} (r s : Reading K X) → ((t : Text) → r t ≡ s t) → IsOnline r → IsOnline s
 online_same {K} {X} r s same on = record {
   took = λ text x rest e.

@@ -54,7 +54,7 @@ exact_law {X} n one items P starts law =
 
 -- ---- elements with their numbers
 
--- the items of elements, each by how many stand before it
+-- the items of elements, each by how many elements come before it
 abbrev pub placed_items : {X : Type 0} → (ℕ → X → List Item) → ℕ → List X → List Item
 placed_items items n [] = []
 placed_items items n (x ∷ xs) = items n x ++ placed_items items (n + 1) xs

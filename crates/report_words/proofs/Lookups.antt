@@ -12,7 +12,7 @@ same_both a b false false p q = refl
 same_both a b true false p q = sym (is_same a) ∙ (ap (λ (x : List ℕ). are_same x a) (same_is a b p) ∙ q)
 same_both a b false true p q = sym p ∙ (ap (λ (x : List ℕ). are_same a x) (same_is b a q) ∙ is_same a)
 
--- whichever stands first
+-- in either order
 pub same_turned : (a b : List ℕ) → are_same a b ≡ are_same b a
 same_turned a b = same_both a b (are_same a b) (are_same b a) refl refl
 

@@ -38,7 +38,7 @@ few_so_far n sofar e = ltb-true (length sofar) n e
 pub room_so_far : {X : Type 0} (n : ℕ) (sofar : List X) → length sofar < n → has_room n sofar ≡ true
 room_so_far n sofar lt = lt-ltb (length sofar) n lt
 
--- ---- parentheses and words that stand there
+-- ---- parentheses and words that are next
 
 pub opening_law : Lawful opening_at (λ x. Opening ∷ []) (λ x. Unit {0}) AnyText
 opening_law = lawful_open Token Ended
@@ -135,7 +135,7 @@ amount_law p = lawful_amount Token Ended Number p
 pub name_law : Lawful name_at (λ n. Verbatim n ∷ []) (λ n. length n ≤ 255) AnyText
 name_law = lawful_any_name Token Ended LimitName
 
--- a place of a name, where no two are the same
+-- a place of a name, where all names are different
 module _ {X : Type 0} (name_of : X → List ℕ) (xs : List X) (d : X) where
   pub place_takes : (w : List ℕ) (i : ℕ) → place_of name_of xs w ≡ Ok i → (i < length xs) × (w ≡ name_of (get_or xs i d))
   place_takes w i e =

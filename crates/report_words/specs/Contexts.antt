@@ -1,4 +1,4 @@
--- What the names in a report stand for where a value of the program holds the network and its states.
+-- What the names in a report refer to where a value of the program holds the network and its states.
 use Rattle.report_words.specs.declared.context.Context.{Context}
 use Rattle.plan_report.specs.Terms.{KnownNames, known_of}
 

@@ -16,7 +16,7 @@ abbrev pub branch_of : {X : Type 0} → Bool → Branches X → ℕ → List ℕ
 branch_of room [] at w text = Err (at, Token)
 branch_of room (b ∷ bs) at w text = if are_same w b.0 then (if room then b.1 text else Err (at, Limit)) else branch_of room bs at w text
 
--- a word of a branch, where there is room for what it begins, and what comes after it; or a closing parenthesis, if that may stand there
+-- a word of a branch, where there is room for what it begins, and what comes after it; or a closing parenthesis, if one is allowed there
 abbrev pub branch_or : {X : Type 0} → Bool → Result X ReportKind → Branches X → Reading ReportKind X
 branch_or room closing branches (WordAt at w rest) = branch_of room branches at w rest
 branch_or room closing branches (OpenAt at rest) = Err (at, Token)

@@ -21,7 +21,7 @@ abbrev pub where_room : {X : Type 0} → Bool → Result X ReportKind → Result
 where_room room (Ok x) = if room then Ok x else Err Limit
 where_room room (Err kind) = Err kind
 
--- fewer than n stand before a further one
+-- fewer than n come before a further one
 abbrev pub has_room : {X : Type 0} → ℕ → List X → Bool
 has_room n sofar = nat_lt (length sofar) n
 
