@@ -1,4 +1,4 @@
--- rows that stand beside each other, and sums over them
+-- rows put beside each other, and sums over them
 use Rattle.std.proofs.Common.{◌≡◌, ℕ, zero, suc, ◌+◌, ◌-◌, ◌<◌, ◌≤◌, cond, sym, ap, ◌∙◌, arith, subst, refl, ⊎_elim}
 use Rattle.std.proofs.Math.IntN.{pos}
 use Rattle.net_core.proofs.Library.{ints, cases_lt}

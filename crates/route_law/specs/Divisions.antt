@@ -1,15 +1,15 @@
--- capacities over a divisor: scale and numbers of a state's program, all divided by one number, mean the same
+-- capacities over a divisor: scale and numbers of a state's program, all divided by one number, carry as much
 use Rattle.std.specs.Prelude.{ℕ, ◌*◌, ◌<◌, ◌↔◌, List, map}
 use Rattle.plan_terms.specs.Terms.{RouteColumn, WideKind, Demand, Caps, CutLine, Routing, Graph, Joins, Carries, Violates}
 use Rattle.route_law.specs.PricedLengths.{ArePricedLengths}
 use Rattle.route_law.specs.RouteEvidence.{IsRouteEvidence}
 use Rattle.route_law.specs.Routings.{flow_times}
 
--- the same capacities over d times the scale
+-- these capacities over d times the scale
 abbrev pub caps_times : ℕ → Caps → Caps
 caps_times d caps = record { scale = d * caps.scale; nums = map (λ n. d * n) caps.nums }
 
--- each flow d times, over the same denominator
+-- each flow d times, over the denominator that it has
 abbrev pub flows_times : ℕ → Routing → Routing
 flows_times d r = record { den = r.den; flows = map (flow_times d) r.flows }
 
@@ -23,7 +23,7 @@ DividedAreCarried = (g : Graph) (demands : List Demand) (d : ℕ) (caps : Caps) 
     → Carries (Joins g) demands caps.scale caps.nums routing
     → Carries (Joins g) demands (caps_times d caps).scale (caps_times d caps).nums (flows_times d routing)
 
--- evidence at capacities is evidence over d times the scale, with the same basis and of the same kind
+-- evidence at capacities is evidence over d times the scale, with its basis and of its kind
 abbrev pub DividedAreWide : Type 0
 DividedAreWide = (g : Graph) (demands : List Demand) (d : ℕ) (caps : Caps) (basis : List RouteColumn) (kind : WideKind RouteColumn) → 0 < d
     → IsRouteEvidence g demands caps basis kind

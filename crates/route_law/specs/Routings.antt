@@ -15,6 +15,6 @@ AreJoined g demands = (k : ℕ) (d : Demand) → slice_get demands k ≡ Some d 
 abbrev pub flow_times : ℕ → Flow → Flow
 flow_times d f = record { demand = f.demand; path = f.path; num = d * f.num }
 
--- the same routing over a denominator that is d times as large
+-- this routing over a denominator that is d times as large
 abbrev pub over_times : ℕ → Routing → Routing
 over_times d r = record { den = d * r.den; flows = map (flow_times d) r.flows }

@@ -33,7 +33,7 @@ pub fn divided_are_carried()
     ensures { DividedAreCarried }
 {}
 
-/// Evidence that a number is too wide is evidence over a multiple of the scale, with the same basis and of the same kind.
+/// Evidence that a number is too wide is evidence over a multiple of the scale, with its basis and of its kind.
 pub fn divided_are_wide()
     ensures { DividedAreWide }
 {}
