@@ -109,7 +109,7 @@ module _ (g : Graph) (demands : List Demand) (keys : ℕ → List LinkId) (colum
   abbrev names : ℕ → RouteColumn
   names = name_at g keys columns r top
 
-  -- how many columns stand in a row
+  -- how many columns are in a row
   abbrev taken : ℕ → ℕ
   taken = standing g names (length g.links + length demands)
 

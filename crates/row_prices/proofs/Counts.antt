@@ -1,4 +1,4 @@
--- how many columns of a basis stand in each row
+-- how many columns of a basis are in each row
 use Rattle.std.proofs.Common.{◌≡◌, ℕ, zero, suc, ◌+◌, ◌-◌, ◌<◌, ◌≤◌, List, Bool, true, false, cond, eqb, length, nat_lt, refl, sym, ap, ◌∙◌, arith, ⊎_elim}
 use Rattle.net_core.proofs.Library.{cases_lt, ints, by_lt_z}
 use Rattle.std.proofs.lemmas.Bool.{eq-eqb}
@@ -46,7 +46,7 @@ count_most g (LinkSlack link) k = at_most (eqb link.0 k)
 count_most g (DemandSlack d) k = at_most (eqb (length g.links + d) k)
 count_most g (Carry d path) k = chosen_most (nat_lt k (length g.links)) (names_link k path) (eqb d (k - length g.links))
 
--- how many of the first n columns stand in row k
+-- how many of the first n columns are in row k
 abbrev pub standing : Graph → (ℕ → RouteColumn) → ℕ → ℕ → ℕ
 standing g names n k = sum_below n (λ j. name_count g (names j) k)
 
@@ -67,7 +67,7 @@ term_below (suc n) i f l = ⊎_elim
     (λ ge. let e : i ≡ n = omega (arith, ge, l) in omega (arith, ap f e))
     (cases_lt i n)
 
--- a path of a demand stands in the demand's row
+-- a path of a demand is in the demand's row
 pub some_standing : (g : Graph) (names : ℕ → RouteColumn) (n j d : ℕ) (path : List LinkId) → j < n → names j ≡ Carry d path → 0 < standing g names n (length g.links + d)
 some_standing g names n j d path l is =
     let one : name_count g (names j) (length g.links + d) ≡ 1 =

@@ -1,4 +1,4 @@
--- numbers that were found, for a count that is the same
+-- numbers that were found, for an equal count
 use Rattle.std.proofs.Common.{◌≡◌, ℕ, List, Option, Some, IfSome, subst}
 use Rattle.std.proofs.Math.IntN.{ℤ}
 use Rattle.row_prices.specs.inner.Tests.{AreLowestNumbers}

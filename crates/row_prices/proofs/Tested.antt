@@ -48,7 +48,7 @@ sum_names n row (x ∷ xs) distinct inside =
 network_told : (nodes : List (List ℕ)) (links : List Link) → ∥ IsNetwork nodes links ∥₁ → IsNetwork nodes links
 network_told nodes links told = ∥∥₁_elim told (hlevel props) (λ network. network)
 
--- the same of a path of a demand
+-- the sum of a row over the links of a path of a demand is the row's sum over all links along the path
 names_of : (g : Graph) (demands : List Demand) (row : ℕ → ℤ) (k : ℕ) (path : List LinkId) → IsPathOf g demands k path → sum_over row path ≡ row_along (length g.links) row path
 names_of g demands row k path p =
     sum_names (length g.links) row path
@@ -193,7 +193,7 @@ module _ (nodes : List (List ℕ)) (links : List Link) (listed : List Listed) wh
             prices;
       }
 
-  -- the same of what a function found
+  -- the numbers of a row that a function tested are priced
   pub tested_answer : (demands others : List Demand) (keys : List (List LinkId)) (rows : List PathRow) (r : ℕ) (nums : List ℤ) (lengths : List ℕ) → others ≡ demands → nums ≡ (path_row rows r).nums
       → ∥ IsNetwork nodes links ∥₁ → AreDemands (length nodes) demands → r < length rows → IsTestedRow here others keys rows nums lengths → ArePricedNumbers (length links) (path_row rows r).nums lengths
   tested_answer demands others keys rows r nums lengths same same_nums told are inside t =

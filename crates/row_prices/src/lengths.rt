@@ -31,7 +31,7 @@ pub(crate) fn lengths_of(alloc: Global, nums: &[i64]) -> Result<Option<Lengths>,
     Ok(Some(lengths))
 }
 
-/// The numbers of a row as lengths of so many links, if they are some, without a common divisor above 1.
+/// The numbers of a row as lengths, without a common divisor above 1; none where there isn't one for each of the links, or one is no length.
 pub(crate) fn lowest_of(
     alloc: Global,
     nums: &[i64],

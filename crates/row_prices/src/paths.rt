@@ -53,7 +53,7 @@ pub(crate) fn are_keys(
     true
 }
 
-/// Whether a column stands beside the keys: the slack of a link, or a demand along one of its paths.
+/// Whether a column may be in a basis beside the keys: the slack of a link, or a demand along one of its paths.
 fn is_beside(graph: &Surviving, demands: &[Demand], column: &RouteColumn, seen: &mut [bool]) -> bool
     requires size { length seen.old ≡ length graph.now.net.now.nodes }
     requires belong { AreDemands (length graph.now.net.now.nodes) demands.now }
