@@ -5,7 +5,7 @@ use Rattle.std.proofs.lemmas.Nat.{mod-mul-add}
 use Rattle.plan_terms.specs.Terms.{LinkId, AreApart, Leads, last_node}
 use Rattle.plan_terms.proofs.Lemmas.{shortcut}
 
--- links lead from a to b, along nodes that may stand twice
+-- links lead from a to b, along nodes that may be visited twice
 pub record Connected (joins : ℕ → ℕ → ℕ → Type 0) (a b : ℕ) : Type 0 where
   pub along : List LinkId
   pub nodes : List ℕ

@@ -25,7 +25,7 @@ short_after : (is js : List Item) → AllByRecursion IsShortItem (is ++ js) → 
 short_after [] js all = all
 short_after (i ∷ is) js all = short_after is js all.1
 
--- what stands in a section, and what comes after it
+-- the items in a section, and those after it
 inside_section : (word : List ℕ) (inside rest : List Item) → AllByRecursion IsShortItem (section word inside ++ rest) → AllByRecursion IsShortItem inside × AllByRecursion IsShortItem rest
 inside_section word inside rest all = (
   short_before inside (Closing ∷ []) (short_before (inside ++ Closing ∷ []) rest all.1.1),
@@ -156,7 +156,7 @@ text_spells net demands text three notes belong added =
     ) in
     subst (λ (p : Places). IsReadWith p text × SpellsBy header (SpellsParts p) text (parts_of net, demands)) (sym three) (three_spelled text (parts_of net, demands) file, file)
 
--- the same of what the writer has in hand
+-- a text is a file of a network and its demands where it was written from nodes, links and demands that equal theirs
 pub text_of_parts : (net : Network) (demands : List Demand) (nodes : List (List ℕ)) (links : List Link) (asked : List Demand) (start text : List ℕ) → net.places ≡ Three → HasWritableNotes net → AreDemands (length net.nodes) demands
     → nodes ≡ net.nodes → links ≡ net.links → asked ≡ demands → start ≡ header ++ 10 ∷ [] → AddsItems start (network_items nodes links asked) text → Spells text net demands
 text_of_parts net demands nodes links asked start text three notes belong n l d s added =

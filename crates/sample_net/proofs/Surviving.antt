@@ -23,7 +23,7 @@ others_stay : (links : List Link) (s e : ℕ) → e + 1 ≢ s → fails (single_
 others_stay links zero e other = refl
 others_stay links (suc i) e other = fails_alone 0 links i e (λ same. other (omega (arith, same)))
 
--- ring link i stands between its ends
+-- ring link i joins its two ends
 ring_end : (seed n i : ℕ) → i < n → get_or (sample_ends seed n) i (0, 0) ≡ ring_ends n i
 ring_end seed n i lt =
     let ring = map (ring_ends n) (range_with_len 0 n) in

@@ -141,7 +141,7 @@ pub fn has_writable_notes(net: &Network) -> bool
 ///
 /// ```text
 /// let text = network_text(alloc, &net, &demands)?;
-/// read_network(alloc, text.items())?;      // the same network and demands
+/// read_network(alloc, text.items())?;      // this network and these demands
 /// ```
 pub fn network_text(alloc: Global, net: &Network, demands: &Demands) -> Result<Bytes, NoMemory>
     requires places { net.now.places ≡ Places.Three }
