@@ -1,4 +1,4 @@
--- the items that stand at places of a history
+-- the items at places of a history
 use Rattle.std.proofs.Common.{◌≡◌, ◌∙◌, ℕ, zero, suc, ◌+◌, ◌<◌, ◌≤◌, List, [], ◌∷◌, ◌++◌, drop, take, length, true, inl, inr, refl, sym, ap, subst, arith}
 use Rattle.net_core.proofs.Library.{range_with_len, drop-append-le, front_rest}
 use Rattle.std.proofs.lemmas.List.{append_assoc, length-append}
@@ -53,7 +53,7 @@ module _ {I : Type 0} where
       let found = from_item history p lt in
       ap (take 1) (drop-append-le p history more (omega (arith, lt)) ∙ ap (λ xs. xs ++ more) found.1) ∙ sym (ap (take 1) found.1)
 
-  -- a history that grows has the same items at places that it had
+  -- a history that grows keeps the items at the places that it had
   pub items_front : (history more : List I) (low : ℕ) (places : List ℕ) → are_places low (length history) places ≡ true → items_at (history ++ more) places ≡ items_at history places
   items_front history more low [] placed = refl
   items_front history more low (p ∷ ps) placed =
@@ -77,7 +77,7 @@ module _ {I : Type 0} where
   pub items_among : (history : List I) (places : List ℕ) → are_places 0 (length history) places ≡ true → IsPartOf (items_at history places) history
   items_among history places placed = items_from history 0 places placed
 
-  -- the items after a history stand at the places after it
+  -- the items after a history are at the places after it
   pub items_added : (history more : List I) → items_at (history ++ more) (range_with_len (length history) (length more)) ≡ more
   items_added history [] = refl
   items_added history (x ∷ more) =

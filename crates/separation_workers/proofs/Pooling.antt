@@ -77,7 +77,7 @@ module _ (cut : Cut) (answer : AdmitAnswer) (old new : Caller) (t : AdmitsInTurn
       (λ one. turn_goes old new t.0 t.1 t.3 (state_and_lengths cut ∷ []) one same)
       (admit_pools t.0 t.1 cut answer t.2)
 
-  -- where the cut stands
+  -- the spot of the cut
   pub answer_spot : (found : Result Spot NoMemory) → IsSpotAfter answer found → IfOk found (IsSpotIn (caller_seen new).history (state_and_lengths cut))
   answer_spot found is =
       subst (λ es. IfOk found (IsSpotIn es (state_and_lengths cut))) (sym t.3.seen) (admit_spot t.0 t.1 cut answer found t.2 is)

@@ -80,7 +80,7 @@ among_after_nothing a b t answered first second none among = subst (All (Contain
 pub among_nothing : (a b : Caller) (answered : List (ℕ × List ℕ)) → cuts_pooled a b ≡ [] → All (Contains answered) (cuts_pooled a b)
 among_nothing a b answered none = subst (All (Contains answered)) (sym none) (λ k d lt. absurd (omega (arith, lt)))
 
--- a cut that stands somewhere stands there after a step
+-- a cut keeps its spot after a step
 stands_later : (a b : Caller) → SeesOn a b → (cut : ℕ × List ℕ) (spot : Spot) → IsSpotIn (caller_seen a).history cut spot → IsSpotIn (caller_seen b).history cut spot
 stands_later a b goes cut spot at =
     let more = goes.more in

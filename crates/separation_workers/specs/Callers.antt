@@ -4,7 +4,7 @@ use Rattle.board_desk.specs.Turns.{IsSameCaller, board_made, caller_seen, caller
 use Rattle.separator.specs.Separators.{Frame, IsSeenHistory, SeesMore}
 use Rattle.separation_workers.specs.declared.workers.DeskMark.{DeskMark}
 
--- it has seen a history of the network and the states of its desk, in which its own entries stand
+-- it has seen a history of the network and the states of its desk, and its own entries are in it
 abbrev pub HasSeenHistory : Caller → Type 0
 HasSeenHistory c = ∥ IsSeenHistory (board_made c).net.now (board_made c).states.now (caller_seen c) ∥₁
 

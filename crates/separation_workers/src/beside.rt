@@ -13,7 +13,7 @@ use separator::{KnownState, separate_state};
 use std::thread;
 use std::thread::Threads;
 
-/// So many threads work for a caller beside its own.
+/// The number of threads that work for a caller beside its own.
 const HELPERS: u32 = 3;
 
 /// What is found of a state by what is kept of it, and before that among sets of nodes, if it isn't asked by routing alone.

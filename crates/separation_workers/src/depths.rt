@@ -6,7 +6,7 @@ use net_core::{Demand, LinkId, NodeId, Surviving};
 
 /// Whether lengths are tried in a state: they are positive on a link that it fails. Where no link fails, all are tried.
 ///
-/// Sets of nodes that a failed link doesn't leave have the same cut in each of the states, so that trying all lengths in all states
+/// A set of nodes that a failed link doesn't leave has one cut in all of the states, so that trying all lengths in all states
 /// fills the pool with copies of one inequality.
 fn are_tried(graph: &Surviving, lengths: &[u32]) -> bool
     requires { length lengths.now ≡ length graph.now.net.now.links }

@@ -14,7 +14,7 @@ use route_law::law::zeros_and_ones_are_priced;
 use separator::{are_narrow, line_of};
 use std::sync::Wait;
 
-/// So many shown vectors are looked at, at most.
+/// The most shown vectors that are looked at.
 const MOST_HINTS: u64 = 8192;
 
 /// Whether there is a depth, and it is less than the least so far.

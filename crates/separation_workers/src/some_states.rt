@@ -20,7 +20,7 @@ use separator::{
 use std::sync::Wait;
 use std::thread::Threads;
 
-/// So many states of a ring are asked beside each other. It doesn't change with the processors, so that the answers don't.
+/// How many states of a ring are asked beside each other. It doesn't change with the processors, so that the answers don't.
 const BATCH: u32 = 4;
 
 /// Puts the cut of a violated set of nodes of a state to the answers, if one is found, and into the pool.
