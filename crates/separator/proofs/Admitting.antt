@@ -34,7 +34,7 @@ module _ (old new : Board) (cut : Cut) where
   abbrev Stands : Result Spot NoMemory → Type 0
   Stands found = IfOk found (IsSpotIn new.entries (state_and_lengths cut))
 
-  -- where the cut stands
+  -- the spot of the cut
   pub admit_spot : (answer : AdmitAnswer) (found : Result Spot NoMemory) → AnswersAdmit old cut answer new → IsSpotAfter answer found → Stands found
   admit_spot (admitting.Admitted index position) found a is = subst Stands (sym is) (pooled_spot old new index cut a.3 a.4)
   admit_spot (admitting.Known index back) found a is =

@@ -81,7 +81,7 @@ module _ (p : Case) (caps : Caps) (s : ℕ) (cut : Cut) (line : CutLine) (found 
   pub cut_separates : SeparatesAt p caps (state_and_lengths cut)
   cut_separates = record { line = line; same = line_is p.demands cut line is; separating = line_separates }
 
-  -- what is answered of the state, where the cut stands somewhere
+  -- what is answered of the state, where the cut has a spot
   pub violated_answer : (history : List Entry) (spot : Spot) → IsSpotIn history (state_and_lengths cut) spot → IsAnswerOf p caps history s (Violated line spot)
   violated_answer history spot at = (state_asked, line_separates, subst (λ c. IsSpotIn history c spot) (sym (line_is p.demands cut line is)) at)
 
@@ -177,7 +177,7 @@ module _ (p : Case) (caps : Caps) where
     among = All-nil (Contains (cuts_answered answers));
   }
 
-  -- in a history in which each cut stands where it stood
+  -- in a later history in which each cut keeps its spot
   module _ (h later : List Entry) (stands : (cut : ℕ × List ℕ) (spot : Spot) → IsSpotIn h cut spot → IsSpotIn later cut spot) where
     pub answer_later : (s : ℕ) (answer : Separated) → IsAnswerOf p caps h s answer → IsAnswerOf p caps later s answer
     answer_later s (Routed routing) is = is

@@ -1,4 +1,4 @@
--- boards whose pool grows, and what stands in it
+-- boards whose pool grows, and the spots of its cuts
 use Rattle.std.proofs.Common.{◌≡◌, ◌∙◌, ℕ, ◌<◌, ⊎_elim, List, [], ◌∷◌, ◌++◌, Some, length, slice_get, refl, sym, ap, subst, arith}
 use Rattle.net_core.proofs.Library.{flat_map-append, All-append, All-nil, All-push, front_rest}
 use Rattle.std.proofs.lemmas.List.{append-nil, append_assoc}
@@ -71,9 +71,9 @@ pools_both a b c xs ys one two = record {
 pub pools_since : (old new : Board) (cuts : List (ℕ × List ℕ)) → PoolsMore old new cuts → cuts_after old.entries new.entries ≡ cuts
 pools_since old new cuts p = ap cuts_of (front_rest new.entries old.entries p.more p.entries) ∙ p.are
 
--- ---- where cuts stand
+-- ---- spots of cuts
 
--- a cut that is pooled stands at its index
+-- a cut that is pooled is at its index
 pub pooled_spot : (old new : Board) (index : ℕ) (cut : Cut) → GrowsBy (Pooled index cut.state cut.lengths) old new → index ≡ length (cuts_of old.entries)
     → IsSpotIn new.entries (state_and_lengths cut) (Pool index)
 pooled_spot old new index cut grown is =
@@ -81,7 +81,7 @@ pooled_spot old new index cut grown is =
     subst (λ i. slice_get (cuts_of new.entries) i ≡ Some (state_and_lengths cut)) (sym is)
     (subst (λ all. slice_get all (length (cuts_of old.entries)) ≡ Some (state_and_lengths cut)) (sym cuts) (get_after (cuts_of old.entries) (state_and_lengths cut) []))
 
--- what stands somewhere stands there later
+-- a cut keeps its spot later
 pub spot_later : (old new : Board) (cuts : List (ℕ × List ℕ)) (cut : ℕ × List ℕ) (spot : Spot) → PoolsMore old new cuts → IsSpotIn old.entries cut spot → IsSpotIn new.entries cut spot
 spot_later old new cuts cut (Pool i) p at =
     subst (λ es. slice_get (cuts_of es) i ≡ Some cut) (sym p.entries)

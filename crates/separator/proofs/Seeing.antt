@@ -1,4 +1,4 @@
--- histories that a separator has seen, as they grow, and where cuts stand in them
+-- histories that a separator has seen, as they grow, and the spots of cuts in them
 use Rattle.std.proofs.Common.{◌≡◌, ◌≢◌, ℕ, zero, suc, ◌<◌, ◌≤◌, ◌⊎◌, inl, inr, ⊎_elim, List, [], ◌∷◌, ◌++◌, All, Some, None, length, slice_get, refl, sym, ap, subst, ◌∙◌, arith}
 use Rattle.std.proofs.lemmas.List.{append_assoc, append-nil, length-append}
 use Rattle.net_core.proofs.Library.{nil_from_length, All-append, All-nil}
@@ -55,9 +55,9 @@ sees_both s0 s1 s2 a b = record {
   pooled = All-append IsCutEntry a.committed b.committed a.pooled b.pooled;
 }
 
--- ---- what stands, stands later
+-- ---- spots are kept
 
--- a cut that stands somewhere stands there in a longer history that keeps its limits
+-- a cut keeps its spot in a longer history that keeps its limits
 pub spot_later : (h f : List Entry) (cut : ℕ × List ℕ) (spot : Spot) → length (h ++ f) ≤ 65536 → length (cuts_of (h ++ f)) ≤ 4096 → IsSpotIn h cut spot → IsSpotIn (h ++ f) cut spot
 spot_later h f cut (Pool i) few few_cuts at = subst (λ cuts. slice_get cuts i ≡ Some cut) (sym (cuts_both h f)) (get_front (cuts_of h) (cuts_of f) i cut at)
 spot_later h f cut Local few few_cuts at = ⊎_elim

@@ -48,7 +48,7 @@ none_both xs ys one two = flat_map-append (λ (x : StateAnswer). cut_answered x.
 module _ (p : Case) (caps : Caps) where
   -- ---- answers that are no cuts
 
-  -- what is no cut stands at any history
+  -- an answer without a cut holds at any history
   any_history : (h now : List Entry) (s : ℕ) (answer : Separated) → cut_answered answer ≡ [] → IsAnswerOf p caps h s answer → IsAnswerOf p caps now s answer
   any_history h now s (Routed routing) none is = is
   any_history h now s (Violated line spot) none is = absurd (let e : cut_of_line line ∷ [] ≡ [] = none in cc e)
@@ -142,7 +142,7 @@ module _ (p : Case) (caps : Caps) where
     among = are.among;
   }
 
-  -- in a history in which each cut stands where it stood
+  -- in a later history in which each cut keeps its spot
   pub cut_more : (h later : List Entry) → ((cut : ℕ × List ℕ) (spot : Spot) → IsSpotIn h cut spot → IsSpotIn later cut spot)
       → (n : ℕ) (xs ys : List (ℕ × List ℕ)) (answers : List StateAnswer) (a : StateAnswer) → AreCutsAnswered p caps n h xs answers
       → a.state.0 ≡ n → IsAnswerOf p caps later n a.answer → length (cut_answered a.answer) ≡ 1 → All (Contains (cut_answered a.answer)) ys

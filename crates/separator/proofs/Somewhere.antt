@@ -12,7 +12,7 @@ use Rattle.node_sets.specs.Boundaries.{IsBoundaryCut}
 use Rattle.row_cuts.specs.FoundCuts.{IsFoundCutOf}
 use Rattle.row_cuts.proofs.Founds.{boundary_found}
 
--- ---- the same links under other states
+-- ---- these links under other states
 
 module _ (g : Graph) (listed : List Listed) (s : ℕ) (same : (e : ℕ) → e < length g.links → fails g.listed g.state e ≡ fails listed s e) where
   abbrev other : Graph
@@ -187,7 +187,7 @@ module _ (g : Graph) (network : ∥ IsNetwork g.nodes g.links ∥₁) (demands :
     violated = is.violated;
   }
 
--- a violated cut of a set of nodes that may be found is one of priced lengths, in the same surviving graph
+-- a violated cut of a set of nodes that may be found is one of priced lengths, in an equal surviving graph
 pub boundary_may_be : (g h : Graph) (demands : List Demand) (caps : Caps) (found : Option Cut) → g ≡ h → IfSome found (IsBoundaryCut g demands caps) → IfSome found (IsFoundCutOf h demands caps)
 boundary_may_be g h demands caps None same is = tt
 boundary_may_be g h demands caps (Some cut) same is = boundary_found h demands caps cut (subst (λ (k : Graph). IsBoundaryCut k demands caps cut) same is)

@@ -58,7 +58,7 @@ cuts_after before entries = cuts_of (drop (length before) entries)
 abbrev pub cuts_since : (old new : Seen Entry) → List (ℕ × List ℕ)
 cuts_since old new = cuts_after old.own new.own
 
--- ---- where a cut stands
+-- ---- the spot of a cut
 
 -- a history that takes no further cut: it pools 4,096, or has 65,536 entries
 abbrev pub IsFullHistory : List Entry → Type 0
@@ -95,7 +95,7 @@ pub record SeparatesAt (p : Case) (caps : Caps) (cut : ℕ × List ℕ) : Type 0
   pub same : cut_of_line line ≡ cut
   pub separating : IsSeparatingCut p caps line
 
--- what is found of state s: a routing, a cut of the state with the spot where it stands, or evidence of the state
+-- what is found of state s: a routing, a cut of the state with its spot, or evidence of the state
 abbrev pub IsAnswerOf : Case → Caps → List Entry → ℕ → Separated → Type 0
 IsAnswerOf p caps history s (Routed routing) = IsRouted (graph_in p s) p.demands caps routing
 IsAnswerOf p caps history s (Violated line spot) = (line.state.0 ≡ s) × IsSeparatingCut p caps line × IsSpotIn history (cut_of_line line) spot
@@ -116,7 +116,7 @@ cut_answered (Wide evidence) = []
 abbrev pub cuts_answered : List StateAnswer → List (ℕ × List ℕ)
 cuts_answered answers = flat_map (λ a. cut_answered a.answer) answers
 
--- cuts of different states that the capacities violate, one or more, with the spots where they stand
+-- cuts of different states that the capacities violate, one or more, with their spots
 pub record AreViolatedStates (p : Case) (caps : Caps) (history : List Entry) (answers : List StateAnswer) : Type 0 where
   pub some : 0 < length answers
   pub different : AllPairs (λ x y. x.state.0 ≢ y.state.0) answers

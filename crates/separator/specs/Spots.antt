@@ -1,4 +1,4 @@
--- where a cut stands after a board's answer to it
+-- the spot of a cut after a board's answer to it
 use Rattle.std.specs.Prelude.{◌≡◌, OnOk, Ok}
 use Rattle.std.specs.declared.result.Result.{Result}
 use Rattle.plan_terms.specs.Terms.{NoMemory}

@@ -170,7 +170,7 @@ pub fn separate_state<'a>(
 /// next.
 ///
 /// All states and all capacities of a network with its demands have one system of equations with other right sides, so that a basis which
-/// one question ended with is some turns away from the next answer. One of the same state is nearest. Nothing is known of it, and what it
+/// one question ended with is some turns away from the next answer. One of this state is nearest. Nothing is known of it, and what it
 /// finds is counted anew. Where it finds nothing within 6,000 turns, the state is routed from the paths of that basis, which become known
 /// columns; where a number of it grew too wide, from the known columns.
 ///

@@ -150,8 +150,8 @@ fn if_violated(
     }
 }
 
-/// A cut of a set of nodes that the capacities violate in a state, and with room for a margin, as `round_set` finds it, or none; there may be
-/// violated sets all the same.
+/// A cut of a set of nodes that the capacities violate in a state, and with room for a margin, as `round_set` finds it, or none; sets may be
+/// violated even so.
 ///
 /// It takes the time and the memory of `round_set`.
 pub fn set_in_state(

@@ -24,7 +24,7 @@ pub trait Separate {
     ghost seen_of: { Self → Seen Entry };
 
     /// Puts a cut of the network and the states into the pool, if it isn't there and there is room for it, and tells its place.
-    /// Out of memory, it may have seen more of the history all the same.
+    /// Out of memory, it may have seen more of the history even so.
     fn admit(&mut self, cut: Cut) -> Result<Spot, NoMemory>
         requires { IsCutOf (graph (frame self.old).network (frame self.old).states cut.state.0) cut }
         ensures frame { frame self.new ≡ frame self.old }
@@ -33,7 +33,7 @@ pub trait Separate {
         ensures spot { IfOk result (IsSpotIn (seen_of self.new).history (cut.state.0, cut.lengths)) };
 
     /// Asks of each state whether the capacities, one number for each link over a scale, carry the demands there. Where they don't, one
-    /// cut that they violate is put into the pool, while there is room. Out of memory, some cuts may have been put there all the same.
+    /// cut that they violate is put into the pool, while there is room. Out of memory, some cuts may have been put there even so.
     fn separate(&mut self, instance: &Instance, caps: &Caps) -> Result<List<StateAnswer>, NoMemory>
         requires net { instance.now.net.now ≡ (frame self.old).network }
         requires listed { instance.now.states.now ≡ (frame self.old).states }
@@ -50,7 +50,7 @@ pub trait Separate {
     /// Asks of states whether the capacities, one number for each link over a scale, carry the demands there, until they don't in one: a
     /// round that stops early. What is answered are cuts that the capacities violate, of different states and in any order; where no cut is
     /// found, each state is answered, in their order. Each cut is put into the pool, while there is room. Out of memory, some cuts may have
-    /// been put there all the same.
+    /// been put there even so.
     fn separate_until_cut(
         &mut self,
         instance: &Instance,
