@@ -146,7 +146,7 @@ act_lawful p verbs.Plan = lawful_as (act_at p verbs.Plan) _ (items_after p) _ (I
 
 -- ---- commands
 
--- a command that may stand after earlier ones
+-- a command that may come after earlier ones
 abbrev IsCommandAfter : List Command → Command → Type 0
 IsCommandAfter sofar c = (length sofar < 1000) × (IsCallerNumber c.caller × (HasRoom sofar (verb_for c.act) × IsActInForm c.act))
 
@@ -214,7 +214,7 @@ commands_lawful : (p : Places) → Lawful (commands_at p []) (λ cs. flat_map (c
 commands_lawful p = lawful_as (commands_at p []) _ (λ cs. flat_map (command_items p) cs) _ IsScript IsEnd (λ cs h. append-nil (flat_map (command_items p) cs)) (λ cs h. is_script cs h.1) (λ cs h. (refl, are_commands cs h))
     (lawful_list TheEnd no_fault (command_at p) (command_items p) IsCommandAfter (λ c. tt) (command_lawful p))
 
--- ---- faults stand where they are met
+-- ---- a fault is at the place where it is met
 
 act_online : (p : Places) (v : Verb) → IsOnline (act_at p v)
 unfolding act_at

@@ -70,7 +70,7 @@ pub fn read_script(alloc: Global, places: Places, bytes: &[u8]) -> Result<Script
     ensures only { (s : Scr) → SpellsScript places bytes.now s → AnswersAs (λ x. x) result s }
     // A fault is the first one that reading from left to right meets.
     ensures exact { ReadsAllAs (λ s. s) result (script_of places bytes.now) }
-    // It doesn't stand too early: no bytes that agree past it are spelled right.
+    // It isn't too early: no bytes that agree past it are spelled right.
     ensures not_early { IfErr result (IsNotTooEarly (SpellsScript places) bytes.now) }
 {
     file(alloc, places, bytes)

@@ -8,7 +8,7 @@ use net_core::{Copied, Edit, List, NoMemory};
 pub enum Act {
     /// A change of the demands.
     Change(Edit),
-    /// A plan for the demands as they stand.
+    /// A plan for the demands as they are then.
     Plan,
 }
 
