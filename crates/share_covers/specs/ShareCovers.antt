@@ -7,7 +7,7 @@ use Rattle.master_law.specs.Terms.{AreUnitPairs, IsPairOfLink, IsShareNeed}
 use Rattle.plan_law.specs.TightPlans.{CoversShare}
 use Rattle.share_covers.specs.declared.covers.Installed.{Installed}
 
--- what a link with these modules needs for so many units of its unit pair, over the scale
+-- what a link with these modules needs for a number of units of its unit pair, over the scale
 pub record IsNeedOfLink (modules : List Module) (scale units need : ℕ) : Type 0 where
   pub pair : UnitPair
   pub is_pair : IsPairOfLink modules pair

@@ -134,8 +134,8 @@ fn mended_or_anew(
 }
 
 /// Routings within counts that cover a share. The state without failures has the greedy one where it carries all demands, else the share's,
-/// with the same flows over a denominator that is the share's scale times as large, in lowest terms. Each other state has that of the state
-/// without failures, mended where links fail, if it carries all demands then; else its own greedy one or the share's, found in the same way.
+/// with its flows over a denominator that is the share's scale times as large, in lowest terms. Each other state has that of the state
+/// without failures, mended where links fail, if it carries all demands then; else its own greedy one or the share's, found in that way too.
 /// `None` where a state's routing of the share is needed, and has more flows than there are links and demands together, or a denominator of
 /// 2^62 or more.
 ///
