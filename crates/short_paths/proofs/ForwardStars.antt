@@ -1,4 +1,4 @@
--- how the arcs over the joining links are gathered, and where those of a node stand
+-- how the arcs over the joining links are gathered, and where those of a node are
 use Rattle.std.proofs.Common.{◌≡◌, ℕ, ◌+◌, ◌-◌, ◌<◌, ◌≤◌, List, [], ◌∷◌, ◌++◌, length, get_or, take, drop, true, false, ltb, ◌⊎◌, inl, inr, ⊎_elim, refl, sym, ap, subst, ◌∙◌, arith, length-append, length-take, length-drop, All, Contains}
 use Rattle.std.specs.List.Sorted.{IsPermutation, IsPartitionPoint}
 use Rattle.net_core.proofs.Library.{cases_lt, get_or_append_left, get_or_push, All-contains, Contains-append_left, Contains-append_right, Contains-append_cases, Contains-get_or, IsPermutation-sym}
@@ -135,7 +135,7 @@ starts_rise arcs x s t here next =
     (λ more. more)
     (cases_lt t s)
 
--- a arc that leaves a node stands between these
+-- an arc that leaves a node is between these places
 pub leaves_between : (arcs : List Arc) (e x y s t : ℕ) → IsStartOf arcs x s → IsStartOf arcs (x + 1) t → HasArc arcs e x y → HasArc (take (t - s) (drop s arcs)) e x y
 leaves_between arcs e x y s t here next has =
     let k : ℕ = has.0 in

@@ -26,7 +26,7 @@ module _ (joins : ℕ → ℕ → ℕ → Type 0) (lengths : List ℕ) (far a : 
       let there = subst (λ k. (get_or found k 0 < far) × (get_or found k 0 ≤ get_or found a 0 + length_of lengths es)) p.2 r in
       (there.0, omega (arith, there.1, t.start))
 
-  -- what stands at a node answers its distance
+  -- the number at a node means its distance
   pub table_distance : (b : ℕ) → b < length found → IsDistance joins lengths a b (answer_of far (get_or found b 0))
   table_distance b lt =
       elim (eqb (get_or found b 0) far) as (λ v. eqb (get_or found b 0) far ≡ v → IsDistance joins lengths a b (cond v None (Some (get_or found b 0)))) [

@@ -43,7 +43,7 @@ pub(crate) fn narrowed(found: u128) -> u64
     found.min(u64::MAX as u128) as u64
 }
 
-/// The distance that a number of the table stands for, if it stands for one.
+/// The distance that a number of the table means, if it means one.
 fn answer(number: u64) -> Option<u64>
     ensures { result ≡ answer_of APART number }
 {

@@ -9,7 +9,7 @@ use crate::forward_star::ForwardStar;
 use net_core::{Lengths, List, Network, NoMemory, NodeId, StateId, States, Surviving};
 use std::alloc::Global;
 
-/// The distance that a number of a search stands for.
+/// The distance that a number of a search means.
 fn answer(found: u128) -> Option<u64>
     requires { found < FAR → found < 2 ^ 39 }
     ensures { result ≡ answer_of FAR found }
@@ -21,7 +21,7 @@ fn answer(found: u128) -> Option<u64>
     }
 }
 
-/// The distance that each number of a search stands for.
+/// The distance that each number of a search means.
 fn answers(alloc: Global, found: &[u128]) -> Result<List<Option<u64>>, NoMemory>
     requires { All (λ d. d < FAR → d < 2 ^ 39) found.now }
     ensures { IfOk result (λ row. row ≡ map (answer_of FAR) found.now) }

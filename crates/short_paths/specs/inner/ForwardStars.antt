@@ -12,7 +12,7 @@ pub record AreArcs (joins : ℕ → ℕ → ℕ → Type 0) (arcs : List Arc) : 
   pub sound : (e x y : ℕ) → HasArc arcs e x y → joins e x y
   pub whole : (e x y : ℕ) → joins e x y → HasArc arcs e x y
 
--- the arcs over link e have come to the others
+-- the arcs over link e have been added to the others
 pub record AddsArcs (joins : ℕ → ℕ → ℕ → Type 0) (e : ℕ) (old new : List Arc) : Type 0 where
   pub kept : (f x y : ℕ) → HasArc old f x y → HasArc new f x y
   pub sound : (f x y : ℕ) → HasArc new f x y → HasArc old f x y ⊎ ((f ≡ e) × joins f x y)
@@ -24,7 +24,7 @@ pub record IsStartOf (arcs : List Arc) (x s : ℕ) : Type 0 where
   pub before : AllWithin (λ h. h.from.0 < x) arcs 0 s
   pub after : AllWithin (λ h. x ≤ h.from.0) arcs s (length arcs)
 
--- at x stands the place from which on arcs leave node x or a later one
+-- number x is the place from which on arcs leave node x or a later one
 abbrev pub AreStarts : List Arc → List ℕ → Type 0
 AreStarts arcs starts = (x : ℕ) → x < length starts → IsStartOf arcs x (slice_index starts x)
 

@@ -8,7 +8,7 @@ use Rattle.short_paths.specs.inner.Tables.{IsTable, answer_of}
 abbrev pub pair_count : ℕ → ℕ
 pair_count n = n * (n - 1) / 2
 
--- where the number of two nodes stands: after the pairs of the nodes below the higher one
+-- the place of the number of two nodes: after the pairs of the nodes below the higher one
 abbrev pub pair_place : ℕ → ℕ → ℕ
 pair_place low high = pair_count high + low
 
@@ -20,7 +20,7 @@ pair_distance pairs a b = cond (a == b) (Some 0) (answer_of APART (slice_index p
 abbrev pub narrowed : ℕ → ℕ
 narrowed d = min d (2 ^ 64 - 1)
 
--- the numbers of node `high` with each node before it have come to the others
+-- the numbers of node `high` with each node before it have been added to the others
 pub record AddsRow (joins : ℕ → ℕ → ℕ → Type 0) (lengths : List ℕ) (far high : ℕ) (old new : List ℕ) : Type 0 where
   pub found : List ℕ
   pub table : IsTable joins lengths far high found

@@ -1,4 +1,4 @@
--- lengths above 0 that stand for prices
+-- lengths above 0 in proportion to prices
 use Rattle.std.specs.Prelude.{ℕ, ◌+◌, ◌*◌, ◌^◌}
 
 -- the price 2^20 times, and 1 for the link

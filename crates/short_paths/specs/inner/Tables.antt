@@ -2,8 +2,8 @@
 use Rattle.std.specs.Prelude.{◌≡◌, ℕ, ◌+◌, ◌*◌, ◌<◌, ◌≤◌, ◌==◌, cond, List, Option, None, Some, length, slice_index}
 use Rattle.plan_terms.specs.Terms.{Walk}
 
--- At each node that isn't reached stands far, and at the others the length of a walk that no link makes shorter. Where m bounds the
--- lengths, m times the number of nodes bounds those.
+-- The number of each node that isn't reached is `far`, and that of each other one the length of a walk that no link makes shorter. Where m
+-- bounds the lengths, m times the number of nodes bounds those.
 pub record IsTable (joins : ℕ → ℕ → ℕ → Type 0) (lengths : List ℕ) (far a : ℕ) (found : List ℕ) : Type 0 where
   pub start : slice_index found a ≡ 0
   pub sound : (k : ℕ) → k < length found → slice_index found k < far → Walk joins lengths a k (slice_index found k)
