@@ -9,7 +9,7 @@ use Rattle.simplex_core.specs.inner.Factors.{AreFactorsOf}
 use Rattle.simplex_core.specs.Turned.{HavePivot, FindsWideProduct}
 use Rattle.simplex_core.specs.declared.factors.Factors.{Factors}
 
--- the factors without their common divisor combine to the same row
+-- combining by factors gives the row that combining by these without their common divisor gives
 pub factored : (n : ℕ) (u w : ℕ → ℤ) (p q whole : ℤ) (f : Factors) (nums : ℕ → ℤ) (den : ℤ) → AreFactorsOf p q f
     → IsReduced n (combined u f.p w f.q) (whole *ℤ f.q) nums den → IsReduced n (combined u p w q) (whole *ℤ q) nums den
 factored n u w p q whole f nums den t h =

@@ -94,7 +94,7 @@ module _ {N : Type 0} (m : ℕ) (bound : ℕ → ℤ) (slack : ℕ → N) (is_li
       above : (x y : ℤ) → (x -ℤ y) <ℤ pos 0 → x <ℤ y
       above x y h = omega (arith, ints, h)
 
--- programs that are the same
+-- a program is the same program as itself
 pub same_program : {N : Type 0} (m : ℕ) (bound : ℕ → ℤ) (slack : ℕ → N) (is_listed : ColumnOf N → Type 0) → IsSameProgram m m bound bound slack slack is_listed is_listed
 same_program m bound slack is_listed = record {
   count = refl;

@@ -72,7 +72,7 @@ combined_next m old now next products pivot q r n a c lt = record {
       (cases_eq r n);
 }
 
--- the rows while another stands in for the pivot row
+-- the rows while another one is in the place of the pivot row
 pub lent_rectangle : (old : List Row) (row spare : Row) (r : ℕ) → r < length old → slice_get old r ≡ Some row → IsRectangle (length old) old → length spare.nums ≡ length old → IsRectangle (length row.nums) (slice_set old r spare)
 lent_rectangle old row spare r lt at square size i l =
     let width : length row.nums ≡ length old = subst (λ o. length (nums_of o) ≡ length old) at (square r lt) in

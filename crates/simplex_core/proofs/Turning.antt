@@ -1,4 +1,4 @@
--- a turn, from what the code has at hand to what it does to the basis
+-- a turn, from the values that the code has to what it does to the basis
 use Rattle.std.proofs.Common.{◌≡◌, ℕ, ◌<◌, List, [], ◌∷◌, cond, eqb, refl, sym, subst, arith, inl, inr, ⊎_elim}
 use Rattle.std.proofs.Math.IntN.{ℤ, pos, ◌+ℤ◌, ◌-ℤ◌, ◌*ℤ◌}
 use Rattle.std.specs.Int.Signed.{◌<ℤ◌}
@@ -19,7 +19,7 @@ use Rattle.simplex_core.specs.declared.basis.Basis.{Basis}
 use Rattle.simplex_core.specs.declared.solver.Turn.{Turn}
 use Rattle.simplex_core.specs.declared.solver.Turn.TheVariants.{Again, Best, Unbounded, Wide, NoMemory}
 
--- a wide row, by the products that are at hand
+-- a wide row, by the products that the basis holds
 pub wide_other : {N : Type 0} (m : ℕ) (old : Basis N) (c : ColumnOf N) (name : N) (cost : ℤ) (r i : ℕ) → Chooses m old c name cost r
     → IsWideRow m old.rows old.products r i → IsWideOther m old c r i
 wide_other m old c name cost r i ch wide =
@@ -49,7 +49,7 @@ picks m old products c r dots gains lt positive first = record {
       (first i l (subst (λ x. pos 0 <ℤ x) (sym (dots i l)) more)));
 }
 
--- what a turn does hangs on no products that are at hand
+-- what a turn does doesn't depend on the products that the basis holds
 module _ {N : Type 0} (m : ℕ) (old : Basis N) (products : List ℤ) (c : ColumnOf N) where
   turns_as_well : (r : ℕ) (new : Basis N) → TurnsTo m (record { names = old.names; rows = old.rows; duals = old.duals; bounds = old.bounds; products = products; spare = old.spare }) c r new → TurnsTo m old c r new
   turns_as_well r new t = record {

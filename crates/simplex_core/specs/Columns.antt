@@ -23,7 +23,7 @@ pub record IsEntry (m : ℕ) (e : Entry) : Type 0 where
   pub positive : pos 0 ≤ℤ e.value
   pub narrow : IsNarrow e.value
 
--- no row stands twice
+-- no row appears twice
 abbrev pub HaveApartRows : List Entry → Type 0
 HaveApartRows [] = Unit {0}
 HaveApartRows (e ∷ es) = AllByRecursion (λ f. e.row ≢ f.row) es × HaveApartRows es

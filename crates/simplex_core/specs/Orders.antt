@@ -3,7 +3,7 @@ use Rattle.std.specs.Prelude.{ℕ, ℤ, ◌≡◌, ◌<◌, ◌<ℤ◌}
 use Rattle.std.specs.declared.cmp.Ordering.{Ordering}
 use Rattle.std.specs.declared.cmp.Ordering.TheVariants.{Less, Equal, Greater}
 
--- how x stands to y
+-- how x compares to y
 abbrev pub HasOrder : ℤ → ℤ → Ordering → Type 0
 HasOrder x y Less = x <ℤ y
 HasOrder x y Equal = x ≡ y

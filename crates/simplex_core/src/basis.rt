@@ -18,7 +18,7 @@ pub(crate) struct Basis<N> {
     pub(crate) bounds: List<i64>,
     /// Room for the products of the rows with a column.
     pub(crate) products: List<i128>,
-    /// A row to stand in for the pivot row while that is lent.
+    /// A row that takes the place of the pivot row while that is lent.
     pub(crate) spare: Row,
 }
 

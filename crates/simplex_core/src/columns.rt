@@ -22,7 +22,7 @@ pub struct Column<N> {
     pub name: N,
     /// The gain of one unit.
     pub gain: i64,
-    /// What one unit takes, with no entry for a row that it takes nothing of. Entries of the same row add up.
+    /// What one unit takes, with no entry for a row that it takes nothing of. Entries of one row add up.
     pub entries: List<Entry>,
 }
 

@@ -120,7 +120,7 @@ fn turn_rows(rows: &mut [Row], products: &[i128], spare: &mut Row, r: usize) -> 
 /// products. An error names a row that gets too wide; the rows are then half written. It takes no memory,
 /// and time by the square of the count of rows at most: a row of product 0 costs nothing.
 ///
-/// `spare` stands in for the pivot row while that is lent, and its numbers don't matter.
+/// `spare` takes the place of the pivot row while that is lent, and its numbers don't matter.
 pub fn turn_list(
     rows: &mut List<Row>,
     products: &List<i128>,

@@ -33,7 +33,7 @@ pub record AreFractionsOf (rows : List Row) (bound : ℕ → ℤ) (fractions : L
   pub count : length fractions ≡ length rows
   pub each : AtEach (λ j f. IsFractionOf (dot (length rows) (nums_at rows j) bound) (den_at rows j) f) fractions
 
--- the same, or a row whose value is too wide
+-- the values of all rows as fractions, or a row whose value is too wide
 abbrev pub HaveFractions : List Row → (ℕ → ℤ) → Result (List Fraction) ValueFault → Type 0
 HaveFractions rows bound (Ok fractions) = AreFractionsOf rows bound fractions
 HaveFractions rows bound (Err (Sum i)) = (i < length rows) × (2 ^ 126 ≤ sizes_of (length rows) (nums_at rows i) bound)

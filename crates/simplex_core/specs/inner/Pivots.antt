@@ -13,7 +13,7 @@ pub record CombinesAt (m : ℕ) (old new : List Row) (products : List ℤ) (pivo
   pub kept : i ≡ r → slice_get new i ≡ slice_get old i
   pub others : (j : ℕ) → j ≢ i → slice_get new j ≡ slice_get old j
 
--- the same of the first n rows but row r; the others are as they were
+-- each of the first n rows is combined, but for row r; the others are as they were
 pub record AreCombined (m : ℕ) (old new : List Row) (products : List ℤ) (pivot : ℕ → ℤ) (q : ℤ) (r n : ℕ) : Type 0 where
   pub count : length new ≡ length old
   pub sizes : (i : ℕ) → i < length old → length (nums_of (slice_get new i)) ≡ length (nums_of (slice_get old i))

@@ -21,7 +21,7 @@ pub record IsCandidate (m : ℕ) (rows : List Row) (bounds products : List ℤ) 
   pub value : pos c.value ≡ dot m (nums_at rows c.row) (num bounds)
   pub product : c.product ≡ num products c.row
 
--- how the ratio of u and p stands to that of v and q
+-- how the ratio of u and p compares to that of v and q
 abbrev pub ComparesRatios : ℕ → (ℕ → ℤ) → (ℕ → ℤ) → ℤ → (ℕ → ℤ) → ℤ → Ordering → Type 0
 ComparesRatios m bound u p v q Less = IsNoLater m bound u p v q
 ComparesRatios m bound u p v q Equal = IsNoLater m bound v q u p

@@ -23,7 +23,7 @@ module _ {N : Type 0} (m : ℕ) (old : Basis N) (c : ColumnOf N) where
   abbrev pub Picks : ℕ → Type 0
   Picks r = IsPick m (num old.bounds) (nums_at old.rows) (num old.duals.nums) old.duals.den c r
 
-  -- the rows and the objective row of the basis in which the column stands at r
+  -- the rows and the objective row of the basis where the column is at r
   pub record TurnsTo (r : ℕ) (new : Basis N) : Type 0 where
     pub pick : Picks r
     pub turned : IsTurned m c r (nums_at old.rows) (nums_at new.rows) (den_at old.rows) (den_at new.rows) (num old.duals.nums) (num new.duals.nums) old.duals.den new.duals.den
@@ -31,7 +31,7 @@ module _ {N : Type 0} (m : ℕ) (old : Basis N) (c : ColumnOf N) where
     pub bounds : new.bounds ≡ old.bounds
     pub shaped : IsShaped m new
 
-  -- an objective row that gets too wide when the column stands at r
+  -- an objective row that gets too wide where the column is at r
   abbrev pub IsWideObjective : ℕ → Type 0
   IsWideObjective r = (wide : WideNumber) × IsTooWide m (combined (num old.duals.nums) (reduced_cost m old.duals c) (nums_at old.rows r) (dot m (nums_at old.rows r) c.entry)) (old.duals.den *ℤ dot m (nums_at old.rows r) c.entry) wide
 
@@ -40,7 +40,7 @@ module _ {N : Type 0} (m : ℕ) (old : Basis N) (c : ColumnOf N) where
   IsWideOther r i = (i < m) × (i ≢ r) × ((wide : WideNumber)
       × IsTooWide m (combined (nums_at old.rows i) (dot m (nums_at old.rows i) c.entry) (nums_at old.rows r) (dot m (nums_at old.rows r) c.entry)) (den_at old.rows i *ℤ dot m (nums_at old.rows r) c.entry) wide)
 
-  -- what is too wide: in the basis before, or in the one in which the column stands
+  -- what is too wide: in the basis before, or in the one that the column has entered
   abbrev pub GetsWide : WideKind N → Basis N → Type 0
   GetsWide (RowOf i) new = (r : ℕ) × Picks r × (new.names ≡ slice_set old.names r c.name) × (((i ≡ m) × IsWideObjective r) ⊎ IsWideOther r i)
   GetsWide (Product i name) new = (new.names ≡ old.names) × (name ≡ c.name)
@@ -60,7 +60,7 @@ module _ {N : Type 0} (m : ℕ) (old : Basis N) (c : ColumnOf N) where
   Enters Best new = ⊥
   Enters NoMemory new = ⊥
 
--- a column of this name and reduced cost, whose products are at hand, and for which row r leaves
+-- a column of this name and reduced cost, whose products the basis holds, and for which row r leaves
 pub record Chooses {N : Type 0} (m : ℕ) (old : Basis N) (c : ColumnOf N) (name : N) (cost : ℤ) (r : ℕ) : Type 0 where
   pub named : c.name ≡ name
   pub priced : cost ≡ reduced_cost m old.duals c
