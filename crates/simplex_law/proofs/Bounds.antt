@@ -18,7 +18,7 @@ lex_same (suc n) u v e h = ⊎_elim
     h
 
 module _ {N : Type 0} (m : ℕ) (b c : ℕ → ℤ) (is_column : ColumnOf N → Type 0) (same : (k : ℕ) → k < m → b k ≡ c k) where
-  -- the absolute products with bounds that agree sum to the same
+  -- the sums of absolute products are equal where the bounds agree
   pub sizes : (n : ℕ) (nums : ℕ → ℤ) → n ≤ m → sum_below n (λ k. unsigned_abs (nums k) * unsigned_abs (b k)) ≡ sum_below n (λ k. unsigned_abs (nums k) * unsigned_abs (c k))
   sizes zero nums le = refl
   sizes (suc n) nums le =

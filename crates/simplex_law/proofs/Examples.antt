@@ -123,7 +123,7 @@ reached1 = record {
   );
 }
 
--- the same with bounds 0 and 0: values 0 and 0
+-- that basis at bounds 0 and 0: its values are 0 and 0
 optimum2 : IsOptimum 2 (λ k. pos 0) (Of a1 b1) (two a1 b1) (λ j. pos 0) (pos 3) (λ k. pos 1) (pos 3)
 optimum2 = record {
   best = record {

@@ -85,7 +85,7 @@ next_filling m r basic nums den w a all q rm pq h is_q = record {
     by_place k l j true e = rw e refl
     by_place k l j false e = rw e refl
 
--- the same at columns that agree below m
+-- weights that fill one basis fill each whose columns agree with its columns below m
 pub same_filling : (m : ℕ) (basic others nums : ℕ → ℕ → ℤ) (den w : ℕ → ℤ) (all : ℤ) → ((j k : ℕ) → j < m → others j k ≡ basic j k)
     → IsFilling m basic nums den w all → IsFilling m others nums den w all
 same_filling m basic others nums den w all e h = record {

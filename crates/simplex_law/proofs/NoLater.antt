@@ -21,7 +21,7 @@ gone u v p q e = omega (arith, ints, e, *ℤ_comm u q)
 pub over : (u v p q : ℤ) → (u *ℤ q) <ℤ (v *ℤ p) → pos 0 <ℤ ((v *ℤ p) -ℤ (q *ℤ u))
 over u v p q e = omega (arith, ints, e, *ℤ_comm u q)
 
--- where the first row and its product are the same as others but for factors, the others stand as they do; and so for the second
+-- a row that comes no later than a second still does where the row and its product are multiplied by a positive factor; and so for the second
 pub first_scaled : (m : ℕ) (bound u w : ℕ → ℤ) (p r : ℤ) (v : ℕ → ℤ) (q d e : ℤ) → pos 0 <ℤ d → pos 0 <ℤ e
     → ((k : ℕ) → k < suc m → e *ℤ valued m bound u k ≡ d *ℤ valued m bound w k) → e *ℤ p ≡ d *ℤ r → IsNoLater m bound u p v q → IsNoLater m bound w r v q
 first_scaled m bound u w p r v q d e pd pe same product h =
@@ -48,7 +48,7 @@ second_scaled m bound u p v w q r d e pd pe same product h =
         let b : e *ℤ (q *ℤ x) ≡ d *ℤ (r *ℤ x) = sym (regroup e q x) ∙ (ap (λ t. t *ℤ x) product ∙ regroup d r x) in
         omega (arith, ints, one, two, a, b)
 
--- a pick is one over any rows of the same basis
+-- a pick by one tableau of a basis is a pick by any tableau of it
 pub pick_again : {N : Type 0} (m : ℕ) (bound : ℕ → ℤ) (basis : ℕ → ColumnOf N) (nums others : ℕ → ℕ → ℤ) (den dens duals prices : ℕ → ℤ) (duals_den prices_den : ℤ) (c : ColumnOf N) (r : ℕ)
     → IsTableau m bound basis nums den duals duals_den → IsTableau m bound basis others dens prices prices_den
     → IsPick m bound nums duals duals_den c r → IsPick m bound others prices prices_den c r

@@ -41,7 +41,7 @@ div_lt a b d e q pd pe big h =
     let all : d * (suc z * e) ≤ d * (b * q) = omega arith in
     (le-div_iff_mul-le pe).1 (le_of_mul-le-mul_left all pd)
 
--- what stands within edge * d becomes a natural number
+-- a number within edge * d, plus edge * d, is a natural number
 shifted : (edge : ℕ) (v : ℤ) (d : ℕ) → unsigned_abs v ≤ edge * d → unsigned_abs (v +ℤ pos (edge * d)) + down v ≡ up v + edge * d
 shifted edge v d h = omega (arith, ints)
 

@@ -65,7 +65,7 @@ lex_rises (suc n) y w p q d less more over h =
     (λ z. inr (sym (ap (λ s. ((y 0 *ℤ q) -ℤ (p *ℤ s)) *ℤ d) z.0 ∙ (ap (λ s. s *ℤ d) (omega (arith, ints)) ∙ f)), lex_rises n (λ k. y (suc k)) (λ k. w (suc k)) p q d less more over z.1))
     h
 
--- numbers that are the same as others but for positive factors
+-- where a vector isn't negative in lexicographic order, nor is one that equals it but for positive factors
 pub lex_scaled : (n : ℕ) (u v : ℕ → ℤ) (g h : ℤ) → pos 0 <ℤ g → pos 0 <ℤ h → ((k : ℕ) → k < n → g *ℤ u k ≡ h *ℤ v k) → IsLexNonneg n u → IsLexNonneg n v
 lex_scaled zero u v g h pg ph e lex = tt
 lex_scaled (suc n) u v g h pg ph e lex = ⊎_elim
@@ -134,7 +134,7 @@ pub lex_none : (n : ℕ) (v : ℕ → ℤ) → ((k : ℕ) → k < n → v k ≡ 
 lex_none zero v none = tt
 lex_none (suc n) v none = inr (none 0 (omega arith), lex_none n (λ k. v (suc k)) (λ k l. none (suc k) (omega arith)))
 
--- nothing stands before some place, and nothing is negative from there on
+-- a vector that is 0 before some place and nowhere negative from there on isn't negative in lexicographic order
 pub lex_rest : (n at : ℕ) (v : ℕ → ℤ) → ((k : ℕ) → k < at → k < n → v k ≡ pos 0) → ((k : ℕ) → at ≤ k → k < n → pos 0 ≤ℤ v k) → IsLexNonneg n v
 lex_rest zero at v none high = tt
 lex_rest (suc n) zero v none high = by_lt_z (pos 0) (v 0)

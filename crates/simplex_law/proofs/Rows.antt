@@ -71,7 +71,7 @@ multiple m raw whole nums den pw r =
     some zero h = absurd (omega (arith, ints, h))
     some (suc g) h = omega (arith, ints)
 
--- a row in lowest terms takes the same values
+-- a row in lowest terms takes the values of the row that it reduces
 pub reduced_row : (m : ℕ) (basic : ℕ → ℕ → ℤ) (target raw nums : ℕ → ℤ) (whole den g : ℤ) → IsMultiple m raw whole nums den g → IsRow m basic target raw whole → IsRow m basic target nums den
 reduced_row m basic target raw nums whole den g r row j lt =
     cancelled g (dot m nums (basic j)) (den *ℤ target j) r.positive

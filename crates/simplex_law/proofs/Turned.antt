@@ -37,7 +37,7 @@ to_basis : {N : Type 0} (m : ℕ) (basis : ℕ → ColumnOf N) (c : ColumnOf N) 
     → IsRow m (λ j. (put basis r c j).entry) target nums den
 to_basis m basis c r target nums den row j lt = ap (λ v. dot m nums v) (entry_put basis c r j) ∙ row j lt
 
--- the rows of the next basis before they come to lowest terms
+-- the rows of the next basis before they are reduced to lowest terms
 pub other_row : {N : Type 0} (m : ℕ) (bound : ℕ → ℤ) (basis : ℕ → ColumnOf N) (nums : ℕ → ℕ → ℤ) (den duals : ℕ → ℤ) (duals_den : ℤ) (c : ColumnOf N) (r i : ℕ)
     → IsTableau m bound basis nums den duals duals_den → IsPick m bound nums duals duals_den c r → i < m → i ≢ r
     → IsRow m (λ j. (put basis r c j).entry) (unit_vector i) (combined (nums i) (dot m (nums i) c.entry) (nums r) (dot m (nums r) c.entry)) (den i *ℤ dot m (nums r) c.entry)
@@ -70,7 +70,7 @@ objective_row m bound basis nums den duals duals_den c r s k j lj =
     s.objective (s.rows r k.inside) refl refl) j lj
     ∙ ap (λ x. (duals_den *ℤ dot m (nums r) c.entry) *ℤ x) (sym (gain_put basis c r j))
 
--- the value of a combined row stands in front of it
+-- two rows combined with their values in front are the combined row with its value in front
 front : (m : ℕ) (b u w : ℕ → ℤ) (p q : ℤ) → IsLexNonneg (suc m) (combined (valued m b u) p (valued m b w) q) → IsLexNonneg (suc m) (valued m b (combined u p w q))
 front m b u w p q h = subst (λ x. (pos 0 <ℤ x) ⊎ ((x ≡ pos 0) × IsLexNonneg m (combined u p w q))) (sym (dot-combined m u w b p q)) h
 
@@ -81,7 +81,7 @@ row_lex m b u w p q more hu hw ratio = front m b u w p q (by_lt_z (pos 0) p rati
     (λ less. lex_negative (suc m) (valued m b u) (valued m b w) p q less more hu hw)
     (λ ge. let e : pos 0 ≡ p = omega (arith, ints, le, ge) in subst (λ x. IsLexNonneg (suc m) (combined (valued m b u) x (valued m b w) q)) e (lex_zero (suc m) (valued m b u) (valued m b w) q more hu))))
 
--- the tableau after a turn, before the rows come to lowest terms
+-- the tableau after a turn, before the rows are reduced to lowest terms
 pub turned_raw : {N : Type 0} (m : ℕ) (bound : ℕ → ℤ) (basis : ℕ → ColumnOf N) (nums : ℕ → ℕ → ℤ) (den duals : ℕ → ℤ) (duals_den : ℤ) (c : ColumnOf N) (r : ℕ)
     → IsTableau m bound basis nums den duals duals_den → IsPick m bound nums duals duals_den c r
     → IsTableau m bound (put basis r c)
@@ -152,7 +152,7 @@ some_number m r b basic w e rm row pe all =
     let one : e *ℤ unit_vector r r ≡ e = ap (λ t. e *ℤ t) (unit-same r) ∙ omega (arith, ints) in
     let is = row r rm in omega (arith, ints, z, one, is, pe)
 
--- any duals of the next basis, with their value, stand above those of the basis before
+-- any duals of the next basis, with their value, are above those of the basis before
 pub rises_to : {N : Type 0} (m : ℕ) (bound : ℕ → ℤ) (basis : ℕ → ColumnOf N) (nums : ℕ → ℕ → ℤ) (den duals : ℕ → ℤ) (duals_den : ℤ) (c : ColumnOf N) (r : ℕ) (later : ℕ → ℤ) (later_den : ℤ)
     → IsTableau m bound basis nums den duals duals_den → IsPick m bound nums duals duals_den c r
     → IsRow m (λ j. (put basis r c j).entry) (λ j. (put basis r c j).gain) later later_den → pos 0 <ℤ later_den

@@ -1,4 +1,4 @@
--- the rows of a basis are the same but for a factor, so any of them make a tableau
+-- the rows of a basis are unique but for a factor, so any of them make a tableau
 use Rattle.std.proofs.Common.{◌≡◌, ℕ, zero, suc, ◌<◌, sym, ap, ◌∙◌, arith, ⊎_elim, cond, subst}
 use Rattle.net_core.proofs.Library.{cases_eq, *ℤ_comm, *ℤ-zero, ints}
 use Rattle.std.proofs.lemmas.Bool.{eq-eqb, ne_eqb}
@@ -15,7 +15,7 @@ use Rattle.simplex_law.proofs.Duality.{priced}
 use Rattle.simplex_law.proofs.Order.{lex_scaled}
 use Rattle.checked_fraction.proofs.Products.{regroup, positive_product, cancelled}
 
--- products with numbers that are the same but for factors
+-- products with numbers that are equal but for factors
 pub dot_scaled : (m : ℕ) (u v a : ℕ → ℤ) (d e : ℤ) → ((l : ℕ) → l < m → e *ℤ u l ≡ d *ℤ v l) → e *ℤ dot m u a ≡ d *ℤ dot m v a
 dot_scaled m u v a d e same = sym (dot-times m e u a) ∙ (sum-same m _ _ (λ l ll. ap (λ t. t *ℤ a l) (same l ll)) ∙ dot-times m d v a)
 
@@ -54,7 +54,7 @@ module _ (m : ℕ) (basic nums : ℕ → ℕ → ℤ) (den w : ℕ → ℤ) (all
       one : (x a : ℤ) → x *ℤ (a *ℤ pos 1) ≡ a *ℤ x
       one x a = ap (λ s. x *ℤ s) (omega (arith, ints)) ∙ *ℤ_comm x a
 
-  -- two rows that take the same are the same but for a factor
+  -- two rows that take equal values are equal but for a factor
   pub row_unique : (target u v : ℕ → ℤ) (d e : ℤ) (l : ℕ) → IsFilling m basic nums den w all → IsRow m basic target u d → IsRow m basic target v e → l < m
       → e *ℤ u l ≡ d *ℤ v l
   row_unique target u v d e l h row other lt =

@@ -1,4 +1,4 @@
--- a measure that falls where duals rise, so that a method whose duals rise in each turn comes to an end
+-- a measure that falls where duals rise, so that a method whose duals rise in each turn ends
 use Rattle.std.specs.Prelude.{ℕ, ℤ, zero, suc, pos, ◌<◌, ◌+◌, ◌-◌, ◌*◌, ◌/◌, ◌^◌, ◌<ℤ◌, ◌+ℤ◌, unsigned_abs}
 use Rattle.checked_fraction.specs.Terms.{IsNarrow}
 use Rattle.simplex_law.specs.inner.Lexicographic.{valued}
@@ -13,7 +13,7 @@ pub record AreNarrowDuals (m : ℕ) (duals : ℕ → ℤ) (den : ℤ) : Type 0 w
 unfoldable pub digit : ℕ → ℕ → ℤ → ℕ → ℕ
 digit edge square v d = (unsigned_abs (v +ℤ pos (edge * d)) * square) / d
 
--- the same of n numbers in lexicographic order
+-- n fractions over d as one number, which is larger where they come later in lexicographic order
 unfoldable pub lex_number : ℕ → ℕ → ℕ → ℕ → (ℕ → ℤ) → ℕ → ℕ
 lex_number base edge square zero v d = 0
 lex_number base edge square (suc n) v d = digit edge square (v 0) d * base ^ n + lex_number base edge square n (λ k. v (suc k)) d
@@ -23,6 +23,6 @@ unfoldable pub left_below : ℕ → ℕ → (ℕ → ℤ) → (ℕ → ℤ) → 
 left_below edge m bound duals den =
     (2 * edge * 2 ^ 124 + 1) ^ (m + 1) - lex_number (2 * edge * 2 ^ 124 + 1) edge (2 ^ 124) (m + 1) (valued m bound duals) (unsigned_abs den)
 
--- the same with an edge that the value of narrow duals at narrow bounds can't pass
+-- what is left above narrow duals and their value, with an edge that this value can't pass at narrow bounds
 abbrev pub left_over : ℕ → (ℕ → ℤ) → (ℕ → ℤ) → ℤ → ℕ
 left_over m = left_below ((m + 1) * 2 ^ 124) m
