@@ -1,4 +1,4 @@
--- decimal numbers with so many places after the point that count, as amounts are
+-- decimal numbers with a fixed number of places after the point that count, as amounts are
 use Rattle.std.specs.Prelude.{◌≡◌, ℕ, IsTrue, ◌+◌, ◌*◌, ◌^◌, ◌==◌, nat_lt, Bool, cond, not, ◌||◌, ◌&&◌, List, ◌++◌, take, drop, replicate, Result, Ok, Err}
 use Rattle.std.specs.List.{list_all, list_any, before_first, after_first}
 use Rattle.net_core.specs.declared.places.Places.{Places}
@@ -11,11 +11,11 @@ use Rattle.snd_tokens.specs.Digits.{is_digit, are_digits, number_of}
 abbrev pub is_point : ℕ → Bool
 is_point b = b == 46
 
--- what stands before the first point, or all
+-- what is before the first point, or all
 abbrev pub whole_part : List ℕ → List ℕ
 whole_part word = before_first is_point word
 
--- what stands after the first point, or nothing
+-- what is after the first point, or nothing
 abbrev pub places_of : List ℕ → List ℕ
 places_of word = after_first is_point word
 
