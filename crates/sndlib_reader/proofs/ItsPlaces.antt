@@ -1,4 +1,4 @@
--- Whole files with the places with which they are read: what is read is spelled, nothing else is, and no fault stands too early.
+-- Whole files with the places with which they are read: what is read is spelled, nothing else is, and no fault is too early.
 use Rattle.std.proofs.Common.{◌≡◌, ℕ, Bool, true, false, cond, List, take, Ok, Err, IfOk, IfErr, refl, sym, ap, subst, ◌∙◌}
 use Rattle.net_core.proofs.Library.{false≢true}
 use Rattle.net_core.specs.declared.demand.Demand.{Demand}
@@ -110,13 +110,13 @@ first_fault bytes r h at kind e =
     let p = i.0 in
     (f, λ net demands s. spelled_faultless Header header (native_sections_at p) (SpellsParts p) (sections_spelled p) bytes (parts_of net, demands) (spelled_in p bytes net demands i.1.0 s) at kind (sym i.1.1 ∙ f))
 
--- ---- no fault stands too early
+-- ---- no fault is too early
 
--- bytes that agree past a fault have it with the same places
+-- bytes that agree past a fault have it, read with these places
 same_fault_in : (p : Places) (bytes : List ℕ) (at : ℕ) (kind : ReadKind) (other : List ℕ) (n : ℕ) → take n bytes ≡ take n other → network_in p bytes ≡ Err (at, kind) → EndsBefore at n (body bytes) → network_in p other ≡ Err (at, kind)
 same_fault_in p bytes at kind other n same e ends = fault_kept Header header (native_sections_at p) (sections_online p) bytes at kind e other n same ends
 
--- they are read with the same places
+-- bytes that agree past a fault, and past each number that is too fine, are read with the places of these
 same_places : (p : Places) (bytes : List ℕ) (at : ℕ) (kind : ReadKind) (other : List ℕ) (n : ℕ) → take n bytes ≡ take n other → IsReadWith p bytes → network_in p bytes ≡ Err (at, kind) → EndsBefore at n (body bytes)
     → ((fine : ℕ) → IsTooFineAt bytes fine → EndsBefore fine n (body bytes)) → IsReadWith p other
 same_places Three bytes at kind other n same reads e ends past = λ t.

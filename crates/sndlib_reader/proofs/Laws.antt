@@ -84,7 +84,7 @@ modules_lawful p fixed = lawful_as (native_modules_at p fixed []) _ (λ ms. flat
 
 -- ---- links
 
--- a link that may stand after earlier ones
+-- a link that may come after earlier ones
 pub record IsLinkAfter (nodes : List (List ℕ)) (sofar : List CostedLink) (l : CostedLink) : Type 0 where
   pub new : IsNew (λ x. x.link.name) 256 sofar l.link.name
   pub ends : AreEnds nodes l.link.a l.link.b
@@ -184,7 +184,7 @@ links_are nodes links short are =
 
 -- ---- demands
 
--- a demand that may stand after earlier ones
+-- a demand that may come after earlier ones
 pub record IsDemandAfter (nodes : List (List ℕ)) (sofar : List Demand) (d : Demand) : Type 0 where
   pub new : IsNew (λ x. x.name) 2048 sofar d.name
   pub ends : AreEnds nodes d.from d.to

@@ -67,7 +67,7 @@ alike_longer s t Coordinates alike = (same_names s ∙ (alike.0 ∙ sym (same_na
 nodes_alike : (s t : List NodePart) (text : Text) → Alike s t → native_nodes_at s text ≡ native_nodes_at t text
 nodes_alike s t text alike = lists_alike Parenthesis part_at names_of Alike alike_parts alike_longer (λ s t a. a.0) s t text alike
 
--- the parts that stand for names so far
+-- parts that are names alone have these names
 pub all_names : (names : List (List ℕ)) → names_of (map NodeName names) ≡ names
 all_names [] = refl
 all_names (n ∷ ns) = ap (λ (is : List (List ℕ)). n ∷ is) (all_names ns)
@@ -165,7 +165,7 @@ nodes_end names named at t = ap (λ (ns : List (List ℕ)). Ok (ns, t)) (names_s
 
 -- ---- the law of a part
 
--- a part that may stand after earlier ones
+-- a part that may come after earlier ones
 abbrev pub IsNewPart : List NodePart → NodePart → Type 0
 IsNewPart sofar (NodeName w) = IsNew (λ n. n) 128 (names_of sofar) w
 IsNewPart sofar Coordinates = IsTrue (ends_named false sofar)

@@ -383,7 +383,7 @@ of_network p x is s =
       parts_are = parts_equal p x.0.nodes s.links x.0 refl s.links_are s.notes_are s.places_are;
     }
 
--- the same readings, none inside another
+-- the readings of a file one after another, none inside another
 abbrev then_last : Places → List (List ℕ) → List CostedLink → List Demand → Unit {0} → Reading ReadKind (Parts × List Demand)
 then_last p nodes links demands u = give (parts p nodes links, demands)
 

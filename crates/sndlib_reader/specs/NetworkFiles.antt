@@ -52,7 +52,8 @@ network_of bytes = in_its_places (network_in Three bytes) (network_in Six bytes)
 abbrev pub IsFirstFault : List ℕ → ℕ → ReadKind → Type 0
 IsFirstFault bytes at kind = network_of bytes ≡ Err (at, kind)
 
--- A fault doesn't stand too early: no bytes are spelled right that agree past the lexeme at its place, and past the number that was too fine for three places where one was. It says nothing of the header and of the end.
+-- A fault isn't too early: no bytes are spelled right that agree past the lexeme at its place, and past the number that was too fine for three
+-- places where one was. It says nothing of the header and of the end.
 abbrev pub IsNoEarlyFault : List ℕ → Refusal ReadKind → Type 0
 IsNoEarlyFault bytes (Bad at kind) =
     (other : List ℕ) (n : ℕ) → take n bytes ≡ take n other → EndsBefore at n (body bytes) → ((fine : ℕ) → IsTooFineAt bytes fine → EndsBefore fine n (body bytes))

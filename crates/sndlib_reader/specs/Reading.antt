@@ -69,7 +69,7 @@ carried sofar (Err fault) = Err fault
 abbrev pub capacity : Places → List Module → List ℕ → Result ℕ ReadKind
 capacity p sofar w = carried sofar (amount p w)
 
--- the need of so many units of an amount, after demands of this total
+-- the need of a number of units of an amount, after demands of this total
 abbrev pub wanted : ℕ → ℕ → Result ℕ ReadKind → Result ℕ ReadKind
 wanted total units (Ok each) =
     if nat_lt (units * each) (2 ^ 40)
@@ -94,7 +94,7 @@ skipped_at zero (CloseAt at rest) = Ok (tt, rest)
 skipped_at (suc n) (CloseAt at rest) = skipped_at n rest
 skipped_at n (EndAt at) = Err (at, Ended)
 
--- a section's word, the parenthesis after it, and what stands there
+-- a section's word, the parenthesis after it, and what is in it
 unfoldable pub native_section_at : {X : Type 0} → List ℕ → Reading ReadKind X → Reading ReadKind X
 native_section_at name r = do
   _ ← word_at Section Ended (expected Section name)

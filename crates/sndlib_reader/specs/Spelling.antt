@@ -15,7 +15,7 @@ use Rattle.text_kit.specs.Terms.{Item, Verbatim, Money, Opening, Closing, ComeAf
 use Rattle.sndlib_reader.specs.Balance.{IsSkipped}
 use Rattle.sndlib_reader.specs.Paths.{ArePaths}
 
--- what stands in the list of nodes: a node's name, or the coordinates of the node before them
+-- an entry of the list of nodes: a node's name, or the coordinates of the node before them
 pub data NodePart : Type 0 where
   NodeName : List ℕ → NodePart
   Coordinates : NodePart

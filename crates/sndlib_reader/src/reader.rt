@@ -232,7 +232,7 @@ pub fn read_network(alloc: Global, bytes: &[u8]) -> Result<(Network, Demands), R
     // What is refused as bad spells nothing, and the fault is the first one by place.
     ensures refused { (at : ℕ) (kind : ReadKind) → result ≡ Err (Refusal.Bad at kind)
         → IsFirstFault bytes.now at kind × ((net : Net) (demands : List Dem) → Spells bytes.now net demands → ⊥) }
-    // A fault doesn't stand too early: no bytes that agree past it, and past a number that was too fine, are spelled right.
+    // A fault isn't too early: no bytes that agree past it, and past a number that was too fine, are spelled right.
     ensures not_early { IfErr result (IsNoEarlyFault bytes.now) }
 {
     file_in_its_places(alloc, bytes)
