@@ -20,7 +20,7 @@ between-le true false = omega arith
 between-le false true = omega arith
 between-le false false = omega arith
 
--- what comes to 0 or 1 times a number is 0 or 1
+-- a number that is 0 or 1 after it is multiplied is 0 or 1 before
 undivided : (a c b : ℕ) → a * c ≡ b → 0 < c → b ≤ 1 → a ≡ b
 undivided zero c b is positive low = omega (arith, is)
 undivided (suc zero) c b is positive low = omega (arith, is, positive, low)

@@ -26,7 +26,7 @@ struct Kind {
     count: u128,
 }
 
-/// The place of the kind that gives so much; past the end where it isn't there.
+/// The place of the kind that gives this number; past the end where it isn't there.
 fn place_of(kinds: &[Kind], gives: u128) -> usize {
     for k in 0..kinds.len() {
         if kinds[k].gives == gives {

@@ -128,7 +128,7 @@ fn add_narrow(
     push_narrow(alloc, instance, tested, lines, i, divisor)
 }
 
-/// For each line that holds and needs more than 4,096 one over a divisor, which needs at most that, so that a table can stand over it.
+/// For each line that holds and needs more than 4,096 one over a divisor, which needs at most that, so that there can be a table over it.
 /// There is one for each whose numbers are below 2^126, as those of cuts are. By the rule of divided lines it is robust where the line is.
 ///
 /// The divisor divides all numbers of the line, so that nothing is rounded; or it is the least that leaves at most 4,096. A line that needs

@@ -14,7 +14,7 @@ use line_check::{Inequality, Line, TableKind, Tested, line_in};
 use net_core::{Copied, List, NoMemory};
 use std::alloc::Global;
 
-/// Where a table line would stand, and what the point misses of it.
+/// The place of a table line that would be made, and what the point misses of it.
 #[derive(Clone, Copy)]
 struct Spot {
     line: u32,
@@ -128,7 +128,7 @@ fn push_spot(
     Ok(())
 }
 
-/// Puts the places of both table lines over a line last, as far as a table can stand there and the point misses them.
+/// Puts the places of both table lines over a line last, as far as there can be a table over it and the point misses them.
 fn push_spots(
     alloc: Global,
     task: &TableTask,
@@ -193,7 +193,7 @@ fn take(alloc: Global, task: &TableTask, taken: &mut Taken, spot: Spot) -> Resul
     Ok(())
 }
 
-/// Table lines that a point misses, at most so many and those first that it misses most: over each line that needs 1 to 4,096 a plain and a
+/// Table lines that a point misses, at most `most` and those first that it misses most: over each line that needs 1 to 4,096 a plain and a
 /// failing one, with the mean cost of each kind of module as its weight, in parts of the right side. None is there twice.
 ///
 /// What is promised is that each is a table line over one of the tested lines, with no weight above the greatest one, that it holds where

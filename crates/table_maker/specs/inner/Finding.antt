@@ -13,7 +13,7 @@ AreFound sets =
     × AllPairs (λ a b. IsSameCut a b → ⊥) sets.cuts
     × All (IsNewTo sets.known.now) sets.cuts
 
--- cuts are sought in the same network, beside the same known ones
+-- a search goes on in its network, beside the cuts that it knows
 abbrev pub IsSameSearch : Sets → Sets → Type 0
 IsSameSearch old new = (new.instance.now ≡ old.instance.now) × (new.known.now ≡ old.known.now)
 

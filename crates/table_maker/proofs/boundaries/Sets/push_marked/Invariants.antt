@@ -1,7 +1,7 @@
 use Rattle.table_maker.specs.inner.Finding.{AreFound, IsSameSearch}
 use Rattle.table_maker.proofs.boundaries.Sets.push_marked.Given as goal
 
--- the cuts so far are cuts of the same case
+-- the cuts so far are cuts of this case
 abbrev pub invariant-loop-mark : goal.invariant-loop-mark
 invariant-loop-mark l = record {
   found : AreFound l.self;
