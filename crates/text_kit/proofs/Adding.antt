@@ -67,7 +67,7 @@ adds_more before f xs k d {a} {b} {c} lt p q =
     let both = append_assoc before (flat_map f (take k xs)) (f (get_or xs k d)) ∙ ap (λ (is : List Item). before ++ is) (sym (more_items f xs k d lt)) in
     subst (λ (is : List Item). AddsItems a is c) both (adds_then p q)
 
--- the same of an element that stands there
+-- the items of a further element, which is the one at its place, after those of the elements before it
 pub adds_next : {X : Type 0} (before : List Item) (f : X → List Item) (xs : List X) (k : ℕ) (x : X) {a b c : List ℕ} → k < length xs → x ≡ get_or xs k x
     → AddsItems a (before ++ flat_map f (take k xs)) b → AddsItems b (f x) c → AddsItems a (before ++ flat_map f (take (k + 1) xs)) c
 adds_next before f xs k x {a} {b} {c} lt e p q = adds_more before f xs k x lt p (subst (λ y. AddsItems b (f y) c) e q)

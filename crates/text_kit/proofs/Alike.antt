@@ -1,4 +1,4 @@
--- Texts that begin alike, by how many lexemes, and texts whose lexemes stand one after another.
+-- Texts that begin alike, by how many lexemes, and texts whose lexemes come one after another.
 use Rattle.std.proofs.Common.{◌≡◌, ◌≢◌, ℕ, zero, suc, ◌<◌, ◌≤◌, refl, sym, ap, arith}
 use Rattle.snd_tokens.specs.Terms.{Text, WordAt, OpenAt, CloseAt, EndAt, size}
 use Rattle.text_kit.specs.Places.{place}
@@ -66,7 +66,7 @@ AgreeThrough at (OpenAt p text) other = (more : Text) × (other ≡ OpenAt p mor
 AgreeThrough at (CloseAt p text) other = (more : Text) × (other ≡ CloseAt p more) × (p ≢ at → AgreeThrough at text more)
 AgreeThrough at (EndAt p) other = other ≡ EndAt p
 
--- each lexeme stands after the one before it
+-- each lexeme is after the one before it
 abbrev pub Rises : Text → Type 0
 Rises (WordAt p w text) = (p < place text) × Rises text
 Rises (OpenAt p text) = (p < place text) × Rises text

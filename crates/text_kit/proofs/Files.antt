@@ -25,7 +25,7 @@ use Rattle.net_core.proofs.Checks.{same_is}
 
 -- ---- first lines
 
--- a lexeme that ends before a limit stands at the beginning of the text or after it, and before the limit
+-- a lexeme that ends before a limit is at the beginning of the text or after it, and before the limit
 before_limit : (from at limit : ℕ) (t : Text) → RisesFrom from t → EndsBefore at limit t → (from ≤ at) × (from < limit)
 before_limit from at limit (WordAt p w t) r e = ⊎_elim (λ same. (omega (arith, r.1, same), omega (arith, r.1, e.0 same))) (λ other. let h = before_limit p at limit t (r.0.1, omega (arith, r.0.0)) (e.1 other) in (omega (arith, r.1, h.0), omega (arith, r.1, h.1))) (cases_eq p at)
 before_limit from at limit (OpenAt p t) r e = ⊎_elim (λ same. (omega (arith, r.1, same), omega (arith, r.1, e.0 same))) (λ other. let h = before_limit p at limit t (r.0.1, omega (arith, r.0.0)) (e.1 other) in (omega (arith, r.1, h.0), omega (arith, r.1, h.1))) (cases_eq p at)
@@ -38,7 +38,7 @@ body_rises bytes = file_rises (second_line bytes) bytes (omega arith)
 abbrev line_size : List ℕ → ℕ
 line_size bytes = position_or_len (λ b. b == 10) bytes
 
--- nothing stands after a first line without a line feed
+-- nothing is after a first line without a line feed
 at_last : (bytes : List ℕ) (at n : ℕ) → second_line bytes ≡ length bytes → EndsBefore at n (body bytes) → ⊥
 unfolding text_from
 at_last bytes at n e ends =
@@ -145,7 +145,7 @@ module _ {K Y : Type 0} (other : K) (header : List ℕ) (r : Reading K Y) (Of : 
   first_spelled view on bytes (Err (Bad at kind)) h = spelled_first on bytes at kind h
   first_spelled view on bytes (Err NoMemory) h = tt
 
--- the same where one list of items spells each value, of which the file means something
+-- a whole file where one list of items spells each value, of which the file means something
 module _ {K X Y : Type 0} (other : K) (header : List ℕ) (r : Reading K X) (meaning : X → Y) (items : X → List Item) (is : X → Type 0) (law : Lawful r items is IsEnd) where
   abbrev file : List ℕ → Read K Y
   file bytes = file_at other header (mapped meaning r) bytes

@@ -124,7 +124,7 @@ module _ {K A B : Type 0} (r : Reading K A) (f : A → Reading K B) (ia : A → 
   pub lawful_then : Lawful (r >>= f) (λ b. ia (first b) ++ ib b) (λ b. pa (first b) × pb (first b) b) IsLeft
   lawful_then = record { takes = λ text b rest e. then_takes text (r text) b rest refl e; again = then_again }
 
--- the same said of what is as much
+-- a reading that is lawful by items and a form is so by equal items and an equivalent form
 pub lawful_as : {K X : Type 0} (r : Reading K X) (items items' : X → List Item) (is is' : X → Type 0) (IsLeft : Text → Type 0) → ((x : X) → is x → items x ≡ items' x) → ((x : X) → is x → is' x) → ((x : X) → is' x → is x) → Lawful r items is IsLeft → Lawful r items' is' IsLeft
 lawful_as r items items' is is' IsLeft same to fro l = record {
   takes = λ text x rest e. let h = l.takes text x rest e in (to x h.0, subst (λ (xs : List Item). Begins xs text rest) (same x h.0) h.1, h.2);

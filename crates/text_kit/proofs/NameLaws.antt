@@ -1,4 +1,4 @@
--- Which words are names: any, new ones, and those that stand for something.
+-- Which words are names: any, new ones, and those that name something.
 use Rattle.std.proofs.Common.{◌≡◌, ◌≢◌, ℕ, ◌<◌, ◌≤◌, Bool, true, false, cond, nat_lt, List, [], ◌∷◌, length, get_or, All, AllPairs, Option, None, Some, Ok, refl, sym, ap, subst, ◌∙◌, arith, position}
 use Rattle.net_core.proofs.Library.{position_or_len, position-Some, position_or_len_is}
 use Rattle.std.proofs.lemmas.Bool.{ltb-true, ltb-false, le-ltb, lt-ltb}
@@ -31,7 +31,7 @@ lawful_any_name other ended long = lawful_word other ended (any_name long) (λ n
 
 -- ---- new names
 
--- a name that may stand after earlier ones
+-- a name that may come after earlier ones
 abbrev pub IsNew : {X : Type 0} → (X → List ℕ) → ℕ → List X → List ℕ → Type 0
 IsNew name_of most sofar w = (length sofar < most) × (is_named name_of w sofar ≡ false) × (length w ≤ 255)
 

@@ -336,7 +336,7 @@ module _ {K X : Type 0} (ending : Ending) (fault : List X → Option K) (one : L
         record { count = f.count; here = f.here; again = λ u same. f.again (size u) u (omega arith) same };
   }
 
--- The law of first faults: a text that agrees with the refused one through the place of the fault is refused for the same.
+-- The law of first faults: a text that agrees with the refused one through the place of the fault is refused with this fault.
 pub same_fault : {K X : Type 0} (r : Reading K X) → IsOnline r → (t u : Text) (at : ℕ) (kind : K) → Rises t → r t ≡ Err (at, kind) → AgreeThrough at t u → r u ≡ Err (at, kind)
 same_fault r on t u at kind rises e agree =
     let f = on.failed t at kind e in

@@ -1,4 +1,4 @@
--- The lexemes of a file stand one after another.
+-- The lexemes of a file come one after another.
 use Rattle.std.proofs.Common.{◌≡◌, ℕ, zero, suc, ◌+◌, ◌≤◌, ◌==◌, true, false, cond, not, List, [], ◌∷◌, ◌++◌, length, drop, arith, length-drop}
 use Rattle.snd_tokens.specs.declared.token.Token.{Token}
 use Rattle.snd_tokens.specs.declared.token.TokenKind.TheVariants as kinds
@@ -6,7 +6,7 @@ use Rattle.snd_tokens.specs.Terms.{starts_token, run_length, extent, token_of, b
 use Rattle.text_kit.specs.Places.{place}
 use Rattle.text_kit.proofs.Alike.{Rises}
 
--- the lexemes rise, and the first stands at this place or after it
+-- the lexemes rise, and the first is at this place or after it
 abbrev pub RisesFrom : ℕ → Text → Type 0
 RisesFrom at text = Rises text × (at ≤ place text)
 

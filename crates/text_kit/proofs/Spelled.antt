@@ -12,7 +12,7 @@ pub record Spelled {K X : Type 0} (r : Reading K X) (Of : X → List Item → Ty
   pub takes : (text : Text) (x : X) (rest : Text) → r text ≡ Ok (x, rest) → (is : List Item) × Of x is × Begins is text rest × IsLeft rest
   pub again : (text : Text) (x : X) (rest : Text) (is : List Item) → Of x is → Begins is text rest → IsLeft rest → r text ≡ Ok (x, rest)
 
--- what is read from a text is in form and stands at its beginning, and what is in form and stands there is read
+-- what is read from a text is in form and spelled at its beginning, and what is in form and spelled there is read
 pub record Lawful {K X : Type 0} (r : Reading K X) (items : X → List Item) (is : X → Type 0) (IsLeft : Text → Type 0) : Type 0 where
   pub takes : (text : Text) (x : X) (rest : Text) → r text ≡ Ok (x, rest) → is x × Begins (items x) text rest × IsLeft rest
   pub again : (text : Text) (x : X) (rest : Text) → is x → Begins (items x) text rest → IsLeft rest → r text ≡ Ok (x, rest)
@@ -31,7 +31,7 @@ law_spelled r items is IsLeft law = record {
   again = λ text x rest form b left. law.again text x rest (items x) (form, refl) b left;
 }
 
--- the same said of what is as much
+-- a reading that is spelled by items is so by a spelling that says as much
 pub spelled_as : {K X : Type 0} (r : Reading K X) (Of Of' : X → List Item → Type 0) (IsLeft : Text → Type 0) → ((x : X) (is : List Item) → Of x is → Of' x is) → ((x : X) (is : List Item) → Of' x is → Of x is) → Spelled r Of IsLeft → Spelled r Of' IsLeft
 spelled_as r Of Of' IsLeft to fro law = record {
   takes = λ text x rest e. let h = law.takes text x rest e in (h.0, to x h.0 h.1, h.2, h.3);

@@ -15,7 +15,7 @@ abbrev pub ReadsAs : {K X Y : Type 0} → (X → Y) → Result X (Refusal K) →
 ReadsAs view (Ok x) rest read = read ≡ Ok (view x, rest)
 ReadsAs view (Err e) rest read = Fails e read
 
--- the same of a reading of which nothing is left
+-- a reading gives what was returned, as `view` shows it, and nothing is left, unless memory ran out
 abbrev pub ReadsAllAs : {K X Y : Type 0} → (X → Y) → Result X (Refusal K) → Read K Y → Type 0
 ReadsAllAs view (Ok x) read = (at : ℕ) × (read ≡ Ok (view x, EndAt at))
 ReadsAllAs view (Err e) read = Fails e read
@@ -43,7 +43,7 @@ abbrev pub IsAtEnd : Option ℕ → Text → Type 0
 IsAtEnd (Some at) text = text ≡ EndAt at
 IsAtEnd None text = past_ending TheEnd text ≡ None
 
--- a turn of a list: with more to come, reading goes on as it stood; else it gave all; at a fault it fails with it
+-- a turn of a list: with more to come, the reading of the whole is that of the rest; at the end it gave all; at a fault it fails with it
 abbrev pub TakesElement : {K X : Type 0} → Result Bool (Refusal K) → Read K X → Read K X → Read K X → Type 0
 TakesElement (Ok true) before after all = before ≡ after
 TakesElement (Ok false) before after all = before ≡ all

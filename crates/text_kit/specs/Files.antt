@@ -28,7 +28,7 @@ SpellsBy header Spells bytes x = (items : List Item) × Spells x items × IsFile
 abbrev pub file_at : {K X : Type 0} → K → List ℕ → Reading K X → List ℕ → Read K X
 file_at other header r bytes = if are_same (trimmed (first_line bytes)) header then r (body bytes) else Err (0, other)
 
--- A fault doesn't stand too early: no bytes that agree past the lexeme at its place are spelled right. It says nothing of the header and of the end.
+-- A fault isn't too early: no bytes that agree past the lexeme at its place are spelled right. It says nothing of the header and of the end.
 abbrev pub IsNotTooEarly : {K X : Type 0} → (List ℕ → X → Type 0) → List ℕ → Refusal K → Type 0
 IsNotTooEarly {X} Spells bytes (Bad at kind) =
     (other : List ℕ) (n : ℕ) → take n bytes ≡ take n other → EndsBefore at n (body bytes) → (x : X) → Spells other x → ⊥

@@ -1,4 +1,4 @@
--- what a text is made of: parentheses, and words that stand for something
+-- what a text is made of: parentheses, and words that mean something
 use Rattle.std.specs.Prelude.{◌≡◌, ℕ, List, [], ◌∷◌, ◌++◌, Ok}
 use Rattle.net_core.specs.declared.places.Places.{Places}
 use Rattle.snd_tokens.specs.Terms.{money_of, Text, WordAt, OpenAt, CloseAt, EndAt, whole_of}

@@ -11,7 +11,7 @@ long_name_fault long w = if nat_lt 255 (length w) then Some long else None
 abbrev pub any_name : {K : Type 0} → K → List ℕ → Result (List ℕ) K
 any_name long w = sound w (long_name_fault long w)
 
--- a new name may be too long; or an earlier one may be the same; or it may be one more than there may be
+-- a new name may be too long; or it may equal an earlier one; or there may already be as many as are allowed
 abbrev pub new_name_fault : {K : Type 0} → K → K → K → ℕ → ℕ → Bool → List ℕ → Option K
 new_name_fault long double limit most count taken w =
     if nat_lt 255 (length w) then Some long

@@ -26,7 +26,7 @@ word_of (Money p n) = money_word p n
 word_of Opening = 40 ∷ []
 word_of Closing = 41 ∷ []
 
--- a line ends after a closing parenthesis, and a space stands after all else
+-- a line ends after a closing parenthesis, and a space is after all else
 abbrev pub byte_after : Item → ℕ
 byte_after Closing = 10
 byte_after _ = 32
@@ -52,7 +52,7 @@ IsShortItem (Money p n) = n < 2 ^ 126
 IsShortItem Opening = Unit {0}
 IsShortItem Closing = Unit {0}
 
--- these items were written after what stood there, each of them short
+-- these items were written after the text that was there, each of them short
 pub record AddsItems (old : List ℕ) (items : List Item) (new : List ℕ) : Type 0 where
   pub text : new ≡ old ++ written items
   pub each : AllByRecursion IsShortItem items

@@ -111,7 +111,7 @@ pub fn ends(text: &Cursor) -> Option<u64>
     }
 }
 
-/// The fault of what is next, where nothing more may stand.
+/// The fault of what is next, where nothing more is allowed.
 pub fn over<K: Debug + Drop>(limit: K, ended: K, text: &mut Cursor) -> Refusal<K>
     ensures { Fails {Y = Unit {0}} result (over_at limit ended (left text.old)) }
 {
