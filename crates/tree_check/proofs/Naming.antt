@@ -66,7 +66,7 @@ module _ (tested : List Tested) where
       let raw : ℕ = value_gains links box cert.den terms - value_losses links box cert.den terms in
       bound_unique links raw cert.den raw cert.den a b first.certificate.positive first.certificate.positive refl first.rounded second.rounded
 
--- ---- the same by other names
+-- ---- certificates and nodes by other names of their lines
 
 module _ (a b : ℕ → Inequality → Type 0) (to : (i : ℕ) (line : Inequality) → a i line → b i line) where
   named_map : (ms : List Multiplier) (terms : List WeightedLine) → AreNamedBy a ms terms → AreNamedBy b ms terms

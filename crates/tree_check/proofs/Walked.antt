@@ -238,7 +238,7 @@ module _ (p : Case) (proof : Proof) where
         is.reached in
         omega arith
 
--- ---- the same by tests of a proof's own lines and cost
+-- ---- what was walked, by tests of a proof's own lines and cost
 
 module _ (t : Tests) (proof : Proof) (are : AreTestsOf proof t) (cost : proof.plan.cost ≡ t.cost) where
   pub walked_by_tests : (n : ℕ) (node : Node) (old new : List TreeBox) (held : Held) (found : Found) (o : Option Held) → slice_get proof.tree n ≡ Some node
