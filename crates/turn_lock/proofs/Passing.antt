@@ -17,7 +17,7 @@ use Rattle.turn_lock.proofs.Places.{within_few, within_from, prefix_all, both_be
 use Rattle.turn_lock.proofs.Turns.{idle_from_number, slot_set, slot_snoc}
 
 module _ {T I O : Type 0} (history : T → List I) (made : T → O) (origin : O) where
-  -- the own items of an idle pass stand in what it has seen
+  -- the own items of an idle pass are in what it has seen
   idle_placed : (v : View I O) → v.stage ≡ Idle → are_places 0 (reach v.seen v.stage) v.places ≡ true → are_places 0 (length v.seen) v.places ≡ true
   idle_placed v idle h = subst (λ (st : Stage I). are_places 0 (reach v.seen st) v.places ≡ true) idle h
 

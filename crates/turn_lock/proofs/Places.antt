@@ -1,4 +1,4 @@
--- Prefixes, ascending places, how often a place stands among them, and numbers in a range.
+-- Prefixes, ascending places, how often a place is among them, and numbers in a range.
 use Rattle.std.proofs.Common.{◌≡◌, ℕ, zero, suc, ◌+◌, ◌<◌, ◌≤◌, List, [], ◌∷◌, ◌++◌, length, eqb, ltb, leb, true, ◌&&◌, ⊎_elim, refl, sym, ap, ◌∙◌, arith, append_assoc, length-append}
 use Rattle.std.proofs.lemmas.List.{append-nil}
 use Rattle.net_core.proofs.Library.{nil_from_length, sum_by-cons, and_parts, and_from, and_left, and_right, cases_eq, cases_lt, lt-leb, cond_both, range_with_len}

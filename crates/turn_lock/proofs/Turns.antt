@@ -36,7 +36,7 @@ module _ {I : Type 0} where
   turn_ticket log served seen (Holding t) know = omega (arith, one_if t served know.0)
   turn_ticket log served seen (Joined ys) know = omega arith
 
-  -- a pass whose turn isn't out knows the same of a longer history and a later ticket
+  -- what a pass whose turn isn't out knows also holds of a longer history and a later ticket
   later_stage : (log new : List I) (served next : ℕ) (seen : List I) (st : Stage I) → turns_of st ≡ 0 → ((ys : List I) → IsPrefix ys log → IsPrefix ys new) → KnowsStage log served seen st → KnowsStage new next seen st
   later_stage log new served next seen Idle off longer know = tt
   later_stage log new served next seen (Waiting t) off longer know = tt
@@ -125,7 +125,7 @@ module _ {T I O : Type 0} (history : T → List I) (made : T → O) (origin : O)
         ⊎_elim (λ a. inl (same ∙ a.0, a.1)) (λ b. inr (same ∙ b.0, b.1)) k.slot;
   }
 
-  -- the own items of a pass that waits or holds stand in any history that begins with what it has seen
+  -- the own items of a pass that waits or holds are in any history that begins with what it has seen
   placed_later : (log : List I) (v : View I O) (st : Stage I) (new : List I) → v.stage ≡ st → reach v.seen st ≡ length v.seen → IsPrefix v.seen new → are_places 0 (reach v.seen v.stage) v.places ≡ true → are_places 0 (length new) v.places ≡ true
   placed_later log v st new is same b h = wider 0 0 (reach v.seen v.stage) (length new) v.places (omega arith) (omega (arith, ap {B = ℕ} (reach v.seen) is, same, prefix_le v.seen new b)) h
 
@@ -299,7 +299,7 @@ module _ {T I O : Type 0} (history : T → List I) (made : T → O) (origin : O)
         (refl, refl, placed),
       )
 
-  -- the same for a hand that is known by an equation
+  -- a commit, for a hand that is known by an equation
   pub commit_at : (slots id t : ℕ) (v : View I O) (hand : List (ℕ × Option T)) (x : T) (item : I) → hand ≡ (0, Some x) ∷ [] → v.stage ≡ Holding t → history x ≡ v.seen ++ item ∷ []
       → Allows (Kept history made origin) slots id (v, hand) 2 (λ n. (n + 1) % 2 ^ 64) (Commits history (step slots 2 1 0 none) (v, hand))
   commit_at slots id t v hand x item e holds more = subst (λ (cs : List (ℕ × Option T)). Allows (Kept history made origin) slots id (v, cs) 2 (λ n. (n + 1) % 2 ^ 64) (Commits history (step slots 2 1 0 none) (v, cs))) (sym e)

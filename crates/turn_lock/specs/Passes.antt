@@ -11,7 +11,7 @@ pub record Seen (I : Type 0) : Type 0 where
   pub history : List I
   pub own : List I
 
--- the items that stand at these places of a history
+-- the items at these places of a history
 abbrev pub items_at : {I : Type 0} → List I → List ℕ → List I
 items_at history places = flat_map (λ p. take 1 (drop p history)) places
 

@@ -1,6 +1,6 @@
 ghost use Rattle.std.specs.Prelude.{◌≡◌, ◌<◌, ◌^◌, List, length};
 
-/// A value that stands for a list of items, its history, and that was made with some data, its origin.
+/// A value with a history, which is a list of items, and an origin, which is data that it was made with.
 pub trait Chronicle {
     /// The items of the history.
     type Item;
@@ -11,7 +11,7 @@ pub trait Chronicle {
 
     ghost origin: { Self → Self.Origin };
 
-    /// How many items stand in the history.
+    /// The number of items in the history.
     fn count(&self) -> u64
         ensures length { result ≡ length (history self.now) }
         ensures below { result < 2 ^ 32 };

@@ -1,4 +1,4 @@
-//! Callers that take turns at one value, in the order of their tickets. The value stands for a history that only grows.
+//! Callers that take turns at one value, in the order of their tickets. The value has a history that only grows.
 #![tactic(auto)]
 
 mod chronicle;

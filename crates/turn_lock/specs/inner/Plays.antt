@@ -14,7 +14,7 @@ also_seen (Holding k) = []
 also_seen (Joined ys) = ys
 
 module _ {I O : Type 0} where
-  -- the own items stand in the history that the pass has seen
+  -- the own items are in the history that the pass has seen
   abbrev pub OwnItemsStand : View I O → Type 0
   OwnItemsStand v = are_places 0 (length v.seen) v.places ≡ true
 
@@ -55,7 +55,7 @@ module _ {T I O : Type 0} where
       × IsPrefix m.0.seen n.0.seen × IsPrefix (also_seen m.0.stage) n.0.seen × OwnItemsStand n.0
 
   module _ (history : T → List I) where
-    -- one item more stands in the history, and it is the pass's own
+    -- the history has one item more, and it is the pass's own
     abbrev pub Commits : Step (Option T) → Hand T I O → ℕ → Hand T I O → Type 0
     Commits s m found n = (x : T) (cs : List (ℕ × Option T)) → m.1 ≡ (0, Some x) ∷ cs
         → (n.0 ≡ record m.0 { seen = history x; places = m.0.places ++ length m.0.seen ∷ [] }) × (n.1 ≡ m.1)

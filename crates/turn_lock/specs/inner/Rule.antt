@@ -16,7 +16,7 @@ one_where test = cond test 1 0
 abbrev pub one_within : ℕ → ℕ → ℕ → ℕ
 one_within low high k = one_where (nat_le low k && nat_lt k high)
 
--- how often p stands among the places
+-- how often p is among the places
 abbrev pub times_at : ℕ → List ℕ → ℕ
 times_at p ps = count_by (λ q. q == p) ps
 
