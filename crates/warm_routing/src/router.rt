@@ -287,7 +287,7 @@ impl WarmRouter {
         self.basis.rows.len() > 0
     }
 
-    /// A router that begins with the same basis. It takes time and memory in the basis.
+    /// A router that begins with a copy of this basis. It takes time and memory in the basis.
     pub fn copy(&self) -> Result<WarmRouter, NoMemory> {
         Ok(WarmRouter {
             alloc: self.alloc,

@@ -7,7 +7,7 @@ use flow_mending::reach::{Arc, FAR, Reach};
 use net_core::{List, NoMemory, NodeId, Path, RouteTask};
 use std::alloc::Global;
 
-/// So many paths wait at most.
+/// The most paths that wait.
 const MOST: usize = 64;
 
 /// A path of a demand that may enter.
