@@ -16,7 +16,7 @@ letters first (suc n) = letters first n ++ ((first + n) ∷ []) ∷ []
 abbrev pub ends_of : Link → ℕ × ℕ × ℕ
 ends_of l = (l.a.0, l.b.0, l.fixed)
 
--- the same of a row
+-- the ends of a row of a table, by their places among the nodes, and its pre-installed capacity
 abbrev pub ends_of_row : {M : Type 0} → ℕ × ℕ × ℕ × M → ℕ × ℕ × ℕ
 ends_of_row r = (r.0, r.1, r.2)
 
@@ -34,7 +34,7 @@ RefusesNetwork nodes links (Network fault) = network_fault nodes links ≡ Some 
 RefusesNetwork nodes links NoMemory = ⊤
 RefusesNetwork nodes links _ = ⊥
 
--- the same of states in a network of so many links
+-- what a call answers in place of listed states, in a network with this number of links: the fault that they have, or that it ran out of memory
 abbrev pub RefusesStates : ℕ → List Listed → WorkedFault → Type 0
 RefusesStates links listed (States fault) = states_fault links listed ≡ Some fault
 RefusesStates links listed NoMemory = ⊤
