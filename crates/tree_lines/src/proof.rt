@@ -43,8 +43,9 @@ fn put_verdict(text: &mut Bytes, places: Places, verdict: &Verdict) -> Result<()
 
 /// Puts the comment lines of a proof last: of each cut, as `# box-cut 0 1 12000 1 0 1` for the cut of index 0 in state 1 with the right side
 /// 12000 and the lengths 1 0 1; of each further line, as `# line 1 10000 1 0` for the line of index 1, once the cut of index 0 over 10000,
-/// or `# table 2 0 failing 1`, a table line over that cut with one weight; of each node in preorder, as `# split AC 0 1`, `# closed 2 1 0` for the half of that cut, `# empty 0`,
-/// `# spent 1` or `# stuck 1 wide ..`; and of the verdict, `# cheapest` or `# above 25.000`, whose money has these places.
+/// or `# table 2 0 failing 1`, a table line over that cut with one weight; of each node in preorder, as `# split AC 0 1`, `# closed 2 1 0` for
+/// the half of that cut, `# empty 0`, `# spent 1` or `# stuck 1 wide ..`; and of the verdict, `# cheapest` or `# above 25.000`, whose money
+/// has these places.
 ///
 /// It takes time in the number of the bytes that it puts, and asks for memory only where the text has no room left; where memory runs out,
 /// the text may end in part of the lines.
