@@ -63,7 +63,7 @@ fn end_turn<'d, 'a>(turn: Turn<'d, Board<'a>>, board: Board<'a>, grown: bool) ->
 impl<'d, 'a> Caller<'d, 'a> {
     ghost use Rattle.board_desk.specs.Turns.{AdmitsInTurn, AreAtOneDesk, EditsInTurn, IsAtDesk, IsSameCaller, LooksInTurn, board_made, caller_places, caller_seen, caller_units};
 
-    /// The caller of this number, with a pass of the desk.
+    /// The caller of this number, with a pass of the desk. It takes constant time and no memory.
     pub fn new(number: u32, desk: &'d Desk<Board<'a>>, pass: Pass<Board<'a>>) -> Caller<'d, 'a>
         requires { IsPassOf desk.now pass }
         ensures own { IsAtDesk result }
@@ -78,14 +78,14 @@ impl<'d, 'a> Caller<'d, 'a> {
         }
     }
 
-    /// The caller's number.
+    /// The caller's number. It takes constant time.
     pub fn number(&self) -> u32
         ensures { result ≡ self.now.number }
     {
         self.number
     }
 
-    /// Gives the caller another number.
+    /// Gives the caller another number. It takes constant time.
     pub fn set_number(&mut self, number: u32)
         ensures number { self.new.number ≡ number }
         ensures desk { self.new.desk.now ≡ self.old.desk.now }
@@ -95,7 +95,7 @@ impl<'d, 'a> Caller<'d, 'a> {
     }
 
     /// The caller, moved out, so that it may be handed on by value and put back. What is left keeps its number and
-    /// its desk, and has no pass.
+    /// its desk, and has no pass. It takes constant time and no memory.
     pub fn take(&mut self) -> Caller<'d, 'a>
         ensures moved { result ≡ self.old }
         ensures number { self.new.number ≡ self.old.number }
@@ -109,7 +109,8 @@ impl<'d, 'a> Caller<'d, 'a> {
         }
     }
 
-    /// Waits for a turn, makes an edit in it, whose need is in units, and commits it with its reply. It may never return.
+    /// Waits for a turn, makes an edit in it, whose need is in units, and commits it with its reply. It may never return. In its turn it takes the
+    /// time and the memory of `Board::edit`.
     pub fn edit<R: Wait>(&mut self, rt: &R, edit: Edit) -> EditAnswer
         requires own { IsAtDesk self.old }
         requires need { edit_need edit < 2 ^ 40 }
@@ -125,7 +126,8 @@ impl<'d, 'a> Caller<'d, 'a> {
         answer
     }
 
-    /// Waits for a turn, and puts a cut of the desk's network and states into the pool in it, as `Board::admit` does. It may never return.
+    /// Waits for a turn, and puts a cut of the desk's network and states into the pool in it, as `Board::admit` does. It may never return. In its
+    /// turn it takes the time and the memory of that call.
     pub fn admit<R: Wait>(&mut self, rt: &R, cut: Cut) -> AdmitAnswer
         requires own { IsAtDesk self.old }
         requires cut { IsCutOf (graph (board_made self.old).net.now (board_made self.old).states.now cut.state.0) cut }
@@ -141,7 +143,8 @@ impl<'d, 'a> Caller<'d, 'a> {
         answer
     }
 
-    /// Waits for a turn, and takes a snapshot in it, which commits nothing. It may never return.
+    /// Waits for a turn, and takes a snapshot in it, which commits nothing. It may never return. In its turn it takes the time and the memory of
+    /// `Board::snapshot`.
     pub fn snapshot<R: Wait>(&mut self, rt: &R) -> Result<Snapshot, NoMemory>
         requires { IsAtDesk self.old }
         ensures same { IsSameCaller self.old self.new }
@@ -156,7 +159,8 @@ impl<'d, 'a> Caller<'d, 'a> {
         snapshot
     }
 
-    /// Two callers for one. The second has this number, half of the units, rounded down, and no entries of its own.
+    /// Two callers for one. The second has this number, half of the units, rounded down, and no entries of its own. It takes constant time and no
+    /// memory.
     pub fn split(self, number: u32) -> (Caller<'d, 'a>, Caller<'d, 'a>)
         requires own { IsAtDesk self }
         requires units { 2 ≤ caller_units self }
@@ -188,7 +192,7 @@ impl<'d, 'a> Caller<'d, 'a> {
         )
     }
 
-    /// One caller for two. It keeps its number, and has seen the longer of the two histories.
+    /// One caller for two. It keeps its number, and has seen the longer of the two histories. It takes constant time and no memory.
     pub fn meet(self, other: Caller<'d, 'a>) -> Caller<'d, 'a>
         requires { AreAtOneDesk self other }
         ensures own { AreAtOneDesk self.entry result }
@@ -212,7 +216,7 @@ impl<'d, 'a> Caller<'d, 'a> {
         }
     }
 
-    /// The caller's pass, with which the desk may be closed.
+    /// The caller's pass, with which the desk may be closed. It takes constant time and no memory.
     pub fn into_pass(self) -> Pass<Board<'a>>
         requires { IsAtDesk self }
         ensures { self.entry.pass ≡ Some result }
