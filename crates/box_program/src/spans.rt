@@ -5,7 +5,7 @@ ghost use Rattle.line_check.specs.Inequalities.{module_number};
 use net_core::Link;
 use tree_check::Span;
 
-/// How many modules a link of the network has.
+/// How many modules a link of the network has. It takes constant time.
 pub fn modules_of(links: &[Link], e: usize) -> usize
     requires { e < length links.now }
     ensures { result ≡ module_number links.now e }
@@ -22,7 +22,7 @@ pub(crate) fn cost_at(links: &[Link], e: usize, m: usize) -> u64 {
     }
 }
 
-/// Whether a span has one count alone.
+/// Whether a span has one count alone. It takes constant time.
 pub fn is_fixed(span: &Span) -> bool
     ensures { IsTrue result ↔ IsFixedSpan span.now }
 {
