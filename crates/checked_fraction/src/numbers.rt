@@ -3,7 +3,7 @@ ghost use Rattle.checked_fraction.specs.Rows.{num, IsNarrow};
 
 use crate::row::Row;
 
-/// Whether a number is below 2^62 in absolute value.
+/// Whether a number is below 2^62 in absolute value. It takes constant time.
 pub fn is_narrow(a: &i128) -> bool
     ensures narrow { IsTrue result ↔ IsNarrow a.now }
     ensures wide { result ≡ false → 2 ^ 62 ≤ unsigned_abs a.now }
@@ -11,7 +11,7 @@ pub fn is_narrow(a: &i128) -> bool
     a.unsigned_abs() < 1 << 62
 }
 
-/// A number below 2^62 in absolute value, in one word.
+/// A number below 2^62 in absolute value, in one word. It takes constant time.
 pub fn narrowed(a: &i128) -> i64
     requires { IsNarrow a.now }
     ensures value { result ≡ a.now }
@@ -20,7 +20,7 @@ pub fn narrowed(a: &i128) -> i64
     *a as i64
 }
 
-/// The denominator of a row, as a number without a sign.
+/// The denominator of a row, as a number without a sign. It takes constant time.
 pub fn size_of_den(row: &Row) -> u64
     ensures value { result ≡ unsigned_abs row.now.den }
     ensures some { 0 < result }

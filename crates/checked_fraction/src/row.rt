@@ -54,7 +54,7 @@ impl Row {
         self.nums.items()
     }
 
-    /// The denominator.
+    /// The denominator. It takes constant time.
     pub fn den(&self) -> i64
         ensures { result ≡ self.now.den }
     {

@@ -16,7 +16,7 @@ fn widen(a: i64) -> i128
     a as i128
 }
 
-/// The product of narrow numbers, each below 2^62 in absolute value.
+/// The product of narrow numbers, each below 2^62 in absolute value. It takes constant time.
 pub fn product(a: &i64, b: &i64) -> i128
     requires a { IsNarrow a.now }
     requires b { IsNarrow b.now }
