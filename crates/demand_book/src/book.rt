@@ -49,14 +49,14 @@ impl Book {
         })
     }
 
-    /// The number of accepted edits; it stays at 2^64 - 1.
+    /// The number of accepted edits; it stays at 2^64 - 1. It takes constant time.
     pub fn version(&self) -> u64
         ensures { result ≡ self.now.version }
     {
         self.version
     }
 
-    /// All needs together, in units of the network.
+    /// All needs together, in units of the network. It takes constant time.
     pub fn total(&self) -> u64
         ensures { result ≡ total_need self.now.demands }
     {
