@@ -170,7 +170,8 @@ fn is_routed(alloc: Global, task: &RouteTask, routing: &Routing) -> Result<bool,
     )
 }
 
-/// The routing, if it carries the demands within the capacities, in lowest terms and with few flows.
+/// The routing, if it carries the demands within the capacities, in lowest terms and with few flows. It takes time in the links of the paths, and
+/// memory for a number of each link and each demand and a mark of each node.
 pub fn if_routed(
     alloc: Global,
     task: &RouteTask,

@@ -33,7 +33,7 @@ fn divided(den: u64, by: u128) -> u64 {
     }
 }
 
-/// Flows over a denominator, in lowest terms.
+/// Flows over a denominator, in lowest terms. It takes a greatest common divisor for each flow, and no memory.
 pub fn lowest(den: u64, mut flows: List<Flow>) -> Routing {
     if den > 1 {
         let common = common_divisor(den, flows.items());

@@ -11,7 +11,7 @@ use std::alloc::Global;
 /// Capacities and needs past this count as this much.
 const MOST: u128 = 1 << 62;
 
-/// A capacity or a need as a number with a sign; past 2^62 it is 2^62.
+/// A capacity or a need as a number with a sign; past 2^62 it is 2^62. It takes constant time.
 pub fn bounded(number: u128) -> i128 {
     number.min(MOST) as i128
 }
