@@ -14,14 +14,14 @@ pub(crate) fn links_of(task: &RouteTask) -> u32
     task.graph.net.links().len() as u32
 }
 
-/// How many rows the routing program has: one for each link, and one for each demand.
+/// How many rows the routing program has: one for each link, and one for each demand. It takes constant time.
 pub fn rows_of(task: &RouteTask) -> u32
     ensures { result ≡ route_rows (graph_of task.now.graph) task.now.demands.now }
 {
     (task.graph.net.links().len() + task.demands.len()) as u32
 }
 
-/// The name of a row's slack.
+/// The name of a row's slack. It takes constant time.
 pub fn slack_of(task: &RouteTask, row: u32) -> RouteColumn
     ensures { result ≡ route_slack (graph_of task.now.graph) row }
 {
@@ -40,7 +40,7 @@ fn need_over(d: &Demand, scale: u64) -> u128
     d.need as u128 * scale as u128
 }
 
-/// The bound of a row: the number of a link, or what a demand needs over the scale.
+/// The bound of a row: the number of a link, or what a demand needs over the scale. It takes constant time.
 pub fn bound_of(task: &RouteTask, row: u32) -> u128
     requires { row < route_rows (graph_of task.now.graph) task.now.demands.now }
     ensures { route_bound (graph_of task.now.graph) task.now.demands.now task.now.caps.now row ≡ pos result }
