@@ -9,7 +9,7 @@ use crate::sums::{column_product, gain_of, path_of, path_sum, widen};
 use checked_fraction::{Row, is_narrow, narrowed, product};
 use net_core::{LinkId, List, RouteColumn};
 
-/// The key of a demand.
+/// The key of a demand. It takes constant time, and copies nothing.
 pub fn key_of<'a>(
     names: &'a [RouteColumn],
     places: &[u32],
@@ -22,7 +22,7 @@ pub fn key_of<'a>(
     &names[places[links + demand as usize] as usize]
 }
 
-/// The links of a demand's key, and none where there is no demand.
+/// The links of a demand's key, and none where there is no demand. It takes constant time, and copies nothing.
 pub fn key_path<'a>(
     names: &'a [RouteColumn],
     places: &[u32],
@@ -90,7 +90,8 @@ fn dual_of(prices: &Row, key: &RouteColumn) -> i128
     less(&gain, &path_sum(prices.nums(), path_of(key)))
 }
 
-/// The price of a demand's row, where it is narrow: what its key gains, over the denominator, less what the links of its key cost.
+/// The price of a demand's row, where it is narrow: what its key gains, over the denominator, less what the links of its key cost. It takes time in
+/// the links of the key, and no memory.
 pub fn next_dual(prices: &Row, key: &RouteColumn) -> Option<i64>
     requires key { IsShortPath (length prices.now.nums) (links_in key.now) }
     ensures { MatchOption result (2 ^ 62 ≤ unsigned_abs (key_dual (length prices.now.nums) (num prices.now.nums) prices.now.den key.now))

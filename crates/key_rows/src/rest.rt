@@ -51,7 +51,7 @@ fn negated(a: &i64) -> i64
     -*a
 }
 
-/// Takes a number away at each link of a path, in what is left of the links.
+/// Takes a number away at each link of a path, in what is left of the links. It takes time in the links of the path, and no memory.
 pub fn shift_back_list(rest: &mut List<i128>, path: &[LinkId], by: &i64)
     requires path { IsShortPath (length rest.old) path.now }
     requires by { IsNarrow by.now }

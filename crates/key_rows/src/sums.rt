@@ -11,7 +11,7 @@ struct Total {
     value: i128,
 }
 
-/// A number in 128 bits.
+/// A number in 128 bits. It takes constant time.
 pub fn widen(a: &i64) -> i128
     ensures { result ≡ a.now }
 {
@@ -35,7 +35,7 @@ impl Total {
     }
 }
 
-/// The sum of a row's numbers at the links of a path.
+/// The sum of a row's numbers at the links of a path. It takes time in the links of the path, and no memory.
 pub fn path_sum(nums: &[i64], path: &[LinkId]) -> i128
     requires path { IsShortPath (length nums.now) path.now }
     requires narrow { (k : ℕ) → IsNarrow (num nums.now k) }
@@ -59,7 +59,7 @@ fn difference(a: &i128, b: &i128) -> i128
     *a - *b
 }
 
-/// The links that a column runs over, where it is a path.
+/// The links that a column runs over, where it is a path. It takes constant time, and copies nothing.
 pub fn path_of(name: &RouteColumn) -> &[LinkId]
     ensures { result.now ≡ links_in name.now }
 {
@@ -70,7 +70,7 @@ pub fn path_of(name: &RouteColumn) -> &[LinkId]
     }
 }
 
-/// The demand of a column, if it has one.
+/// The demand of a column, if it has one. It takes constant time.
 pub fn demand_of(name: &RouteColumn) -> Option<u32>
     ensures { result ≡ demand_in name.now }
 {
@@ -116,7 +116,8 @@ pub(crate) fn name_sum(nums: &[i64], name: &RouteColumn) -> i128
     }
 }
 
-/// A row's product with what is left of a column when the key of its demand, along this path, is taken away.
+/// A row's product with what is left of a column when the key of its demand, along this path, is taken away. It takes time in the links of both
+/// paths, and no memory.
 pub fn column_product(nums: &[i64], name: &RouteColumn, key: &[LinkId]) -> i128
     requires name { IsNameWithin (length nums.now) name.now }
     requires key { IsShortPath (length nums.now) key.now }

@@ -19,7 +19,8 @@ fn own_den_of(row: &Row, owner: u32, demand: u32) -> u64
     if owner == demand { size_of_den(row) } else { 1 }
 }
 
-/// The least common multiple of one so far and a denominator, where it is below 2^62.
+/// The least common multiple of one so far and a denominator, where it is below 2^62. It takes the time of one greatest common divisor, and no
+/// memory.
 pub fn joined_common(all: u64, den: u64) -> Option<u64>
     requires all { (0 < all) × (all < 2 ^ 62) }
     requires den { (0 < den) × (den < 2 ^ 62) }
