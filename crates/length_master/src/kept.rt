@@ -113,7 +113,7 @@ fn best_from(
 }
 
 impl KeptMaster {
-    /// Nothing is kept yet.
+    /// Nothing is kept yet. It asks for no memory.
     pub fn new() -> KeptMaster {
         KeptMaster { basis: None }
     }
