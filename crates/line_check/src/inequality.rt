@@ -60,7 +60,7 @@ fn number_in(numbers: &[u128], m: usize) -> u128
     if m < numbers.len() { numbers[m] } else { 0 }
 }
 
-/// The coefficient of a module; 0 where there is no such module.
+/// The coefficient of a module; 0 where there is no such module. It takes constant time.
 pub fn coefficient(line: &Inequality, e: usize, m: usize) -> u128
     ensures { result ≡ entry line.now.coefs e m }
 {

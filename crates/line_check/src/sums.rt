@@ -6,14 +6,14 @@ use crate::inequality::{Inequality, coefficient};
 use crate::tested::Tested;
 use master_bound::Multiplier;
 
-/// A product that 128 bits don't hold is the greatest number.
+/// A product that 128 bits don't hold is the greatest number. It takes constant time.
 pub fn times(num: u64, n: u128) -> u128
     ensures { result ≡ min (num * n) (2 ^ 128 - 1) }
 {
     (num as u128).saturating_mul(n)
 }
 
-/// The line of an index.
+/// The line of an index. It takes constant time.
 pub fn line_in(tested: &[Tested], i: u32) -> &Inequality
     requires { i < length tested.now }
     ensures { result.now ≡ (test_at tested.now i).line }

@@ -57,7 +57,7 @@ pub fn tested_cut(alloc: Global, instance: &Instance, cut: &CutLine) -> Result<T
     })
 }
 
-/// Whether an index is that of a line that holds.
+/// Whether an index is that of a line that holds. It takes constant time.
 pub fn is_sound(tested: &[Tested], i: u32) -> bool
     ensures { IsTrue result ↔ IsSoundAt tested.now i }
 {
@@ -67,7 +67,7 @@ pub fn is_sound(tested: &[Tested], i: u32) -> bool
     tested[i as usize].sound
 }
 
-/// Whether all indices are those of lines that hold.
+/// Whether all indices are those of lines that hold. It takes time in the number of indices.
 pub fn are_sound(tested: &[Tested], lines: &[Multiplier]) -> bool
     ensures { IsTrue result ↔ All (λ m. IsSoundAt tested.now m.cut) lines.now }
 {
