@@ -122,14 +122,14 @@ impl Cut {
         }))
     }
 
-    /// The state.
+    /// The state. It takes constant time.
     pub fn state(&self) -> StateId
         ensures { result ≡ self.now.state }
     {
         self.state
     }
 
-    /// The lengths, one per link.
+    /// The lengths, one per link. They are lent, in constant time.
     pub fn lengths(&self) -> &Lengths
         ensures { result.now ≡ self.now.lengths }
     {
