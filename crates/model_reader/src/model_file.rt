@@ -27,7 +27,7 @@ const KEYS: [ModelKey; 8] = [
     ModelKey::Survivability,
 ];
 
-/// The word of a key.
+/// The word of a key. It takes constant time.
 pub fn key_word(key: ModelKey) -> &'static [u8]
     ensures { result.now ≡ key_word key }
 {
