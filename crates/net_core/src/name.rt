@@ -100,7 +100,7 @@ impl Name {
         })
     }
 
-    /// The bytes of the name. They stay where they are.
+    /// The bytes of the name. They stay where they are. It takes constant time.
     pub fn bytes(&self) -> &[u8]
         ensures value { result.now ≡ self.now }
         ensures valid { IsName self.now }

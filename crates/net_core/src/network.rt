@@ -290,21 +290,21 @@ impl Network {
         }
     }
 
-    /// The names of the nodes, without a copy.
+    /// The names of the nodes, without a copy. It takes constant time.
     pub fn nodes(&self) -> &List<Name>
         ensures { result.now ≡ self.now.nodes }
     {
         &self.nodes
     }
 
-    /// The links, without a copy.
+    /// The links, without a copy. It takes constant time.
     pub fn links(&self) -> &List<Link>
         ensures { result.now ≡ self.now.links }
     {
         &self.links
     }
 
-    /// Which further costs the file gives and no plan counts.
+    /// Which further costs the file gives and no plan counts. It takes constant time.
     pub fn notes(&self) -> Notes
         ensures { result ≡ self.now.notes }
     {

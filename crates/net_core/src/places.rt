@@ -12,7 +12,7 @@ pub enum Places {
 }
 
 impl Places {
-    /// The digits after the point: 3 or 6.
+    /// The digits after the point: 3 or 6. It takes constant time.
     pub fn digits(self) -> usize
         ensures { result ≡ digits_after_point self }
     {

@@ -134,7 +134,7 @@ impl States {
         }
     }
 
-    /// The list, without a copy.
+    /// The list, without a copy. It takes constant time.
     pub fn listed(&self) -> &List<Listed>
         ensures { result.now ≡ self.now.listed }
     {
