@@ -95,7 +95,8 @@ impl<'a> Element for FlowList<'a> {
     }
 }
 
-/// Takes the name of a state, `none` for state 0; another one is `unknown-name` or `limit-name`.
+/// Takes the name of a state, `none` for state 0; another one is `unknown-name` or `limit-name`. It takes time in the bytes up to the name's end, and
+/// no memory.
 pub fn state_name(states: &States, state: u32, text: &mut Cursor) -> Result<(), ReportRefusal>
     requires { state ≤ length states.now.listed }
     ensures { ReadsAs (λ _. tt) result (left text.new) (this_name_at (state_name states.now.listed state) (left text.old)) }
