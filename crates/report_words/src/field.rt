@@ -8,7 +8,7 @@ use crate::words::{keyword, number};
 use snd_tokens::Cursor;
 
 /// Takes the word that says what comes after it, and a whole number from `least`, below `limit`.
-/// Another word is `token`, and the number has the faults of `whole_within`.
+/// Another word is `token`, and the number has the faults of `whole_within`. It takes time in the bytes up to the number's end, and no memory.
 #[tactic(auto, unfolding(crate::specs::ReportFields::field_at))]
 pub fn field(
     wanted: &[u8],

@@ -16,7 +16,7 @@ const UNIT_LIMIT: u128 = 1 << 62;
 
 const CAPACITY_LIMIT: u128 = 1 << 126;
 
-/// The fault of a list that has another number of elements: `limit`.
+/// The fault of a list that has another number of elements: `limit`. It takes constant time.
 pub fn of_length<X>(count: usize, all: &[X]) -> Option<ReportKind>
     ensures { result ≡ of_length count ReportKind.Limit all.now }
 {
