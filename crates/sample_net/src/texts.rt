@@ -126,7 +126,7 @@ fn has_setup_cost(links: &[Link]) -> bool
 }
 
 /// Whether a text can give the network's notes: none of the cost of pre-installed capacity or of routing, since a network doesn't keep
-/// these costs, and that of setup cost exactly where a link has one.
+/// these costs, and that of setup cost exactly where a link has one. It takes time in the number of links, and no memory.
 pub fn has_writable_notes(net: &Network) -> bool
     ensures { IsTrue result ↔ HasWritableNotes net.now }
 {
