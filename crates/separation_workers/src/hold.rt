@@ -17,12 +17,12 @@ pub struct Hold {
 }
 
 impl Hold {
-    /// A hold on nobody.
+    /// A hold on nobody. It takes constant time and no memory.
     pub fn open() -> Hold {
         Hold::of(None)
     }
 
-    /// A hold on a state until the other one is solved.
+    /// A hold on a state until the other one is solved. It takes constant time and no memory.
     pub fn until(state: u32, other: u32) -> Hold {
         Hold::of(Some((state, other)))
     }
@@ -36,12 +36,12 @@ impl Hold {
         }
     }
 
-    /// Whether the other state was solved while the worker of the first one waited for it.
+    /// Whether the other state was solved while the worker of the first one waited for it. It takes constant time.
     pub fn was_kept(&self) -> bool {
         self.kept.load(Ordering::SeqCst) != 0
     }
 
-    /// How many states workers have solved.
+    /// How many states workers have solved. It takes constant time.
     pub fn solved(&self) -> u64 {
         self.solved.load(Ordering::SeqCst)
     }

@@ -64,7 +64,8 @@ pub struct Workers<'r, 'd, 'a, R, G> {
 
 impl<'r, 'd, 'a, R, G> Workers<'r, 'd, 'a, R, G> {
     /// A separator for the caller, with a board of hints that has as many lengths as the network has links. What the separator has seen
-    /// and committed goes on from what the caller has. A hold may keep one of its workers waiting in a round.
+    /// and committed goes on from what the caller has. A hold may keep one of its workers waiting in a round. It takes constant time, and asks for no
+    /// memory.
     pub fn new(
         rt: &'r R,
         alloc: Global,
@@ -91,7 +92,7 @@ impl<'r, 'd, 'a, R, G> Workers<'r, 'd, 'a, R, G> {
         }
     }
 
-    /// The caller, as the separator leaves it.
+    /// The caller, as the separator leaves it. It takes constant time.
     pub fn into_caller(self) -> Caller<'d, 'a>
         ensures own { IsAtDesk result }
         ensures seen { HasSeenHistory result }
