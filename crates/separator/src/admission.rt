@@ -24,7 +24,7 @@ pub fn line_of(cut: &Cut, demands: &Demands) -> Result<CutLine, NoMemory>
     })
 }
 
-/// The place of a cut in the pool after a board's answer to it.
+/// The place of a cut in the pool after a board's answer to it. It takes constant time.
 pub fn spot_after(answer: AdmitAnswer) -> Result<Spot, NoMemory>
     ensures { IsSpotAfter answer result }
 {

@@ -18,7 +18,7 @@ pub struct KnownState {
 }
 
 impl KnownState {
-    /// Nothing yet.
+    /// Nothing yet. It asks for no memory.
     pub fn new(alloc: Global) -> KnownState {
         KnownState {
             columns: List::new(alloc),
@@ -46,7 +46,7 @@ impl KnownState {
         self.warm.take_nearer(other.warm, &task)
     }
 
-    /// Whether there is a basis that a question has left.
+    /// Whether there is a basis that a question has left. It takes constant time.
     pub fn has_basis(&self) -> bool {
         self.warm.has_basis()
     }

@@ -42,7 +42,7 @@ pub struct OneByOne<'a> {
 impl<'a> OneByOne<'a> {
     ghost use Rattle.separator.specs.OneByOnes.{board_seen};
 
-    /// A separator over a board. Its own entries are those that the board gets from now on.
+    /// A separator over a board. Its own entries are those that the board gets from now on. It takes constant time, and asks for no memory.
     pub fn new(alloc: Global, board: Board<'a>) -> OneByOne<'a>
         ensures board { result.board ≡ board.entry }
         ensures own { (board_seen result).own ≡ [] }
@@ -58,7 +58,7 @@ impl<'a> OneByOne<'a> {
         }
     }
 
-    /// The board, as the separator leaves it.
+    /// The board, as the separator leaves it. It takes constant time.
     pub fn into_board(self) -> Board<'a>
         ensures { result ≡ self.entry.board }
     {

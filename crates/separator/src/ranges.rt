@@ -18,7 +18,7 @@ pub fn are_caps(caps: &Caps)
     are_below(caps.nums.items());
 }
 
-/// Whether each number is below 2^62, as a test of a cut wants.
+/// Whether each number is below 2^62, as a test of a cut wants. It takes time in their number.
 pub fn are_narrow(nums: &[u128]) -> bool
     ensures { IsTrue result → All (λ n. n < 2 ^ 62) nums.now }
 {

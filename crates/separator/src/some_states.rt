@@ -124,7 +124,7 @@ fn answer_routed(
     answer_found(instance, state, caps, found, board)
 }
 
-/// Whether an answer is a cut.
+/// Whether an answer is a cut. It takes constant time.
 pub fn is_cut(answer: &Separated) -> bool
     ensures one { IsTrue result → length (cut_answered answer.now) ≡ 1 }
     ensures none { result ≡ false → cut_answered answer.now ≡ [] }
@@ -181,7 +181,7 @@ fn only_cut(
     Ok(answers)
 }
 
-/// The answers of both lists, one list after the other.
+/// The answers of both lists, one list after the other. It takes time and memory in the number of answers, and copies none.
 pub fn answers_of_both(
     answers: List<StateAnswer>,
     others: List<StateAnswer>,
