@@ -28,7 +28,7 @@ pub enum ScriptKind {
 }
 
 impl ScriptKind {
-    /// How the kind is written.
+    /// How the kind is written. It takes constant time.
     pub fn word(&self) -> &'static str
         ensures { result.now ≡ script_kind_word self.now }
     {

@@ -39,7 +39,7 @@ pub enum Verb {
 }
 
 impl Command {
-    /// Whether the command asks for a plan.
+    /// Whether the command asks for a plan. It takes constant time.
     pub fn is_plan(&self) -> bool
         ensures { result ≡ is_plan self.now }
     {
