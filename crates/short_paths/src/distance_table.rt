@@ -64,7 +64,7 @@ impl DistanceTable {
         DistanceTable { nodes, pairs }
     }
 
-    /// How many nodes there are, at most 128.
+    /// How many nodes there are, at most 128. It takes constant time.
     pub fn nodes(&self) -> u32
         ensures { result ≡ self.now.nodes }
     {
