@@ -53,7 +53,7 @@ pub enum ReadKind {
 }
 
 impl ReadKind {
-    /// How the kind is written.
+    /// How the kind is written. It takes constant time.
     pub fn word(&self) -> &'static str
         ensures { result.now ≡ kind_word self.now }
     {
