@@ -14,7 +14,7 @@ pub trait FaultWord {
         ensures { OnOk result (text.new ≡ text.old ++ word self.now) };
 }
 
-/// How a fault of a number is written.
+/// How a fault of a number is written. It takes constant time.
 pub fn number_word(fault: NumberFault) -> &'static str
     ensures { result.now ≡ number_word fault }
 {

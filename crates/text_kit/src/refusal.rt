@@ -37,7 +37,7 @@ impl<K: Debug, T: Drop> From<(T, NoMemory)> for Refusal<K> {
     }
 }
 
-/// The refusal for a fault of a kind at a place.
+/// The refusal for a fault of a kind at a place. It takes constant time.
 pub fn bad<K: Debug>(at: u64, kind: K) -> Refusal<K>
     ensures { result ≡ Refusal.Bad at kind }
 {
