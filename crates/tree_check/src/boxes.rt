@@ -39,7 +39,7 @@ fn span_in(spans: &[Span], m: usize) -> Span
     if m < spans.len() { spans[m] } else { ANY_COUNT }
 }
 
-/// The span of a module; all counts where there is no such module.
+/// The span of a module; all counts where there is no such module. It takes constant time.
 pub fn span_at(boxed: &[List<Span>], e: usize, m: usize) -> Span
     ensures { result ≡ span_at boxed.now e m }
 {
@@ -50,7 +50,7 @@ pub fn span_at(boxed: &[List<Span>], e: usize, m: usize) -> Span
     }
 }
 
-/// Whether a box can be split at a module and a number: the number is at least its least count, and below its greatest.
+/// Whether a box can be split at a module and a number: the number is at least its least count, and below its greatest. It takes constant time.
 pub fn is_split(boxed: &[List<Span>], e: usize, m: usize, at: u64) -> bool
     ensures { IsTrue result ↔ IsSplitOf boxed.now e m at }
 {
@@ -91,7 +91,7 @@ fn with_span(boxed: &Boxed, e: usize, m: usize, span: Span) -> Result<Boxed, NoM
     Ok(spans)
 }
 
-/// The side of a split with at most `at` modules of the kind.
+/// The side of a split with at most `at` modules of the kind. It copies the box: time and memory in the number of modules.
 pub fn lower_side(boxed: &Boxed, e: usize, m: usize, at: u64) -> Result<Boxed, NoMemory>
     requires { IsSplitOf boxed.now e m at }
     ensures { IfOk result (λ box. box ≡ with_span boxed.now e m (up_to at (span_at boxed.now e m))) }
@@ -108,7 +108,7 @@ pub fn lower_side(boxed: &Boxed, e: usize, m: usize, at: u64) -> Result<Boxed, N
     )
 }
 
-/// The side of a split with more of them.
+/// The side of a split with more of them. It copies the box: time and memory in the number of modules.
 pub fn upper_side(boxed: &Boxed, e: usize, m: usize, at: u64) -> Result<Boxed, NoMemory>
     requires { IsSplitOf boxed.now e m at }
     ensures { IfOk result (λ box. box ≡ with_span boxed.now e m (beyond at (span_at boxed.now e m))) }

@@ -36,7 +36,7 @@ fn only_counts(alloc: Global, spans: &[Span]) -> Result<Option<List<u64>>, NoMem
     Ok(Some(counts))
 }
 
-/// The counts of a box that has one for each module; none where it has more.
+/// The counts of a box that has one for each module; none where it has more. It takes time and memory in the number of modules.
 pub fn fixed_counts(alloc: Global, boxed: &[List<Span>]) -> Result<Option<Counts>, NoMemory>
     ensures { IfOk result (λ o. MatchOption o (IsFixedBox boxed.now → ⊥) (λ counts. IsFixedBox boxed.now × (counts ≡ least_counts boxed.now))) }
 {

@@ -26,7 +26,8 @@ pub(crate) enum Held {
     Open(u128),
 }
 
-/// The value of a certificate for a box; none where it is no certificate of it.
+/// The value of a certificate for a box; none where it is no certificate of it. It takes time in the certificate's lines times the modules, and no
+/// memory.
 pub fn value_in(tests: &Tests, boxed: &Boxed, cert: &BoxCert) -> Option<u128>
     ensures { MatchOption result ((v : ℕ) → HasValueIn tests.now boxed.now cert.now v → ⊥) (HasValueIn tests.now boxed.now cert.now) }
 {
@@ -38,7 +39,7 @@ pub fn value_in(tests: &Tests, boxed: &Boxed, cert: &BoxCert) -> Option<u128>
     )
 }
 
-/// Whether a certificate closes a box.
+/// Whether a certificate closes a box. It takes the time of `value_in`.
 pub fn is_closed(tests: &Tests, boxed: &Boxed, cert: &BoxCert) -> bool
     ensures { IsTrue result ↔ ClosesBox (names_in tests.now) tests.now.instance.now.net.now.links boxed.now tests.now.cost cert.now }
 {
@@ -48,7 +49,7 @@ pub fn is_closed(tests: &Tests, boxed: &Boxed, cert: &BoxCert) -> bool
     }
 }
 
-/// Whether a line empties a box.
+/// Whether a line empties a box. It takes time in the number of modules, and no memory.
 pub fn is_empty(tests: &Tests, boxed: &Boxed, cut: u32) -> bool
     ensures { IsTrue result ↔ EmptiesBox (names_in tests.now) tests.now.instance.now.net.now.links boxed.now cut }
 {
