@@ -85,7 +85,7 @@ impl<T: Chronicle> Desk<T> {
     }
 
     /// Waits for the pass's turn, and gives the value. It may never return. It sleeps until another turn ends, and looks
-    /// again then.
+    /// again then. It asks for no memory.
     pub fn enter<R: Wait>(&self, rt: &R, pass: Pass<T>) -> (T, Turn<'_, T>)
         requires { IsPassOf self.now pass }
         ensures own { AreOfOneDesk pass result.1 }
@@ -166,7 +166,7 @@ impl<T: Chronicle> Desk<T> {
 impl<'a, T: Chronicle> Turn<'a, T> {
     ghost use Rattle.turn_lock.specs.Passes.{AreOfOneDesk, own_places, seen_by, turn_history, turn_origin, turn_places, turn_units, own_units};
 
-    /// Ends the turn with the history as it was.
+    /// Ends the turn with the history as it was. It takes constant time and no memory.
     pub fn leave(self, value: T) -> Pass<T>
         requires origin { turn_origin self ≡ Some (T.origin value) }
         requires stands { T.history value ≡ turn_history self }
@@ -182,7 +182,7 @@ impl<'a, T: Chronicle> Turn<'a, T> {
         Pass { seat }
     }
 
-    /// Ends the turn with one item more, which becomes the pass's own.
+    /// Ends the turn with one item more, which becomes the pass's own. It takes constant time and no memory.
     pub fn leave_with(self, value: T) -> Pass<T>
         requires origin { turn_origin self ≡ Some (T.origin value) }
         requires more { (item : T.Item) × (T.history value ≡ turn_history self ++ item ∷ []) }
