@@ -271,7 +271,7 @@ fn advance(
 }
 
 impl WarmRouter {
-    /// A router that begins with the first question's paths of fewest links.
+    /// A router that begins with the first question's paths of fewest links. It asks for no memory.
     pub fn new(alloc: Global) -> WarmRouter {
         WarmRouter {
             alloc,
@@ -282,7 +282,7 @@ impl WarmRouter {
         }
     }
 
-    /// Whether it has a basis: a question has left one, with numbers that aren't too wide.
+    /// Whether it has a basis: a question has left one, with numbers that aren't too wide. It takes constant time.
     pub fn has_basis(&self) -> bool {
         self.basis.rows.len() > 0
     }
@@ -374,7 +374,7 @@ impl WarmRouter {
         Ok(None)
     }
 
-    /// The paths of the basis, as columns that a routing program may begin with. It copies each of them.
+    /// The paths of the basis, as columns that a routing program may begin with. It copies each of them. It takes time and memory in their links.
     pub fn columns(&self) -> Result<List<RouteColumn>, NoMemory> {
         self.basis.carriers(self.alloc)
     }
