@@ -5,7 +5,7 @@ use Rattle.outside_io.specs.declared.shelf.Fetch.{Fetch}
 use Rattle.outside_io.specs.declared.shelf.Fetch.TheVariants.{Failed}
 use Rattle.outside_io.specs.Outside.{Files, one_more}
 
--- no name stands twice
+-- all names are different
 abbrev pub HaveDifferentNames : List MemFile → Type 0
 HaveDifferentNames held = AllPairs (λ f g. f.name ≢ g.name) held
 

@@ -8,20 +8,20 @@ pub struct RoundFigures {
     /// The certificate is worth `raw_num / raw_den` units of the network, in lowest terms.
     pub raw_num: u128,
     pub raw_den: u128,
-    /// In so many of the states that were asked the certificate's share of capacities carries the demands.
+    /// The number of the states that were asked in which the certificate's share of capacities carries the demands.
     pub routed: usize,
 }
 
 /// Where the growth of a branch tree is.
 #[derive(Clone, Copy, Debug, PartialEq, Eq)]
 pub struct TreeFigures {
-    /// So many boxes were split, of so many that may be.
+    /// The number of boxes that were split, and the number that may be.
     pub splits: u32,
     pub limit: u32,
     /// What the cheapest plan so far costs, in units of the network.
     pub cost: u128,
     /// No plan costs less, in units of the network.
     pub bound: u128,
-    /// So many boxes are open.
+    /// The number of boxes that are open.
     pub open: usize,
 }

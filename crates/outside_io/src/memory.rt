@@ -26,7 +26,7 @@ impl Copied for MemFile {
     }
 }
 
-/// Files in memory. Exactly those calls of `fetch` fail whose numbers stand in its list, counted from 0. A fetch takes time in
+/// Files in memory. Exactly those calls of `fetch` fail whose numbers are in its list, counted from 0. A fetch takes time in
 /// the names of the files and the bytes that it copies, and memory for these.
 #[derive(Drop)]
 pub struct MemShelf {
@@ -58,7 +58,7 @@ fn is_failing(failing: &[u32], call: u64) -> bool
     failing.iter().any(|n| u64::from(*n) == call)
 }
 
-/// Whether no two files have one name. It compares each pair of names.
+/// Whether no two files have one name. It compares each pair of names. It takes no memory.
 pub fn have_different_names(files: &[MemFile]) -> bool
     ensures { IsTrue result ↔ HaveDifferentNames files.now }
 {
@@ -87,7 +87,7 @@ fn find<'a>(files: &'a [MemFile], name: &[u8]) -> Option<&'a MemFile>
 }
 
 impl MemShelf {
-    /// A shelf of these files. The fetches whose numbers stand in `failing` will fail, counted from 0.
+    /// A shelf of these files. The fetches whose numbers are in `failing` will fail, counted from 0.
     /// A fetch takes time in the number of files, and memory for a copy of the file that it finds.
     pub fn new(files: List<MemFile>, failing: List<u32>) -> MemShelf
         requires { HaveDifferentNames files }
@@ -144,7 +144,7 @@ impl Shelf for MemShelf {
 }
 
 /// A sink in memory with a fixed room, in bytes. A put whose piece doesn't fit into what is left fails and takes nothing of it.
-/// Of the others exactly those fail whose numbers stand in its list, counted from 0; they take half of the piece, rounded down.
+/// Of the others exactly those fail whose numbers are in its list, counted from 0; they take half of the piece, rounded down.
 /// A put takes no memory.
 #[derive(Drop)]
 pub struct MemSink {
@@ -173,7 +173,7 @@ impl Model for MemSink {
 }
 
 impl MemSink {
-    /// An empty sink, which takes the memory for its room at once. The puts whose numbers stand in `failing` will fail, counted
+    /// An empty sink, which takes the memory for its room at once. The puts whose numbers are in `failing` will fail, counted
     /// from 0.
     pub fn new(alloc: Global, room: u64, failing: List<u32>) -> Result<MemSink, NoMemory>
         ensures { IfOk result (λ s. s ≡ record {
@@ -193,7 +193,7 @@ impl MemSink {
         })
     }
 
-    /// The bytes taken so far.
+    /// The bytes taken so far. They are lent, in constant time.
     pub fn bytes(&self) -> &[u8]
         ensures { result.now ≡ self.now.taken }
     {

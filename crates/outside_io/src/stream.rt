@@ -15,7 +15,7 @@ pub struct StreamSink<W> {
 }
 
 impl<W: Write> StreamSink<W> {
-    /// A sink that writes to the stream, with no fault counted.
+    /// A sink that writes to the stream, with no fault counted. It takes constant time.
     pub fn new(out: W) -> StreamSink<W>
         ensures stream { stream_of result ≡ out }
         ensures faults { sink_faults result ≡ 0 }

@@ -30,11 +30,11 @@ AnswersUnopened e Missing = error_kind e ≡ NotFound
 AnswersUnopened e (Failed fault) = (error_kind e ≢ NotFound) × IsFaultOf (error_kind e) fault
 AnswersUnopened e _ = ⊥
 
--- at most so many bytes were read, where the bytes of the file are known
+-- at most this number of bytes was read, where the bytes of the file are known
 abbrev pub ConsumesUpTo : ℕ → Option (List ℕ) → Option (List ℕ) → Type 0
 ConsumesUpTo most old new = (bytes : List ℕ) × (length bytes ≤ most) × Consumes old new bytes
 
--- what one read answers, where so many bytes are left of the limit: with no answer it appended what it read, and there may be more
+-- what one read answers, where this number of bytes is left of the limit: with no answer it appended what it read, and there may be more
 abbrev pub ReadsOnce : Option (List ℕ) → Option (List ℕ) → ℕ → Option Fetch → List ℕ → List ℕ → Type 0
 ReadsOnce old new left None before after =
     (bytes : List ℕ) × (length bytes ≤ left) × Consumes old new bytes × (after ≡ before ++ bytes)
