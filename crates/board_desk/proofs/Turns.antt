@@ -1,7 +1,7 @@
 -- Why a caller's turn is as its contract says.
-use Rattle.std.proofs.Common.{◌≡◌, ◌∙◌, ℕ, ◌-◌, ◌++◌, ◌∷◌, [], true, false, List, Some, length, subst, sym, ap, arith}
+use Rattle.std.proofs.Common.{◌≡◌, ◌∙◌, ℕ, ◌-◌, ◌++◌, List, Some, length, subst, sym, ap, arith}
 use Rattle.net_core.proofs.Library.{range_with_len}
-use Rattle.std.proofs.lemmas.List.{append-nil, length-append}
+use Rattle.std.proofs.lemmas.List.{append-nil}
 use Rattle.plan_terms.specs.Terms.{Edit, Entry, Edited, Pooled}
 use Rattle.metric_cut.specs.declared.cut.Cut.{Cut}
 use Rattle.cut_pool.specs.declared.answers.AdmitAnswer.{AdmitAnswer}
@@ -17,25 +17,11 @@ use Rattle.board_desk.specs.Turns.{HasTurn, IsPassThere, IsSameCaller, board_mad
 use Rattle.board_desk.specs.inner.Endings.{IsGrown, cut_enters, edit_enters}
 use Rattle.board_desk.proofs.Passes.{BoardPass, BoardTurn, some_pass}
 
--- the place of one entry more
-place_of_one : (own : List ℕ) (before after : List Entry) (entry : Entry) → after ≡ before ++ entry ∷ []
-    → own ++ length before ∷ [] ≡ own ++ range_with_len (length before) (length after - length before)
-place_of_one own before after entry grown =
-    let one : 1 ≡ length after - length before = omega (arith, ap length grown, length-append before (entry ∷ [])) in
-    ap (λ n. own ++ range_with_len (length before) n) one
-
 -- no entry more has no place
 place_of_none : (own : List ℕ) (before after : List Entry) → after ≡ before → own ≡ own ++ range_with_len (length before) (length after - length before)
 place_of_none own before after same =
     let none : 0 ≡ length after - length before = omega (arith, ap length same) in
     sym (append-nil own) ∙ ap (λ n. own ++ range_with_len (length before) n) none
-
--- the places of what a board has grown by
-pub places_grown : (own : List ℕ) (before after : List Entry) → IsGrown true before after → own ++ length before ∷ [] ≡ own ++ range_with_len (length before) (length after - length before)
-places_grown own before after grown = place_of_one own before after grown.0 grown.1
-
-pub places_as_before : (own : List ℕ) (before after : List Entry) → IsGrown false before after → own ≡ own ++ range_with_len (length before) (length after - length before)
-places_as_before own before after same = place_of_none own before after same
 
 -- what an answer says of the board that is left
 pub edit_grows : (found left : Board) (caller : ℕ) (edit : Edit) (answer : EditAnswer) → AnswersEdit found caller edit answer left → IsGrown (edit_enters answer) found.entries left.entries
