@@ -1,12 +1,10 @@
 -- there is one row in lowest terms
-use Rattle.std.proofs.Common.{ℕ, ℤ, zero, suc, pos, ◌≡◌, ◌+◌, ◌-◌, ◌*◌, ◌/◌, ◌%◌, ◌<◌, ◌≤◌, ◌^◌, ◌*ℤ◌, ⊎_elim, unsigned_abs, sym, ap, subst, ◌∙◌, arith}
+use Rattle.std.proofs.Common.{ℕ, ℤ, zero, suc, pos, ◌≡◌, ◌+◌, ◌-◌, ◌*◌, ◌/◌, ◌%◌, ◌<◌, ◌*ℤ◌, unsigned_abs, sym, ap, subst, ◌∙◌, arith}
 use Rattle.std.specs.Int.Signed.{◌<ℤ◌}
 use Rattle.net_core.proofs.Library.{◌∣◌, ints, unsigned_abs-mul, dvd_refl, dvd-zero, dvd_antisymm, *ℤ_comm, dvd-add, dvd-mul_left, dvd-mul_left_of_dvd, dvd_of_mul-dvd-mul_left, mul-div_cancel'}
 use Rattle.std.proofs.lemmas.Nat.{div-add-mod'}
 use Rattle.std.proofs.Math.Nat.{dvd-sub}
-use Rattle.checked_fraction.specs.Rows.{IsNarrow, IsReduced}
-use Rattle.checked_fraction.specs.Mixed.{IsTooWide}
-use Rattle.checked_fraction.specs.declared.wide.WideNumber.{WideNumber}
+use Rattle.checked_fraction.specs.Rows.{IsReduced}
 use Rattle.checked_fraction.proofs.Products.{regroup, moved, cancelled}
 use Rattle.net_core.proofs.Numbers.{positive_divisor}
 
@@ -110,15 +108,3 @@ reduced_once n raw whole nums den others other pw r s =
       λ k l. cancelled den (nums k) (others k) r.positive
           (ap (λ t. t *ℤ nums k) dens ∙ (*ℤ_comm other (nums k) ∙ (there.same k l ∙ *ℤ_comm (others k) den))),
     )
-
--- so a row is too wide exactly where it isn't narrow in lowest terms
-pub never_both : (n : ℕ) (raw : ℕ → ℤ) (whole : ℤ) (wide : WideNumber) (nums : ℕ → ℤ) (den : ℤ) → pos 0 <ℤ whole
-    → IsTooWide n raw whole wide → IsReduced n raw whole nums den → ((k : ℕ) → k < n → IsNarrow (nums k)) → IsNarrow den → ⊥
-never_both n raw whole wide nums den pw too r narrow narrow_den =
-    let once = reduced_once n raw whole too.0 too.1 nums den pw too.2 r in
-    let low : unsigned_abs wide.value < 2 ^ 62 = ⊎_elim
-    (λ number. subst IsNarrow (sym (number.1 ∙ once.1 wide.at number.0)) (narrow wide.at number.0))
-    (λ last. subst IsNarrow (sym (last.1 ∙ once.0)) narrow_den)
-    too.3.stands in
-    let high : 2 ^ 62 ≤ unsigned_abs wide.value = too.3.is_wide in
-    omega (arith, low, high)
