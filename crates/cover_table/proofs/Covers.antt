@@ -46,17 +46,6 @@ nothing_bounds sizes weights same = record {
   reached = inr (none sizes, record { same = length-map sizes (λ (x : ℕ). 0); enough = omega arith }, sym (none-weighs sizes weights same));
 }
 
-no-cover : (need : ℕ) (others : List ℕ) → 0 < need → CoversNeed [] need others → ⊥
-no-cover need [] some cover = omega (arith, some, cover.enough)
-no-cover need (n ∷ ns) some cover = omega (arith, cover.same)
-
--- no kinds cover a need
-pub no_kinds_bound : (need : ℕ) → 0 < need → IsCoverBound [] [] need (2 ^ 45)
-no_kinds_bound need some = record {
-  at_most = λ others cover. absurd (no-cover need others some cover);
-  reached = inl (omega arith);
-}
-
 -- a cover with none, or with one more, of the last kind
 cover_without : (sizes : List ℕ) (a need : ℕ) (ns : List ℕ) → CoversNeed sizes need ns → CoversNeed (sizes ++ a ∷ []) need (ns ++ 0 ∷ [])
 cover_without sizes a need ns cover = record {
