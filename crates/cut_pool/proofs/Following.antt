@@ -15,7 +15,7 @@ use Rattle.metric_cut.proofs.Sides.{sum_is_right}
 use Rattle.cut_pool.specs.declared.pooled.PooledCut.{PooledCut}
 use Rattle.cut_pool.specs.declared.shares.NeedChange.{NeedChange}
 use Rattle.cut_pool.specs.inner.Pooling.{CanFollow, IsSomeCut, StandsAmong, StandsAt, followed}
-use Rattle.cut_pool.specs.inner.Shares.{IsShareIn, IsShareOfDemand, asked_by}
+use Rattle.cut_pool.specs.inner.Shares.{IsShareIn, asked_by}
 use Rattle.cut_pool.proofs.Sides.{IsAtDemands}
 
 -- ---- a right side is the sum of what the demands ask for by the kept distances
@@ -57,17 +57,6 @@ sum_low table [] = omega arith
 sum_low table (d ∷ ds) = omega (arith, sum_by-cons (part_of table) d ds, sum_by-cons (λ (x : Demand). x.need) d ds, part_low table d, sum_low table ds)
 
 -- ---- one right side
-
--- a right side at the demands can follow a change of one name's share
-pub can_follow : (n : ℕ) (demands : List Demand) (name : List ℕ) (change : NeedChange) (c : PooledCut) → StandsAt n demands c → IsShareIn name demands change.before
-    → IsShareOfDemand n change.before → IsShareOfDemand n change.after → CanFollow change c
-can_follow n demands name change c at share before after = record {
-  cut = at.cut;
-  before = subst (λ m. IsShareOfDemand m change.before) (sym at.nodes) before;
-  after = subst (λ m. IsShareOfDemand m change.after) (sym at.nodes) after;
-  low = at.low;
-  part = omega (arith, at.right, share c.cut.table);
-}
 
 -- where the share is unchanged, nothing follows
 pub followed_same : (change : NeedChange) (pool : List PooledCut) → change.before ≡ change.after → All (CanFollow change) pool → pool ≡ map (followed change) pool

@@ -6,7 +6,7 @@ use Rattle.metric_cut.specs.declared.cut.Cut.{Cut}
 use Rattle.cut_pool.specs.declared.pooled.PooledCut.{PooledCut}
 use Rattle.cut_pool.specs.declared.board.Board.{Board}
 use Rattle.cut_pool.specs.Boards.{AreLinesNow, opening_case}
-use Rattle.cut_pool.specs.Histories.{IsBoardAfter, IsPoolAfter, cut_of_line, cuts_of, demands_left, version_left}
+use Rattle.cut_pool.specs.Histories.{IsBoardAfter, IsPoolAfter, cut_of_line, cuts_of, demands_left}
 use Rattle.cut_pool.specs.Pools.{ArePooledCuts, line_of_pooled}
 use Rattle.cut_pool.specs.inner.Pooling.{is_pooled_cut}
 use Rattle.cut_pool.proofs.Boards.{IsFollowed}
@@ -23,9 +23,6 @@ states_of (c ∷ pool) = ap (λ (cuts : List (ℕ × List ℕ)). with_state c.cu
 module _ (p : Case) (es : List Entry) (demands : List Demand) (version : ℕ) (pool : List PooledCut) (told : ∥ IsBoardAfter p es demands version (map line_of_pooled pool) ∥₁) where
   pub demands_told : demands ≡ demands_left p es
   demands_told = ∥∥₁_elim told (hlevel props) (λ b. b.demands_are)
-
-  pub version_told : version ≡ version_left p es
-  version_told = ∥∥₁_elim told (hlevel props) (λ b. b.version_is)
 
   pub cuts_told : map (λ c. with_state c.cut) pool ≡ cuts_of es
   cuts_told = ∥∥₁_elim told (hlevel props) (λ b. sym (states_of pool) ∙ b.pool.cuts)
