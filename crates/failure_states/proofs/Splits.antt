@@ -1,9 +1,9 @@
 -- demands whose ends have different labels are those that a state separates
-use Rattle.std.proofs.Common.{◌≡◌, ◌≢◌, ℕ, ◌+◌, ◌<◌, ◌≤◌, List, length, get_or, Option, None, Some, ⊎_elim, refl, subst, arith, All, slice_get, MatchOption}
+use Rattle.std.proofs.Common.{◌≡◌, ◌≢◌, ℕ, ◌+◌, ◌<◌, ◌≤◌, List, length, get_or, Option, None, Some, ⊎_elim, refl, subst, arith, slice_get, MatchOption}
 use Rattle.net_core.proofs.Library.{cases_eq, slice_get_read, slice_get_within, get_or_from_slice_get}
 use Rattle.plan_terms.specs.Terms.{Demand, AreDemands, IsDemand, Case, graph_in, Joins, Separates}
 use Rattle.plan_terms.proofs.Lemmas.{joins_below}
-use Rattle.failure_states.specs.inner.Components.{AreComponents, HasEndsBelow, IsFirst, IsSplit}
+use Rattle.failure_states.specs.inner.Components.{AreComponents, IsFirst, IsSplit}
 use Rattle.failure_states.proofs.Labelling.{components_apart, components_joined}
 
 -- what is said of a place k of the demands is said of the demand there
@@ -22,10 +22,6 @@ split_more labels demands k none before j lt s = ⊎_elim
 -- where none of all demands is split, none is
 pub split_none : (labels : List ℕ) (demands : List Demand) (k : ℕ) → length demands ≤ k → ((j : ℕ) → j < k → IsSplit labels demands j → ⊥) → (j : ℕ) → IsSplit labels demands j → ⊥
 split_none labels demands k all before j s = before j (omega (arith, slice_get_within demands j s.demand s.at)) s
-
--- the ends of demands are nodes
-pub ends_below : (n : ℕ) (demands : List Demand) → AreDemands n demands → All (HasEndsBelow n) demands
-ends_below n demands are = λ k d lt. let is = are.each k d lt in (is.from_known, is.to_known)
 
 module _ (c : Case) (n s : ℕ) (labels : List ℕ) (h : AreComponents (Joins (graph_in c s)) n (length c.links) labels) (are : AreDemands n c.demands) where
   split_separates : (k : ℕ) → IsSplit labels c.demands k → Separates c s k
