@@ -1,14 +1,12 @@
 -- A report's readings whose faults are told by this format's kinds.
-use Rattle.std.proofs.Common.{◌≡◌, ℕ, List, Result, Ok, Err, ap, ◌∙◌}
+use Rattle.std.proofs.Common.{◌≡◌, ℕ, List, Ok, Err, ap, ◌∙◌}
 use Rattle.snd_tokens.specs.Terms.{Text}
-use Rattle.text_kit.specs.Terms.{ReadsAs, Item, Read, Reading}
-use Rattle.text_kit.specs.declared.refusal.Refusal.{Refusal}
-use Rattle.text_kit.specs.declared.refusal.Refusal.TheVariants.{Bad, NoMemory}
+use Rattle.text_kit.specs.Terms.{Item, Read, Reading}
 use Rattle.text_kit.proofs.Lemmas.{IsOnline, err_parts}
 use Rattle.text_kit.proofs.Spelled.{Lawful}
 use Rattle.report_words.specs.declared.fault.ReportKind.{ReportKind}
 use Rattle.flow_file.specs.declared.fault.FlowsKind.{FlowsKind}
-use Rattle.flow_file.specs.FlowKinds.{flows_kind, retold, told, told_at}
+use Rattle.flow_file.specs.FlowKinds.{flows_kind, retold, told_at}
 
 -- what was read is read still
 told_ok : {X : Type 0} (q : Read ReportKind X) (x : X) (rest : Text) → retold q ≡ Ok (x, rest) → q ≡ Ok (x, rest)
@@ -43,9 +41,3 @@ online_told {X} r on = record {
       let t = on.failed text at d.before d.is in
       record { count = t.count; here = t.here; again = λ u same. ap retold (t.again u same) ∙ ap (λ (k : FlowsKind). Err (at, k)) d.now };
 }
-
--- an answer agrees with its reading also where faults are told as those of the file
-pub told_reads : {X Y : Type 0} (view : X → Y) (a : Result X (Refusal ReportKind)) (rest : Text) (read : Read ReportKind Y) → ReadsAs view a rest read → ReadsAs view (told a) rest (retold read)
-told_reads view (Ok x) rest read h = ap retold h
-told_reads view (Err (Bad at kind)) rest read h = ap retold h
-told_reads view (Err NoMemory) rest read h = tt
