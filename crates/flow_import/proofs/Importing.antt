@@ -1,15 +1,14 @@
 -- What loads tell of the flows of a state, and one state after another.
-use Rattle.std.proofs.Common.{◌≡◌, ℕ, ◌+◌, ◌<◌, ◌≤◌, ◌++◌, inr, List, [], ◌∷◌, length, get_or, Option, None, Some, MatchOption, refl, sym, subst, ◌∙◌, arith, ⊎_elim, All}
+use Rattle.std.proofs.Common.{◌≡◌, ℕ, ◌+◌, ◌<◌, ◌≤◌, ◌++◌, inr, List, [], ◌∷◌, length, get_or, sym, subst, arith, ⊎_elim, All}
 use Rattle.net_core.proofs.Library.{cases_eq, cases_lt, get_or_append_left, get_or_push, slice_get_within, ∥∥₁_elim, props}
 use Rattle.std.proofs.lemmas.List.{length_push}
-use Rattle.plan_terms.specs.Terms.{IsNetwork, Case, graph_in, Graph, Survives, Demand, Link, Routing, capacities, total_cost}
+use Rattle.plan_terms.specs.Terms.{IsNetwork, Case, graph_in, Graph, Survives, Demand, Link, Routing}
 use Rattle.flow_file.specs.declared.flow.LinkFlow.{LinkFlow}
 use Rattle.flow_file.specs.FlowFiles.{AreLinkFlows, IsLinkFlow}
-use Rattle.flow_file.specs.declared.flow.FlowFile.{FlowFile}
 use Rattle.flow_import.specs.declared.fault.ImportFault.{ImportFault}
 use Rattle.flow_import.specs.declared.fault.ImportFault.TheVariants.{Dead, Unbalanced, Overloaded, NoMemory}
-use Rattle.flow_import.specs.Imports.{AreAlive, FitInto, IsFirstDead, IsFirstExceeded, IsImportFault, IsImported, IsImportedState, IsStateFault, flows_in, no_routing}
-use Rattle.flow_import.specs.inner.Steps.{AreImportedTo, AreLoads, IsFirstAbove, IsFirstLost, IsOffFault}
+use Rattle.flow_import.specs.Imports.{AreAlive, FitInto, IsFirstExceeded, IsImportFault, IsImportedState, IsStateFault, flows_in, no_routing}
+use Rattle.flow_import.specs.inner.Steps.{AreImportedTo, AreLoads, IsFirstAbove, IsOffFault}
 use Rattle.flow_import.proofs.Parts.{load_past}
 
 -- ---- flows in form
@@ -29,16 +28,6 @@ module _ (n : ℕ) (flows : List LinkFlow) (loads : List ℕ) (known : All (λ f
       (λ (past : n ≤ e). absurd (omega (arith, some, load_past n e flows past known)))
       (cases_lt e n)
 
-  pub dead_first : (g : Graph) (e : ℕ) → length g.links ≡ n → IsFirstLost g loads e → IsFirstDead g flows e
-  dead_first g e same f =
-      let within : e < n = omega (arith, f.place, are.long) in
-      record {
-        link = omega (arith, within, same);
-        loaded = omega (arith, f.loaded, are.each e within);
-        dead = f.dead;
-        before = λ i lt some. f.before i lt (omega (arith, some, are.each i (omega (arith, lt, within))));
-      }
-
   pub all_fit : (caps : List ℕ) → ((e : ℕ) → e < length loads → get_or loads e 0 ≤ get_or caps e 0) → FitInto caps flows
   all_fit caps fit = λ e. ⊎_elim
       (λ (lt : e < n). omega (arith, fit e (omega (arith, lt, are.long)), are.each e lt))
@@ -57,9 +46,6 @@ module _ (n : ℕ) (flows : List LinkFlow) (loads : List ℕ) (known : All (λ f
 -- ---- states
 
 module _ (p : Case) (caps : List ℕ) (all : List (List LinkFlow)) where
-  pub imported_none : AreImportedTo p caps all 0 []
-  imported_none = record { some = omega arith; long = refl; each = λ s lt. absurd (omega (arith, lt)) }
-
   pub imported_more : (n : ℕ) (routings : List Routing) (r : Routing) → n < length all → AreImportedTo p caps all n routings → IsImportedState p caps n (flows_in all n) r → AreImportedTo p caps all (n + 1) (routings ++ r ∷ [])
   imported_more n routings r lt before is = record {
     some = omega (arith, lt);
@@ -80,20 +66,6 @@ module _ (p : Case) (caps : List ℕ) (all : List (List LinkFlow)) where
   pub fault_after : (n : ℕ) (routings : List Routing) (f : ImportFault) → n ≤ length p.listed → AreImportedTo p caps all n routings → IsStateFault p caps n (flows_in all n) f → IsImportFault p caps all f
   fault_after n routings f known before is = inr (record { state = n; listed_state = known; before = λ s lt. (before.each s lt).sound; is = is })
 
-  -- all states
-  pub imported_whole : (n : ℕ) (routings : List Routing) → length all ≤ n → AreImportedTo p caps all n routings → AreImportedTo p caps all (length all) routings
-  imported_whole n routings past are = let same : n ≡ length all = omega (arith, past, are.some) in subst (λ (i : ℕ). AreImportedTo p caps all i routings) same are
-
--- a whole file
-pub imported_file : (p : Case) (file : FlowFile) (routings : List Routing) (cost : ℕ) → cost ≡ total_cost p.links file.counts → length file.flows ≡ length p.listed + 1 → AreImportedTo p (capacities p.links file.counts) file.flows (length file.flows) routings
-    → IsImported p file (record { counts = file.counts; cost = cost; routings = routings })
-imported_file p file routings cost paid long are = record {
-  counts = refl;
-  cost = paid;
-  states = are.long ∙ long;
-  each = λ s le. are.each s (omega (arith, le, long));
-}
-
 -- ---- faults of a state
 
 module _ (p : Case) (caps : List ℕ) (s : ℕ) (flows : List LinkFlow) where
@@ -107,11 +79,3 @@ module _ (p : Case) (caps : List ℕ) (s : ℕ) (flows : List LinkFlow) where
 
 pub few_links : (nodes : List (List ℕ)) (links : List Link) → ∥ IsNetwork nodes links ∥₁ → length links ≤ 256
 few_links nodes links net = ∥∥₁_elim net (hlevel props) (λ (n : IsNetwork nodes links). n.few_links)
-
--- ---- options
-
-pub match_some : {X : Type 0} (A : Type 0) (B : X → Type 0) (r : Option X) (x : X) → r ≡ Some x → MatchOption r A B → B x
-match_some A B r x e m = subst (λ o. MatchOption o A B) e m
-
-pub match_none : {X : Type 0} (A : Type 0) (B : X → Type 0) (r : Option X) → r ≡ None → MatchOption r A B → A
-match_none A B r e m = subst (λ o. MatchOption o A B) e m

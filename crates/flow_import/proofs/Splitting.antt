@@ -1,6 +1,6 @@
 -- One demand after another is split into flows along paths.
-use Rattle.std.proofs.Common.{◌≡◌, ◌≢◌, ℕ, ◌+◌, ◌<◌, ◌≤◌, ◌==◌, Bool, cond, List, [], ◌∷◌, ◌++◌, length, map, Some, slice_get, take, get_or, Result, Ok, Err, IfOk, IfErr, refl, sym, ap, subst, ◌∙◌, arith, append-nil, ⊎_elim, All, filter}
-use Rattle.net_core.proofs.Library.{cases_eq, length-map, map-append, take_more, All-append, All-filter, All-head, All-map, All-nil, All-tail, All-weaker, filter-append, count_by-le-length, length-filter, slice_get_within}
+use Rattle.std.proofs.Common.{◌≡◌, ◌≢◌, ℕ, ◌+◌, ◌<◌, ◌≤◌, ◌==◌, Bool, cond, List, [], ◌∷◌, ◌++◌, length, map, Some, slice_get, take, get_or, Result, Err, IfErr, refl, sym, ap, subst, ◌∙◌, arith, append-nil, ⊎_elim, All, filter}
+use Rattle.net_core.proofs.Library.{cases_eq, length-map, map-append, take_more, All-append, All-filter, All-head, All-map, All-tail, All-weaker, filter-append, count_by-le-length, length-filter, slice_get_within}
 use Rattle.std.proofs.lemmas.Bool.{eq-eqb, ne_eqb}
 use Rattle.plan_terms.specs.Terms.{Case, Demand, Flow, NodeId, Link}
 use Rattle.path_split.specs.declared.arc.PathFlow.{PathFlow}
@@ -50,9 +50,6 @@ all_along : (n k : ℕ) (ps : List PathFlow) → k < n → All (λ f. f.demand <
 all_along n k ps lt = All-map (λ (f : Flow). f.demand < n) (along k) ps (λ i d within. lt)
 
 module _ (p : Case) (flows : List LinkFlow) where
-  pub split_none : AreSplitTo p flows 0 []
-  split_none = record { some = omega arith; early = All-nil (λ (f : Flow). f.demand < 0); each = λ k d lt at. absurd (omega (arith, lt)) }
-
   -- two demands of one place are the same
   same_demand : (k : ℕ) (d e : Demand) → slice_get p.demands k ≡ Some d → slice_get p.demands k ≡ Some e → e ≡ d
   same_demand k d e a b = cc (a, b)
@@ -76,10 +73,6 @@ module _ (p : Case) (flows : List LinkFlow) where
             subst (λ (ps : List PathFlow). IsSplitDemand p flows e k ps) (sym kept) (before.each k e (omega (arith, lt, other)) there))
             (cases_eq k n);
       }
-
-  -- all demands
-  pub split_whole : (n : ℕ) (routed : List Flow) → length p.demands ≤ n → AreSplitTo p flows n routed → AreSplitTo p flows (length p.demands) routed
-  split_whole n routed past split = let same : n ≡ length p.demands = omega (arith, past, split.some) in subst (λ (i : ℕ). AreSplitTo p flows i routed) same split
 
   -- what was split is balanced
   pub split_even : (n : ℕ) (routed : List Flow) → AreSplitTo p flows n routed → (k : ℕ) → k < n → IsDemandEven p flows k
@@ -134,6 +127,3 @@ along_more k ps i f lt is =
 
 pub unbalanced_at : {X : Type 0} (r : Result X SplitFault) (node : NodeId) (B : ℕ → Type 0) → r ≡ Err (splits.Unbalanced node) → IfErr r (λ fault. (n : ℕ) → fault ≡ splits.Unbalanced (record { 0 = n }) → B n) → B node.0
 unbalanced_at {X} r node B e h = (subst (λ (q : Result X SplitFault). IfErr q (λ fault. (n : ℕ) → fault ≡ splits.Unbalanced (record { 0 = n }) → B n)) e h) node.0 refl
-
-pub ok_at : {X E : Type 0} (r : Result X E) (x : X) (B : X → Type 0) → r ≡ Ok x → IfOk r B → B x
-ok_at {X} {E} r x B e h = subst (λ (q : Result X E). IfOk q B) e h
