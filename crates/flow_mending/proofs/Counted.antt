@@ -1,23 +1,10 @@
 -- routings that are counted carry the demands
-use Rattle.std.proofs.Common.{◌≡◌, ℕ, suc, ◌+◌, ◌*◌, ◌≤◌, ◌<◌, ◌^◌, ◌++◌, List, [], ◌∷◌, All, IsTrue, get_or, length, nat_eq, slice_index, take, sym, subst, arith}
+use Rattle.std.proofs.Common.{◌≡◌, ℕ, suc, ◌+◌, ◌≤◌, ◌<◌, ◌++◌, List, [], ◌∷◌, All, get_or, length, take, sym, subst, arith}
 use Rattle.net_core.proofs.Library.{IsGcd, ◌∣◌, All-more, eq-one_of_dvd-one, take_more}
 use Rattle.net_core.proofs.Lists.{front_all}
 use Rattle.std.proofs.lemmas.List.{take_all}
-use Rattle.plan_terms.specs.Terms.{Demand, Caps, Flow, Routing, Graph, load}
+use Rattle.plan_terms.specs.Terms.{Flow, Routing}
 use Rattle.route_law.specs.Terms.{IsLowestRouting}
-use Rattle.flow_router.specs.Answers.{IsRouted}
-use Rattle.flow_mending.specs.inner.Counting.{AreMet, HasForm, IsCountedFlow}
-
--- a routing in form whose flows follow paths, meet the demands and fit
-pub routed_from : (g : Graph) (demands : List Demand) (caps : Caps) (r : Routing) → HasForm (length g.links) (length demands) r → AreMet demands caps.scale r
-    → ((e : ℕ) → load r.flows e ≤ slice_index caps.nums e * r.den) → All (IsCountedFlow g demands) r.flows → IsRouted g demands caps r
-routed_from g demands caps r form met within flows = record {
-  carries = record { den = form.positive; flows = λ k d lt. (flows k d lt).0; met = met; within = within };
-  lowest = form.lowest;
-  few = form.few;
-  den_limit = form.den_limit;
-  nums_limit = λ k d lt. (flows k d lt).1;
-}
 
 -- what holds of the first ones and of the next
 pub all_next : {X : Type 0} (P : X → Type 0) (xs : List X) (i : ℕ) (x : X) → i < length xs → x ≡ get_or xs i x → All P (take i xs) → P x → All P (take (i + 1) xs)
