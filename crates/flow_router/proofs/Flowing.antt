@@ -4,15 +4,8 @@ use Rattle.net_core.proofs.Library.{All-push}
 use Rattle.plan_terms.specs.Terms.{RouteColumn, Flow}
 use Rattle.simplex_law.specs.Terms.{ColumnOf, AreNames}
 use Rattle.route_law.specs.Terms.{is_of_demand, runs_over, AreFlowsOf}
-use Rattle.route_law.proofs.Lemmas.{flows_none, flows_pass, flows_push, flows_slack}
+use Rattle.route_law.proofs.Lemmas.{flows_pass, flows_push, flows_slack}
 use Rattle.flow_router.specs.inner.Flowing.{AreBasisFlows, IsBasisFlow, IsFlowOfColumn}
-
-pub basis_flows_none : (names : List RouteColumn) (values : List ℕ) → AreBasisFlows names values 0 []
-basis_flows_none names values = record {
-  few = omega arith;
-  each = λ k d lt. absurd (omega (arith, lt));
-  sums = λ basis named. flows_none basis (λ j. get_or values j 0);
-}
 
 name_at : (names : List RouteColumn) (basis : ℕ → ColumnOf RouteColumn) (n : ℕ) (name : RouteColumn) → n < length names → AreNames (length names) basis names → slice_get names n ≡ Some name → (basis n).name ≡ name
 name_at names basis n name lt named at = cc (named.each n lt, at)
