@@ -28,9 +28,6 @@ both : (a b : Bool) → a ≡ false → b ≡ false → (not a && not b) ≡ tru
 both a b first second = grind (arith, first, second)
 
 module _ (amounts : List ℕ) where
-  amount : ℕ → ℕ
-  amount k = get_or amounts k 0
-
   abbrev pub Higher : ℕ → ℕ → Bool
   Higher x y = is_lt (nat_cmp (get_or amounts y 0) (get_or amounts x 0))
 
