@@ -75,13 +75,6 @@ all_left P (x ∷ xs) (suc i) all (suc k) d lt = all_left P xs i (λ j e l. all 
 pub all_at : {X : Type 0} (P : X → Type 0) (xs : List X) (i : ℕ) (x : X) → slice_get xs i ≡ Some x → All P xs → P x
 all_at P xs i x at all = subst P (get_or_from_slice_get xs i x x at) (all i x (slice_get_within xs i x at))
 
-pub offers_none : (g : Graph) (demands : List Demand) (b : Keyed) → AreOffers g demands b 0 []
-offers_none g demands b = record {
-  each = λ k d lt. absurd (omega (arith, lt));
-  cheap = λ k d lt. absurd (omega (arith, lt));
-  none = λ empty k d lt. absurd (omega (arith, lt));
-}
-
 pub offers_more : (g : Graph) (demands : List Demand) (b : Keyed) (n : ℕ) (d : Demand) (old new : List Carrier) → slice_get demands n ≡ Some d
     → Offers g b n d old new → AreOffers g demands b n old → AreOffers g demands b (n + 1) new
 offers_more g demands b n d old new at (inl adds) sofar =

@@ -11,17 +11,13 @@ use Rattle.simplex_law.proofs.Lemmas.{sum-same, dot-times, row_value_low}
 use Rattle.simplex_core.specs.Terms.{nums_at, den_at, DivideAll}
 use Rattle.key_law.specs.Terms.{left_column, full_kept, key_dot, role_value}
 use Rattle.key_law.proofs.Lemmas.{key_value_low, kept_row, row_product}
-use Rattle.key_rows.specs.Terms.{IsKeyed, IsShapedBasis, amounts, times_taken, weighted, AreWeights, left_over_rows}
+use Rattle.key_rows.specs.Terms.{IsKeyed, amounts, times_taken, weighted, AreWeights, left_over_rows}
 use Rattle.key_paths.specs.inner.Ends.{row_den, shares, row_over, key_over, role_over, FitOver, HasFittingValues, AreApartPlaces}
 use Rattle.key_rows.specs.declared.keyed.Keyed.{Keyed}
 use Rattle.key_rows.proofs.Columns.{times_are, have_weights, left_nonneg}
 use Rattle.key_paths.proofs.Ending.{share_at}
 use Rattle.key_rows.proofs.Weighing.{times_back}
 use Rattle.checked_fraction.proofs.Products.{regroup}
-
--- a basis that is shaped has as many links as rows, and as many demands as prices of demands
-pub reshaped : (links demands : ℕ) (b : Keyed) → IsShapedBasis links demands b → IsShapedBasis (length b.rows) (length b.duals) b
-reshaped links demands b s = subst (λ n. IsShapedBasis n (length b.duals) b) (sym s.rows) (subst (λ q. IsShapedBasis links q b) (sym s.duals) s)
 
 module _ {links demands : ℕ} {bound : ℕ → ℤ} {basis : ℕ → ColumnOf RouteColumn} {place role : ℕ → ℕ} {b : Keyed} (h : IsKeyed links demands bound basis place role b) where
   -- no two roles have one place

@@ -1,5 +1,5 @@
 -- the columns of a routing program by their names
-use Rattle.std.proofs.Common.{◌≡◌, ℕ, List, [], ◌∷◌, Some, None, length, cond, false, ◌+◌, ◌-◌, ◌<◌, ◌≤◌, inl, inr, ⊎_elim, refl, sym, ap, ◌∙◌, subst, arith}
+use Rattle.std.proofs.Common.{◌≡◌, ℕ, List, [], ◌∷◌, length, cond, false, ◌+◌, ◌-◌, ◌<◌, ◌≤◌, inl, inr, ⊎_elim, refl, sym, ap, ◌∙◌, subst, arith}
 use Rattle.std.proofs.Math.IntN.{ℤ, pos, ◌+ℤ◌}
 use Rattle.net_core.proofs.Library.{ForSome, cases_eq, cases_lt, ints}
 use Rattle.std.proofs.lemmas.Bool.{eq-eqb, ne_eqb}
@@ -11,7 +11,6 @@ use Rattle.route_law.proofs.Lemmas.{beside_first, beside_after}
 use Rattle.key_rows.specs.Terms.{IsColumnNamed, path_uses, demand_in, IsNameWithin}
 use Rattle.key_paths.specs.inner.Gaining.{IsRouteName}
 use Rattle.key_paths.proofs.Carried.{carried_short, carried_place}
-use Rattle.key_rows.proofs.Columns.{own_demand, own_none}
 use Rattle.key_paths.proofs.Starting.{slack_named, first, second}
 
 -- a path without a link twice uses each of its links once
@@ -103,11 +102,3 @@ module _ (g : Graph) (demands : List Demand) where
   name_within checked belong (LinkSlack link) is = is
   name_within checked belong (DemandSlack demand) is = tt
   name_within checked belong (Carry k path) is = carried_short g demands k path checked belong is
-
-  -- of a column of demand d the entries in the demands' rows are those of d alone
-  pub owned_column : (c : ColumnOf RouteColumn) (d : ℕ) → IsRouteColumn g demands c → demand_in c.name ≡ Some d → (e : ℕ) → e < length demands → c.entry (length g.links + e) ≡ unit_vector d e
-  owned_column c d is of e l = (route_named c is).demand e l ∙ own_demand c.name d e of
-
-  -- and of one of no demand, a link's slack, they are 0
-  pub free_column : (c : ColumnOf RouteColumn) → IsRouteColumn g demands c → demand_in c.name ≡ None → (e : ℕ) → e < length demands → c.entry (length g.links + e) ≡ pos 0
-  free_column c is of e l = (route_named c is).demand e l ∙ own_none c.name e of
