@@ -1,6 +1,6 @@
 -- the first row by the ratio test, row by row
 use Rattle.std.proofs.Common.{◌≡◌, ℕ, ℤ, List, Option, Some, None, pos, ◌+◌, ◌*ℤ◌, sym, ap, ◌∙◌, subst, arith, ⊎_elim, inl, inr, ◌⊎◌}
-use Rattle.std.specs.Int.Signed.{◌<ℤ◌, ◌≤ℤ◌}
+use Rattle.std.specs.Int.Signed.{◌<ℤ◌}
 use Rattle.net_core.proofs.Library.{cases_lt, ints}
 use Rattle.checked_fraction.specs.Terms.{num, combined}
 use Rattle.checked_fraction.specs.declared.row.Row.{Row}
@@ -72,20 +72,6 @@ module _ (links : ℕ) (rows : List Row) (rest : ℕ → ℤ) (values : List ℕ
     λ k l pk. ⊎_elim
         (λ less. absurd (omega (arith, ints, before k less, pk)))
         (λ ge. row_same other.role k (omega (arith, e, l, ge)))
-        (cases_lt k n),
-  )
-
-  -- a row without a positive product
-  pub best_kept : (n : ℕ) (best : Option Candidate) → IsBestRow links rows rest values products n best → num products n ≤ℤ pos 0 → IsBestRow links rows rest values products (n + 1) best
-  best_kept n None before none = λ k l. ⊎_elim
-      (λ less. before k less)
-      (λ ge. let e : n ≡ k = omega (arith, l, ge) in subst (λ i. num products i ≤ℤ pos 0) e none)
-      (cases_lt k n)
-  best_kept n (Some best) before none = (
-    before.0,
-    λ k l pk. ⊎_elim
-        (λ less. before.1 k less pk)
-        (λ ge. let e : k ≡ n = omega (arith, l, ge) in absurd (omega (arith, ints, none, pk, ap (num products) e)))
         (cases_lt k n),
   )
 

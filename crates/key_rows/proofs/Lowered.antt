@@ -9,18 +9,17 @@ use Rattle.simplex_law.specs.Terms.{dot, unit_vector, ColumnOf, IsNoLater}
 use Rattle.simplex_law.proofs.Lemmas.{moved_out, sum-same}
 use Rattle.simplex_core.specs.Terms.{nums_at, den_at}
 use Rattle.key_law.specs.Terms.{key_part, left_column, full_kept, full_key, key_nums, IsRoleRow, IsTieFirst}
-use Rattle.key_law.proofs.Lemmas.{comes_first, short_no_later}
+use Rattle.key_law.proofs.Lemmas.{comes_first}
 use Rattle.key_rows.specs.Bases.{IsKeyed}
 use Rattle.key_rows.specs.KeyRows.{AreWeights, weighted, less_rows}
 use Rattle.key_rows.specs.KeyTests.{HaveColumnProducts, IsKeyRow}
 use Rattle.key_rows.specs.Names.{left_uses, own_entry}
 use Rattle.key_rows.specs.inner.Candidates.{IsLeavingCandidate, IsKeyCandidate, IsLowered, IsLoweredKey, LeavesFirst, lowered_step}
-use Rattle.key_rows.specs.inner.Orders.{IsRowCandidate, IsNoLaterRow}
+use Rattle.key_rows.specs.inner.Orders.{IsRowCandidate}
 use Rattle.key_rows.specs.declared.keyed.Keyed.{Keyed}
 use Rattle.key_rows.specs.declared.order.Candidate.{Candidate}
 use Rattle.key_rows.proofs.Columns.{times_are}
 use Rattle.key_rows.proofs.Leavers.{row_leaver, key_leaver}
-use Rattle.simplex_core.proofs.Ratios.{no_later_trans}
 use Rattle.key_rows.proofs.Products.{key_scaled}
 use Rattle.key_rows.proofs.Weighted.{left_crossed}
 use Rattle.checked_fraction.proofs.Products.{cancelled}
@@ -173,29 +172,3 @@ module _ {links demands : ℕ} {bound : ℕ → ℤ} {basis : ℕ → ColumnOf R
       let sy = standing y others iy fy in
       subst (λ u. IsNoLater (links + demands) bound u x.product others y.product) (sym sx.1)
       (subst (λ v. IsNoLater (links + demands) bound sx.0.full x.product v y.product) (sym sy.1) (candidate_no_later x y sx.0 sy.0 first))
-
-  positive_whole : (x : Candidate) (full : ℕ → ℤ) → IsWholeRow links demands basis place b name x full → pos 0 <ℤ x.product
-  positive_whole x full (inl row) = row.0.positive
-  positive_whole x full (inr k) = k.3.positive
-
-  -- over a candidate between
-  pub comes_over : (x y z : Candidate) (between : ℕ → ℤ) → IsWholeRow links demands basis place b name y between
-      → ComesNoLater links demands bound basis place b name x y → ComesNoLater links demands bound basis place b name y z → ComesNoLater links demands bound basis place b name x z
-  comes_over x y z between fy first second full others fx fz =
-      no_later_trans (links + demands) bound full x.product between y.product others z.product (positive_whole x full fx) (positive_whole y between fy) (positive_whole z others fz)
-      (first full between fx fy) (second between others fy fz)
-
-  -- the first of the rows of links
-  pub row_comes : (x y : Candidate) → IsRowCandidate links b.values b.products x → IsRowCandidate links b.values b.products y
-      → IsNoLaterRow links b.rows (left_column links demands basis place bound) b.products x.role y.role → ComesNoLater links demands bound basis place b name x y
-  row_comes x y cx cy first full others fx fy =
-      let whole = short_no_later links demands basis place role h.kept.roles h.kept.keys bound (nums_at b.rows x.role) (den_at b.rows x.role) x.product (nums_at b.rows y.role) (den_at b.rows y.role) y.product
-      (subst (λ p. IsNoLater links (left_column links demands basis place bound) (nums_at b.rows x.role) p (nums_at b.rows y.role) y.product) (sym cx.product)
-      (subst (λ q. IsNoLater links (left_column links demands basis place bound) (nums_at b.rows x.role) (num b.products x.role) (nums_at b.rows y.role) q) (sym cy.product) first)) in
-      subst (λ u. IsNoLater (links + demands) bound u x.product others y.product) (sym (of_row x full cx fx))
-      (subst (λ v. IsNoLater (links + demands) bound (full_kept links demands basis place (nums_at b.rows x.role) (den_at b.rows x.role)) x.product v y.product) (sym (of_row y others cy fy)) whole)
-    where
-      of_row : (x : Candidate) (full : ℕ → ℤ) → IsRowCandidate links b.values b.products x → IsWholeRow links demands basis place b name x full
-          → full ≡ full_kept links demands basis place (nums_at b.rows x.role) (den_at b.rows x.role)
-      of_row x full c (inl row) = row.1
-      of_row x full c (inr k) = absurd (omega (arith, c.inside, k.2))

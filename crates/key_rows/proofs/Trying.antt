@@ -167,12 +167,7 @@ all_first b name key (Some x) products first bound basis place role c ask =
       λ s l all. ⊎_elim (λ t. f.2 s l t) (λ none u v d e hu hv pu pv. absurd (none v e hv pv)) (tried_or_nothing b name key bound basis place role c products ask s l),
     )
 
--- the first of the rows is a candidate
-pub best_placed : (b : Keyed) (name : RouteColumn) (rest : ℕ → ℤ) (o : Option Candidate) → IsBestRow (length b.rows) b.rows rest b.values b.products (length b.rows) o → ForSome o (IsPlacedCandidate b name)
-best_placed b name rest None best x e = absurd cc
-best_placed b name rest (Some y) best x e = let same : y ≡ x = cc in subst (IsPlacedCandidate b name) same (record { inside = omega (arith, best.0.inside); is = inl best.0 })
-
--- and the first of their roles
+-- the first of the rows is the first of their roles
 pub best_first_of_rows : (b : Keyed) (name : RouteColumn) (key : List LinkId) (o : Option Candidate) → HaveColumnProducts b name key
     → ((rest : ℕ → ℤ) → HaveValues (length b.rows) b.rows rest b.values → IsBestRow (length b.rows) b.rows rest b.values b.products (length b.rows) o) → IsFirstOfRoles b name (λ r. r < length b.rows) (role_in o)
 best_first_of_rows b name key o products best bound basis place role c ask =
