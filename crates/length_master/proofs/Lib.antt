@@ -1,5 +1,4 @@
 mod Scaling
 mod Optimal
 mod Slots
-mod Steps
 mod WideShares
