@@ -50,10 +50,6 @@ module _ (tested : List Tested) (robust : Bool) where
       → made ≡ divided_line links divisor (weighed tested ms)
   divided_is links divisor ms made is = is.is ∙ ap (λ ts. divided_line links divisor ts) (terms_told links divisor ms made is).1
 
-  -- its numbers keep their limits
-  pub divided_limits : (links : List Link) (divisor : ℕ) (ms : List Multiplier) (made : Inequality) → IsDividedLine links (names_by tested robust) divisor ms made → KeepsLimits divisor ms
-  divided_limits links divisor ms made is = record { positive = is.positive; divisor_limit = is.divisor_limit; some = is.some; few = is.few; nums = is.nums }
-
   pub divided_need : (links : List Link) (divisor : ℕ) (ms : List Multiplier) (made : Inequality) → IsDividedLine links (names_by tested robust) divisor ms made → summed_need (weighed tested ms) < 2 ^ 126
   divided_need links divisor ms made is = subst (λ ts. summed_need ts < 2 ^ 126) (terms_told links divisor ms made is).1 is.need_limit
 

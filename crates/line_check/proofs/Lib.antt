@@ -11,7 +11,6 @@ pub mod LinesMet
 pub mod TestedMore
 pub mod NamesOn
 pub mod SourcesTold
-pub mod NamesOnce
 pub mod KindWeights
 pub mod PlainTables
 pub mod FailingTables

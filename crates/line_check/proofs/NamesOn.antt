@@ -1,12 +1,11 @@
 -- what the indices of sources and of tests name
-use Rattle.std.proofs.Common.{◌≡◌, ◌≢◌, ◌++◌, ℕ, zero, suc, ◌<◌, inl, inr, ⊎_elim, Bool, true, false, IsTrue, List, [], ◌∷◌, Some, get_or, length, length-append, slice_get, refl, ap, sym, subst, arith}
+use Rattle.std.proofs.Common.{◌≡◌, ◌≢◌, ◌++◌, ℕ, zero, suc, ◌<◌, inl, inr, ⊎_elim, Bool, true, false, IsTrue, List, [], ◌∷◌, Some, get_or, length, length-append, slice_get, refl, sym, subst, arith}
 use Rattle.net_core.proofs.Library.{cases_eq, slice_get_within}
 use Rattle.plan_terms.specs.Terms.{Case, CutLine, IsCut}
 use Rattle.line_check.specs.Inequalities.{line_of_cut}
-use Rattle.line_check.specs.Lines.{IsMadeAt, IsMadeOf, Source, names_among, sources_of}
+use Rattle.line_check.specs.Lines.{IsMadeAt, IsMadeOf, Source, names_among}
 use Rattle.line_check.specs.Testing.{AreTested, names_by, no_test, says, test_at}
 use Rattle.line_check.specs.declared.inequality.Inequality.{Inequality}
-use Rattle.line_check.specs.declared.line.Line.{Line}
 use Rattle.line_check.specs.declared.tested.Tested.{Tested}
 
 -- the index of a source names the line that it makes
@@ -35,21 +34,6 @@ tested_front tested more robust i line names =
     )
 
 -- ---- cuts
-
--- as many as the cuts
-pub cut_sources : (cuts : List CutLine) → length (sources_of cuts []) ≡ length cuts
-cut_sources [] = refl
-cut_sources (c ∷ cs) = omega (arith, cut_sources cs)
-
--- a cut more
-pub cut_pushed : (cuts : List CutLine) (cut : CutLine) → sources_of (cuts ++ cut ∷ []) [] ≡ sources_of cuts [] ++ inl cut ∷ []
-cut_pushed [] cut = refl
-cut_pushed (c ∷ cs) cut = ap (λ (ss : List Source). inl c ∷ ss) (cut_pushed cs cut)
-
-pub cut_at : (cuts : List CutLine) (lines : List Line) (i : ℕ) (cut : CutLine) → slice_get cuts i ≡ Some cut → slice_get (sources_of cuts lines) i ≡ Some (inl cut)
-cut_at [] lines i cut at = absurd (cc at)
-cut_at (c ∷ cs) lines zero cut at = let same : c ≡ cut = cc at in ap (λ (x : CutLine). Some (inl x)) same
-cut_at (c ∷ cs) lines (suc i) cut at = cut_at cs lines i cut at
 
 -- the place of a cut of the case names its line
 pub cut_names : (p : Case) (sources : List Source) (tested : List Tested) (i : ℕ) (cut : CutLine) → AreTested p sources tested → slice_get sources i ≡ Some (inl cut)

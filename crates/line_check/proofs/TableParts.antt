@@ -1,24 +1,17 @@
 -- the parts of table lines
-use Rattle.std.proofs.Common.{◌≡◌, ℕ, zero, suc, ◌+◌, ◌-◌, ◌<◌, ◌≤◌, ⊎_elim, ◌↔◌, Bool, true, false, add-one, eq-eqb, ne_eqb, List, [], ◌∷◌, drop, length, min, slice_index, take, zip, refl, ap, subst, arith}
-use Rattle.std.proofs.lemmas.List.{take_all}
+use Rattle.std.proofs.Common.{◌≡◌, ℕ, zero, suc, ◌+◌, ◌-◌, ◌<◌, ◌≤◌, ⊎_elim, ◌↔◌, Bool, true, false, add-one, ne_eqb, List, [], ◌∷◌, drop, length, min, slice_index, zip, refl, ap, subst, arith}
 use Rattle.net_core.proofs.Library.{both_ways, cases_lt}
-use Rattle.cover_table.specs.CoverWeights.{CoversNeed, IsLeastWeight}
+use Rattle.cover_table.specs.CoverWeights.{CoversNeed}
 use Rattle.plan_terms.specs.Terms.{Case, Link}
 use Rattle.line_check.specs.Inequalities.{module_number, need_of}
 use Rattle.line_check.specs.Lines.{AreKinds, IsTableOver, IsTableRight, IsWeightWithout, NeverFails, capped, weight_of}
 use Rattle.line_check.specs.declared.inequality.Inequality.{Inequality}
 use Rattle.line_check.specs.declared.line.TableKind.{TableKind}
 use Rattle.line_check.specs.declared.line.TableKind.TheVariants.{Plain, Failing}
-use Rattle.line_check.specs.inner.Tables.{AreLeast, GivesOn}
+use Rattle.line_check.specs.inner.Tables.{GivesOn}
 use Rattle.line_check.proofs.RisingKinds.{kinds_same}
 
 -- ---- the weight of a kind
-
-pub weight_here : (kinds weights : List ℕ) (n k : ℕ) → length weights ≡ length kinds → k < length kinds → slice_index kinds k ≡ n → weight_of (zip (drop k kinds) (drop k weights)) n ≡ slice_index weights k
-weight_here [] weights n k paired inside is = absurd (omega (arith, inside))
-weight_here (x ∷ xs) [] n k paired inside is = absurd (omega (arith, paired))
-weight_here (x ∷ xs) (w ∷ ws) n zero paired inside is = rw (eq-eqb x n is) refl
-weight_here (x ∷ xs) (w ∷ ws) n (suc k) paired inside is = weight_here xs ws n k (omega (arith, paired)) (omega (arith, inside)) is
 
 weight_suc : (kinds weights : List ℕ) (n k : ℕ) → length weights ≡ length kinds → k < length kinds → (slice_index kinds k ≡ n → ⊥)
     → weight_of (zip (drop k kinds) (drop k weights)) n ≡ weight_of (zip (drop (suc k) kinds) (drop (suc k) weights)) n
@@ -30,14 +23,6 @@ weight_suc (x ∷ xs) (w ∷ ws) n (suc k) paired inside isn't = weight_suc xs w
 pub weight_later : (kinds weights : List ℕ) (n k : ℕ) → length weights ≡ length kinds → k < length kinds → (slice_index kinds k ≡ n → ⊥)
     → weight_of (zip (drop k kinds) (drop k weights)) n ≡ weight_of (zip (drop (k + 1) kinds) (drop (k + 1) weights)) n
 weight_later kinds weights n k paired inside isn't = rw add-one (weight_suc kinds weights n k paired inside isn't)
-
-pub weight_past : (kinds weights : List ℕ) (n k : ℕ) → length weights ≡ length kinds → length kinds ≤ k → weight_of (zip (drop k kinds) (drop k weights)) n ≡ 0
-weight_past [] [] n zero paired past = refl
-weight_past [] [] n (suc k) paired past = refl
-weight_past [] (w ∷ ws) n k paired past = absurd (omega (arith, paired))
-weight_past (x ∷ xs) [] n k paired past = absurd (omega (arith, paired))
-weight_past (x ∷ xs) (w ∷ ws) n zero paired past = absurd (omega (arith, past))
-weight_past (x ∷ xs) (w ∷ ws) n (suc k) paired past = weight_past xs ws n k (omega (arith, paired)) (omega (arith, past))
 
 -- ---- links that no state fails
 
@@ -59,12 +44,6 @@ pub record IsLeastSo (p : Case) (over : Inequality) (kinds weights : List ℕ) (
   pub some : (k : ℕ) × IsWeightWithout p over kinds weights k right
   pub each : (k : ℕ) → k < count → (weight : ℕ) × IsWeightWithout p over kinds weights k weight × (right ≤ weight)
 
-pub first_so : (p : Case) (over : Inequality) (kinds weights : List ℕ) (weight : ℕ) → IsWeightWithout p over kinds weights 0 weight → IsLeastSo p over kinds weights 1 weight
-first_so p over kinds weights weight is = record {
-  some = (0, is);
-  each = λ k lt. let same : 0 ≡ k = omega (arith, lt) in (weight, subst (λ i. IsWeightWithout p over kinds weights i weight) same is, omega arith);
-}
-
 pub more_so : (p : Case) (over : Inequality) (kinds weights : List ℕ) (k right weight : ℕ) → IsLeastSo p over kinds weights k right → IsWeightWithout p over kinds weights k weight
     → IsLeastSo p over kinds weights (k + 1) (min right weight)
 more_so p over kinds weights k right weight so is = record {
@@ -80,18 +59,6 @@ more_so p over kinds weights k right weight so is = record {
       (weight, subst (λ i. IsWeightWithout p over kinds weights i weight) same is, omega arith))
       (cases_lt j k);
 }
-
-pub failing_so : (p : Case) (over : Inequality) (kinds weights : List ℕ) (count right : ℕ) → length kinds ≤ count → IsLeastSo p over kinds weights count right → IsTableRight p over kinds weights Failing right
-failing_so p over kinds weights count right all so = (so.some, λ k inside. so.each k (omega (arith, inside, all)))
-
--- the last of the least weights is that of all kinds
-pub plain_so : (kinds weights : List ℕ) (need : ℕ) (least : List ℕ) → length weights ≡ length kinds → 0 < length kinds → AreLeast kinds weights need least
-    → IsLeastWeight kinds weights need (slice_index least (length kinds - 1))
-plain_so kinds weights need least paired some are =
-    let last = are.each (length kinds - 1) (omega (arith, some)) in
-    let full : length kinds ≤ length kinds - 1 + 1 = omega (arith, some) in
-    subst (λ xs. IsLeastWeight xs weights need (slice_index least (length kinds - 1))) (take_all (length kinds - 1 + 1) kinds full)
-    (subst (λ ws. IsLeastWeight (take (length kinds - 1 + 1) kinds) ws need (slice_index least (length kinds - 1))) (take_all (length kinds - 1 + 1) weights (omega (arith, full, paired))) last)
 
 -- ---- where there is no table line
 

@@ -51,15 +51,6 @@ made_of_robust p names to (inr (Divided divisor terms)) made is = divided_under 
 made_of_robust p names to (inr (Table index Plain weights)) made is = (is.0, to index is.0 is.1, is.2)
 made_of_robust p names to (inr (Table index Failing weights)) made is = absurd (false≢true (sym is.0))
 
--- an index that names a robust line names it as a line
-pub robust_names : (p : Case) (sources : List Source) (n i : ℕ) (l : Inequality) → names_among p sources n true i l → names_among p sources n false i l
-robust_names p sources zero i l names = absurd names
-robust_names p sources (suc n) i l (inl before) = inl (robust_names p sources n i l before)
-robust_names p sources (suc n) i l (inr here) = inr (
-  here.0,
-  record { source = here.1.source; at = here.1.at; is = made_of_robust p (names_among p sources n) (robust_names p sources n) here.1.source l here.1.is },
-)
-
 -- ---- sources that are appended
 
 get_before : {X : Type 0} (xs : List X) (x : X) (i : ℕ) → i < length xs → slice_get (xs ++ x ∷ []) i ≡ slice_get xs i
@@ -167,10 +158,6 @@ module _ (p : Case) (sources : List Source) (tested : List Tested) (source : Sou
         same = longer ∙ sym count;
         names = λ robust i l. subst (λ n. names_among p (sources ++ source ∷ []) n robust i l ↔ names_by (tested ++ t ∷ []) robust i l) (sym count) (to_tests robust i l, from_tests robust i l);
       }
-
--- nothing is tested at first
-pub tested_none : (p : Case) → AreTested p [] []
-tested_none p = record { same = refl; names = λ robust i l. (λ none. absurd none, λ by. absurd (omega (arith, by.0))) }
 
 -- a cut more
 pub cut_more : (p : Case) (cuts : List CutLine) (tested : List Tested) (i : ℕ) (d : CutLine) (t : Tested) → i < length cuts
