@@ -123,9 +123,6 @@ apart_push n [] e below at apart = (tt, tt)
 apart_push n (x ∷ es) e below at apart = (each_push (λ f. x.row ≢ f.row) es e apart.0 (λ eq. omega (arith, eq, at, below.0)), apart_push n es e below.1 at apart.1)
 
 module _ (pairs : List UnitPair) (lengths : List ℕ) where
-  pub entries_none : AreEntriesOf pairs lengths 0 []
-  entries_none = record { below = tt; are = record { each = tt; once = tt }; each = λ k. sym (ap (λ t. cond t (pos (length_entry pairs lengths k)) (pos 0)) (le-ltb k 0 (omega arith))) }
-
   abbrev value : ℕ → ℤ
   value k = pos (length_entry pairs lengths k)
 

@@ -1,4 +1,3 @@
-mod Adding
 mod Amounts
 mod Asked
 mod Certifying

@@ -20,9 +20,6 @@ network_modules net = ∥∥₁_elim net.checked (hlevel props) (λ is. λ k d l
 pub network_few : (net : Network) → length net.links ≤ 256
 network_few net = ∥∥₁_elim net.checked (hlevel props) (λ is. is.few_links)
 
-pub network_fixed : (net : Network) → All (λ l. l.fixed < 2 ^ 40) net.links
-network_fixed net = ∥∥₁_elim net.checked (hlevel props) (λ is. λ k d lt. (is.sound k d lt).fixed)
-
 pub task_packing : (links : List Link) (pairs : List UnitPair) (cuts : List CutLine) → All (λ l. All IsModule l.modules) links → AreUnitPairs links pairs → All (λ cut. HaveBound links cut.lengths) cuts → All (IsNarrowCut links pairs) cuts
     → All (λ p. p.cost < 2 ^ 40) pairs → AllPairs (λ a b. IsSameCut a b → ⊥) cuts → IsPacking (length links) (master_bound pairs) (IsMasterColumn links pairs cuts)
 task_packing links pairs cuts sound units bound narrow costs different =
