@@ -1,5 +1,5 @@
 -- the master program is a packing program, where its numbers are narrow
-use Rattle.std.proofs.Common.{◌≡◌, ◌≢◌, ℕ, zero, suc, ◌*◌, ◌<◌, ◌≤◌, List, [], All, AllPairs, Any, Contains, Some, length, slice_get, slice_index, get_or, refl, sym, ap, ◌∙◌, arith, subst, ⊎_elim}
+use Rattle.std.proofs.Common.{◌≡◌, ◌≢◌, ℕ, ◌*◌, ◌<◌, ◌≤◌, List, [], All, AllPairs, Any, Contains, Some, length, slice_get, slice_index, get_or, sym, ap, ◌∙◌, arith, subst, ⊎_elim}
 use Rattle.net_core.proofs.Library.{cases_eq, cases_lt, get_or_default, All-contains, ints}
 use Rattle.std.proofs.Math.Nat.{mul-le-mul_left}
 use Rattle.std.proofs.Math.IntN.{pos}
@@ -16,10 +16,6 @@ use Rattle.master_law.proofs.Columns.{pair_below}
 
 abbrev link_id : ℕ → LinkId
 link_id e = record { 0 = e }
-
-not_zero : (n : ℕ) → n ≢ 0 → 0 < n
-not_zero zero h = absurd (h refl)
-not_zero (suc n) h = omega arith
 
 product : (a b : ℕ) → 0 < a → 0 < b → pos 0 <ℤ pos (a * b)
 product a b ha hb = let m : a * 1 ≤ a * b = mul-le-mul_left a (omega (arith, hb)) in omega (arith, ints, m, ha)
