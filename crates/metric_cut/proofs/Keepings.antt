@@ -1,10 +1,9 @@
 -- lengths masked, divided and kept
-use Rattle.std.proofs.Common.{◌≡◌, ◌≢◌, ℕ, zero, suc, ◌+◌, ◌*◌, ◌/◌, ◌≤◌, ◌<◌, ◌⊎◌, List, [], ◌∷◌, All, Any, length, get_or, take, ◌++◌, slice_index, slice_set, slice_get, Some, ⊎_elim, inl, inr, refl, sym, ap, ◌∙◌, subst, arith, add-one}
+use Rattle.std.proofs.Common.{◌≡◌, ◌≢◌, ℕ, zero, suc, ◌+◌, ◌*◌, ◌/◌, ◌≤◌, ◌<◌, ◌⊎◌, List, [], ◌∷◌, All, Any, length, get_or, take, ◌++◌, slice_index, slice_get, Some, ⊎_elim, inl, inr, refl, sym, ap, ◌∙◌, subst, arith, add-one}
 use Rattle.std.proofs.Math.ListN.{get_or-eq_default}
 use Rattle.net_core.proofs.Library.{mul-dvd-mul_right, dvd_of_mul-dvd-mul_right, eq-one_of_dvd-one, div-mul_cancel, zero-dvd, cases_eq, cases_lt, dvd-zero, get_or_default_zero, slice_get_within, IsGcd, ◌∣◌}
 use Rattle.std.proofs.Math.Seq.{take-suc}
 use Rattle.std.proofs.lemmas.Nat.Gcd.{le_of_dvd}
-use Rattle.std.proofs.lemmas.List.{get_or-set_same, get_or-set_other, length-set}
 use Rattle.plan_terms.specs.Terms.{Link, Graph, Survives, IsGreatestDivisor, AreKept, AreZero, Keeps}
 use Rattle.plan_terms.proofs.Lemmas.{divisor_both, divisor_one}
 use Rattle.metric_cut.specs.Bounded.{HaveBound}
@@ -21,51 +20,6 @@ pub record AreDividedBelow (common n : ℕ) (lengths divided : List ℕ) : Type 
   pub count : length divided ≡ length lengths
   pub each : (e : ℕ) → e < n → e < length lengths → slice_index divided e ≡ slice_index lengths e / common
   pub rest : (e : ℕ) → n ≤ e → slice_index divided e ≡ slice_index lengths e
-
-module _ (g : Graph) (n : ℕ) (lengths masked : List ℕ) (so_far : AreMaskedBelow g n lengths masked) where
-  -- a surviving link more
-  pub mask_keeps : Survives g n → AreMaskedBelow g (n + 1) lengths masked
-  mask_keeps survives = record {
-    count = so_far.count;
-    same = so_far.same;
-    zero = λ e lt some. ⊎_elim
-        (λ same. subst (Survives g) (sym same) survives)
-        (λ other. so_far.zero e (omega (arith, lt, other)) some)
-        (cases_eq e n);
-  }
-
-  -- a link more that doesn't survive
-  pub mask_sets : n < length masked → (Survives g n → ⊥) → AreMaskedBelow g (n + 1) lengths (slice_set masked n 0)
-  mask_sets inside fails = record {
-    count = length-set masked n 0 ∙ so_far.count;
-    same = λ e survives. get_or-set_other masked n e 0 0 (λ same. fails (subst (Survives g) same survives)) ∙ so_far.same e survives;
-    zero = λ e lt some. ⊎_elim
-        (λ same. absurd (some (subst (λ i. slice_index (slice_set masked n 0) i ≡ 0) (sym same) (get_or-set_same masked n 0 0 inside))))
-        (λ other. so_far.zero e (omega (arith, lt, other)) (λ none. some (get_or-set_other masked n e 0 0 other ∙ none)))
-        (cases_eq e n);
-  }
-
-  pub mask_ends : length lengths ≤ n → AreMasked g lengths masked
-  mask_ends all = record {
-    count = so_far.count;
-    same = so_far.same;
-    zero = λ e some. ⊎_elim
-        (λ lt. so_far.zero e lt some)
-        (λ ge. absurd (some (get_or-eq_default masked 0 (omega (arith, ge, all, so_far.count)))))
-        (cases_lt e n);
-  }
-
--- one length more over a divisor
-pub divide_step : (common n v : ℕ) (lengths divided : List ℕ) → n < length divided → v ≡ slice_index divided n / common → AreDividedBelow common n lengths divided → AreDividedBelow common (n + 1) lengths (slice_set divided n v)
-divide_step common n v lengths divided inside is so_far = record {
-  count = length-set divided n v ∙ so_far.count;
-  each = λ e lt within. ⊎_elim
-      (λ same. subst (λ i. slice_index (slice_set divided n v) i ≡ slice_index lengths i / common) (sym same)
-      (get_or-set_same divided n v 0 inside ∙ (is ∙ ap (λ i. i / common) (so_far.rest n (omega arith)))))
-      (λ other. get_or-set_other divided n e v 0 other ∙ so_far.each e (omega (arith, lt, other)) within)
-      (cases_eq e n);
-  rest = λ e ge. get_or-set_other divided n e v 0 (λ same. omega (arith, ge, same)) ∙ so_far.rest e (omega (arith, ge));
-}
 
 -- one length more
 pub divisor_step : (n : ℕ) (lengths : List ℕ) (d g h : ℕ) → n < length lengths → IsGreatestDivisor (take n lengths) g → IsGcd g (get_or lengths n d) h → IsGreatestDivisor (take (n + 1) lengths) h
