@@ -72,9 +72,6 @@ none_some (Some g) f n s = absurd cc
 pub network_differs : (nodes : List (List ℕ)) (links : List Link) → ∥ IsNetwork nodes links ∥₁ → AllPairs (λ x y. x.name ≢ y.name) links
 network_differs nodes links net i j d lt within same = ∥∥₁_elim net (λ x y. absurd x) (λ (sound : IsNetwork nodes links). sound.different_links i j d lt within same)
 
-too_many : (nodes : List (List ℕ)) (links : List Link) → ∥ IsNetwork nodes links ∥₁ → 256 < length links → ⊥
-too_many nodes links net many = ∥∥₁_elim net (λ x y. absurd x) (λ (sound : IsNetwork nodes links). let few : length links ≤ 256 = sound.few_links in omega (arith, few, many))
-
 pub network_singles : (nodes : List (List ℕ)) (links : List Link) → ∥ IsNetwork nodes links ∥₁ → AreStates (length links) (single_states links)
 network_singles nodes links net = singles_are_states links (few_links nodes links net) (network_differs nodes links net)
 
