@@ -1,6 +1,6 @@
 -- from the routings of states to what the links carry
-use Rattle.std.proofs.Common.{◌≡◌, ℕ, zero, suc, ◌+◌, ◌-◌, ◌*◌, ◌^◌, ◌<◌, ◌≤◌, ◌==◌, ◌||◌, ◌⊎◌, Bool, true, false, cond, if◌then◌else◌, List, [], ◌∷◌, ◌++◌, All, AllPairs, Some, get_or, inl, inr, length, length-append, max, refl, replicate, sym, ◌∙◌, ap, subst, arith, slice_get, sum_by, ⊎_elim, eqb, eqb-true}
-use Rattle.net_core.proofs.Library.{get_or-replicate, length-replicate, sum_by-cons, cases_Bool, cases_lt, false≢true, get_or_from_slice_get, slice_get_within, ∥∥₁_elim, props}
+use Rattle.std.proofs.Common.{◌≡◌, ℕ, zero, suc, ◌+◌, ◌-◌, ◌*◌, ◌^◌, ◌<◌, ◌≤◌, ◌==◌, ◌||◌, ◌⊎◌, Bool, true, false, cond, if◌then◌else◌, List, [], ◌∷◌, ◌++◌, All, AllPairs, Some, get_or, inl, inr, length, length-append, max, refl, sym, ◌∙◌, ap, subst, arith, slice_get, sum_by, ⊎_elim, eqb, eqb-true}
+use Rattle.net_core.proofs.Library.{sum_by-cons, cases_Bool, cases_lt, false≢true, get_or_from_slice_get, slice_get_within, ∥∥₁_elim, props}
 use Rattle.plan_terms.specs.Terms.{AreDemands, IsDemand, IsLink, IsNetwork, names_link, Demand, LinkId, Link, Flow, Routing, Case, graph_in, Graph, Joins, Survives, IsLeastFlow, IsLeastRouting, peak, IsFlow, load, Leads}
 use Rattle.plan_terms.proofs.Lemmas.{DistinctLinks, path_links_differ, path_links_known, path_few, joins_within}
 use Rattle.module_choice.specs.inner.Routes.{AreRouted, times, weight}
@@ -122,16 +122,6 @@ get_cases (a ∷ xs) y x (suc p) h = ⊎_elim (λ l. inl l) (λ r. inr (ap suc r
 pub network_links : (nodes : List (List ℕ)) (links : List Link) → ∥ IsNetwork nodes links ∥₁ → All (IsLink (length nodes)) links
 network_links nodes links checked = ∥∥₁_elim checked (hlevel props) (λ net. net.sound)
 
--- no state yet
-pub routed_none : (p : Case) (lengths : List ℕ) → AreRouted p lengths 0 [] (replicate (length p.links) 0)
-routed_none p lengths = record {
-  count = refl;
-  routed = λ s r at. absurd (cc);
-  size = length-replicate (length p.links) 0;
-  greatest = λ e lt. get_or-replicate (length p.links) e 0 0 lt;
-  small = λ e. omega arith;
-}
-
 -- one more state
 pub routed_more : (p : Case) (lengths : List ℕ) (n : ℕ) (routings : List Routing) (r : Routing) (peaks loads raised : List ℕ)
     → AreRouted p lengths n routings peaks
@@ -151,14 +141,3 @@ routed_more p lengths n routings r peaks loads raised so_far least total loaded 
   greatest = λ e lt. omega (arith, rises e (omega (arith, lt, so_far.size)), so_far.greatest e lt, loaded e lt, load_is_weight (graph_in p n) p.demands r.flows e (least_flows (Joins (graph_in p n)) lengths p.demands r least), peak_more routings r e);
   small = λ e. omega (arith, peak_more routings r e, so_far.small e, load_all r.flows e, total);
 }
-
--- one more link's counts
-pub each_more : (P : ℕ → Link → List ℕ → Type 0) (links : List Link) (counts : List (List ℕ)) (k : Link) (c : List ℕ) (e : ℕ) → length counts ≡ e → slice_get links e ≡ Some k → P e k c
-    → ((i : ℕ) (l : Link) (d : List ℕ) → slice_get links i ≡ Some l → slice_get counts i ≡ Some d → P i l d)
-    → (i : ℕ) (l : Link) (d : List ℕ) → slice_get links i ≡ Some l → slice_get (counts ++ c ∷ []) i ≡ Some d → P i l d
-each_more P links counts k c e long at here before i l d is got = ⊎_elim
-    (λ old. before i l d is old)
-    (λ last. let same : i ≡ e = last.0 ∙ long in
-    let one : l ≡ k = cc (subst (λ j. slice_get links j ≡ Some l) same is, at) in
-    subst (λ x. P i l x) (sym last.1) (subst (λ j. P j l c) (sym same) (subst (λ (x : Link). P e x c) (sym one) here)))
-    (get_cases counts c d i got)

@@ -153,14 +153,6 @@ fewer_cost m n need count c same enough reach =
     let less : m.cost * count ≤ m.cost * c = mul-le-mul_left m.cost (enough.least c reach') in
     subst (λ x. m.cost * count ≤ x.cost * c) same less
 
-pub best_first : (ms : List Module) (m : Module) (need : ℕ) (kind : Kind) → kind.at ≡ 0 → slice_get ms 0 ≡ Some m → IsEnough m.capacity need kind.count → IsBestSoFar ms 1 need kind
-best_first ms m need kind first at enough = record {
-  module_at = m;
-  is = subst (λ i. slice_get ms i ≡ Some m) (sym first) at;
-  enough = enough;
-  least = λ j x c lt is reach. let none : j ≡ 0 = omega arith in fewer_cost m x need kind.count c (same_at ms 0 m x at (subst (λ i. slice_get ms i ≡ Some x) none is)) enough reach;
-}
-
 -- one more kind, which is no better
 pub best_stays : (ms : List Module) (k need other : ℕ) (kind : Kind) (a b : Module) → slice_get ms kind.at ≡ Some a → slice_get ms k ≡ Some b → IsBestSoFar ms k need kind → IsEnough b.capacity need other → a.cost * kind.count ≤ b.cost * other → IsBestSoFar ms (k + 1) need kind
 best_stays ms k need other kind a b at_is k_is best enough less = record {

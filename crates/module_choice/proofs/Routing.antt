@@ -1,6 +1,6 @@
 -- one demand after another gets its flow
 use Rattle.std.proofs.Common.{◌≡◌, ℕ, ◌+◌, ◌<◌, ◌≤◌, List, [], ◌∷◌, ◌++◌, All, Any, Some, length, length-append, refl, sym, ◌∙◌, ap, subst, arith, slice_get, sum_by, take, ⊎_elim}
-use Rattle.net_core.proofs.Library.{get_or_append_left, sum_by-append, sum_by-cons, sum_by_more, All-nil, All-push, Any-push, all_pairs_push, cases_eq, get_or_from_slice_get, slice_get_within}
+use Rattle.net_core.proofs.Library.{get_or_append_left, sum_by-append, sum_by-cons, sum_by_more, All-push, Any-push, all_pairs_push, cases_eq, get_or_from_slice_get, slice_get_within}
 use Rattle.std.proofs.lemmas.List.{take_all}
 use Rattle.plan_terms.specs.Terms.{Demand, LinkId, Flow, IsLeastFlow, IsLeastRouting, IsLeastPath}
 use Rattle.module_choice.specs.inner.Routes.{AreLeastFlows, TakesDemand}
@@ -9,15 +9,6 @@ any_before : {X : Type 0} (P : X → Type 0) (xs : List X) (x : X) → Any P xs 
 any_before P xs x a = (a.0, a.1, omega (arith, a.2, length-append xs (x ∷ [])), get_or_append_left xs (x ∷ []) a.1 a.0 a.2 ∙ a.3, a.4)
 
 module _ (joins : ℕ → ℕ → ℕ → Type 0) (lengths : List ℕ) (demands : List Demand) where
-  pub flows_none : AreLeastFlows joins lengths demands 0 []
-  flows_none = record {
-    each = All-nil (IsLeastFlow joins lengths demands);
-    early = All-nil (λ f. f.demand < 0);
-    every = λ j d lt is some. absurd (omega arith);
-    ordered = λ i j d lt in'. absurd (omega arith);
-    total = refl;
-  }
-
   pub same_demand : (k : ℕ) (d e : Demand) → slice_get demands k ≡ Some d → slice_get demands k ≡ Some e → e ≡ d
   same_demand k d e p q = cc (p, q)
 

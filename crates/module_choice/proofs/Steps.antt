@@ -1,8 +1,7 @@
 -- capacities in steps of their greatest common divisor, and covers by a table
-use Rattle.std.proofs.Common.{◌≡◌, ◌≢◌, ℕ, zero, suc, ◌+◌, ◌*◌, ◌^◌, ◌/◌, ◌<◌, ◌≤◌, List, [], ◌∷◌, ◌++◌, All, Some, add-one, ap, arith, get_or, inl, length, map, refl, slice_get, subst, sym, take, ◌∙◌, ⊎_elim}
-use Rattle.net_core.proofs.Library.{◌∣◌, AllByRecursion, le_of_dvd, mul-div_cancel', cases_eq, cases_lt, map-append, All-cons, All-from_recursion, All-nil, recursion_from_All, le-div}
+use Rattle.std.proofs.Common.{◌≡◌, ◌≢◌, ℕ, zero, suc, ◌+◌, ◌*◌, ◌^◌, ◌/◌, ◌<◌, ◌≤◌, List, [], ◌∷◌, All, Some, ap, arith, inl, length, map, refl, slice_get, subst, sym, ◌∙◌, ⊎_elim}
+use Rattle.net_core.proofs.Library.{◌∣◌, AllByRecursion, le_of_dvd, mul-div_cancel', cases_eq, cases_lt, All-cons, All-from_recursion, All-nil, recursion_from_All, le-div}
 use Rattle.std.proofs.Math.Nat.{mul-div-le, mul-le-mul_left}
-use Rattle.std.proofs.Math.Seq.{take-suc}
 use Rattle.plan_terms.specs.Terms.{Module, IsModule, IsGreatestDivisor, modules_capacity, modules_cost, IsFewSteps, Reaches}
 use Rattle.plan_terms.proofs.Lemmas.{divisor_limit, divisor_unique}
 use Rattle.module_choice.specs.declared.tables.Entry.{Entry}
@@ -51,15 +50,6 @@ some_scaled step ms [] same is some =
     let le : step + 1 ≤ step = le_of_dvd some (none.greatest (step + 1) (All-nil (λ x. step + 1 ∣ x))) in
     absurd (omega (arith, le))
 some_scaled step ms (m ∷ scaled) same is some = omega arith
-
--- one module more in steps
-pub scaled_more : (step i : ℕ) (ms scaled : List Module) (d m : Module) → i < length ms → take i ms ≡ in_units step scaled → (get_or ms i d).capacity ≡ step * m.capacity → (get_or ms i d).cost ≡ m.cost → take (i + 1) ms ≡ in_units step (scaled ++ m ∷ [])
-scaled_more step i ms scaled d m lt before capacity cost =
-    let more : take (i + 1) ms ≡ take i ms ++ get_or ms i d ∷ [] = rw add-one (take-suc ms i d lt) in
-    let one : get_or ms i d ≡ record { capacity = step * m.capacity; cost = m.cost } =
-    ap (λ x. record { capacity = x; cost = (get_or ms i d).cost }) capacity ∙ ap (λ x. record { capacity = step * m.capacity; cost = x }) cost in
-    more ∙ (ap (λ xs. xs ++ get_or ms i d ∷ []) before ∙ (ap (λ x. in_units step scaled ++ x ∷ []) one
-    ∙ sym (map-append (λ (x : Module). record { capacity = step * x.capacity; cost = x.cost }) scaled (m ∷ []))))
 
 capacity_scaled : (step : ℕ) (ms : List Module) (cs : List ℕ) → modules_capacity (in_units step ms) cs ≡ step * modules_capacity ms cs
 capacity_scaled step [] cs = omega arith
