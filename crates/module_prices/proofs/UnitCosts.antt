@@ -54,15 +54,6 @@ costly m other less = (positive_factors other.cost m.capacity (omega (arith, les
 cheapest_alike : (modules : List Module) (a b : Module) → HasLeastUnitCost modules a → HasLeastUnitCost modules b → IsNoDearer a b
 cheapest_alike modules a b first second = subst (IsNoDearer a) second.one.2 (first.least second.one.0 b second.one.1)
 
--- the cheapest of a link wins where it is at least as dear
-pub dearer_moves : (modules : List Module) (other m : Module) → IsModule m → HasLeastUnitCost modules m → IsNoDearer other m → IsDearer modules other m
-dearer_moves modules other m sound is less = record {
-  sound = sound;
-  kept = less;
-  here = λ o cheapest. cheapest_alike modules o m cheapest is;
-  is = inr is;
-}
-
 -- the other stays where it is dearer
 pub dearer_stays : (modules : List Module) (other m : Module) → All IsModule modules → IsModule other → HasLeastUnitCost modules m → m.cost * other.capacity < other.cost * m.capacity → IsDearer modules other other
 dearer_stays modules other m each sound is less =
@@ -102,14 +93,6 @@ dearest_kept links n l old new at so_far same kept = ⊎_elim
     kept)
     (λ some. inr (subst (λ m. Any (λ l. HasLeastUnitCost l.modules m) links) (sym same) some))
     so_far
-
--- no module yet
-pub dearest_none : (links : List Link) → IsDearestSoFar links 0 (record { capacity = 1; cost = 0 })
-dearest_none links = record {
-  sound = record { carries = omega arith; capacity = omega arith; cost = omega arith };
-  before = λ e l o lt at is. absurd (omega arith);
-  is = inl (refl, λ e l lt at. absurd (omega arith));
-}
 
 -- one more link
 pub dearest_more : (links : List Link) (n : ℕ) (l : Link) (old new : Module) → slice_get links n ≡ Some l → IsDearestSoFar links n old → IsDearer l.modules old new → IsDearestSoFar links (n + 1) new
