@@ -3,7 +3,6 @@ use Rattle.std.proofs.Common.{◌≡◌, ◌≢◌, ℕ, ◌+◌, ◌<◌, ◌�
 use Rattle.std.specs.Option.{option_or}
 use Rattle.std.specs.List.{list_any}
 use Rattle.std.proofs.Math.Seq.{drop-cons, take-suc}
-use Rattle.std.proofs.lemmas.List.{length-take-le}
 use Rattle.std.proofs.lemmas.List.Elements.{All-cons, All-nil, All-append}
 use Rattle.std.proofs.lemmas.List.Quantifiers.{all_pairs_push}
 use Rattle.std.proofs.lemmas.Bool.{leb-false, ltb-false, ltb-true, eqb-false, le-ltb, or_parts, and_parts}
@@ -14,16 +13,6 @@ use Rattle.net_core.specs.declared.network.NetFault.TheVariants.{Nodes, Links, D
 use Rattle.net_core.specs.Tests.{first_fault, is_named, is_large}
 use Rattle.net_core.specs.Network.{IsModule, IsLink, IsNetwork, has_large_amount, link_tests, links_tests, nodes_tests, network_fault}
 use Rattle.net_core.proofs.Checks.{first_fault-append, none_head, none_or, none_passes, none_named, not_true, no_pairs, or_some, or_none}
-
--- the tests of the nodes from i on begin with that of i
-pub nodes_step : (names : List (List ℕ)) (i : ℕ) → i < length names → first_fault (nodes_tests (take i names) (drop i names)) ≡ cond (is_named (λ x. x) (get_or names i []) (take i names)) (Some (DoubleNode i)) (first_fault (nodes_tests (take (i + 1) names) (drop (i + 1) names)))
-nodes_step names i h =
-    let long : length (take i names) ≡ i = length-take-le i names (omega arith) in
-    let more : take (i + 1) names ≡ take i names ++ get_or names i [] ∷ [] = rw add-one (take-suc names i [] h) in
-    let front : drop i names ≡ get_or names i [] ∷ drop (i + 1) names = rw add-one (drop-cons names i [] h) in
-    ap (λ rest. first_fault (nodes_tests (take i names) rest)) front
-    ∙ ap (λ n. cond (is_named (λ x. x) (get_or names i []) (take i names)) (Some (DoubleNode n)) (first_fault (nodes_tests (take i names ++ get_or names i [] ∷ []) (drop (i + 1) names)))) long
-    ∙ ap (λ seen. cond (is_named (λ x. x) (get_or names i []) (take i names)) (Some (DoubleNode i)) (first_fault (nodes_tests seen (drop (i + 1) names)))) (sym more)
 
 -- the tests of the links from i on begin with those of i
 pub links_step : (n : ℕ) (links : List Link) (i : ℕ) (d : Link) → i < length links → first_fault (links_tests n (take i links) (drop i links)) ≡ option_or (first_fault (link_tests n (take i links) (get_or links i d))) (first_fault (links_tests n (take (i + 1) links) (drop (i + 1) links)))

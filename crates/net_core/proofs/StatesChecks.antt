@@ -1,8 +1,6 @@
 -- what the tests of a list of failure states tell
-use Rattle.std.proofs.Common.{◌≡◌, ◌≢◌, ℕ, ◌+◌, ◌<◌, ◌≤◌, false, not, ◌==◌, nat_lt, List, [], ◌∷◌, ◌++◌, All, AllPairs, None, get_or, length, sym, ◌∙◌, ap, subst, arith, take, drop, add-one, append_assoc, append-nil}
-use Rattle.std.specs.Option.{option_or}
+use Rattle.std.proofs.Common.{◌≡◌, ◌≢◌, ℕ, ◌+◌, ◌<◌, ◌≤◌, false, not, ◌==◌, nat_lt, List, [], ◌∷◌, ◌++◌, All, AllPairs, None, get_or, length, sym, ◌∙◌, subst, arith, append_assoc, append-nil}
 use Rattle.std.specs.List.{list_any}
-use Rattle.std.proofs.Math.Seq.{drop-cons, take-suc}
 use Rattle.std.proofs.lemmas.List.Elements.{All-cons, All-nil, All-append}
 use Rattle.std.proofs.lemmas.List.Quantifiers.{all_pairs_push}
 use Rattle.std.proofs.lemmas.Bool.{ltb-false, ltb-true, eqb-false}
@@ -11,15 +9,6 @@ use Rattle.net_core.specs.declared.states.StatesFault.TheVariants.{TooMany, Empt
 use Rattle.net_core.specs.Tests.{first_fault, is_named}
 use Rattle.net_core.specs.States.{AreStates, listed_tests, all_listed_tests, states_fault}
 use Rattle.net_core.proofs.Checks.{first_fault-append, none_head, none_or, none_passes, none_named, not_true, no_pairs}
-
--- the tests of the states from i on begin with those of i
-pub listed_step : (n : ℕ) (listed : List Listed) (i : ℕ) (d : Listed) → i < length listed → first_fault (all_listed_tests n (take i listed) (drop i listed)) ≡ option_or (first_fault (listed_tests n (take i listed) (get_or listed i d))) (first_fault (all_listed_tests n (take (i + 1) listed) (drop (i + 1) listed)))
-listed_step n listed i d h =
-    let more : take (i + 1) listed ≡ take i listed ++ get_or listed i d ∷ [] = rw add-one (take-suc listed i d h) in
-    let front : drop i listed ≡ get_or listed i d ∷ drop (i + 1) listed = rw add-one (drop-cons listed i d h) in
-    ap (λ rest. first_fault (all_listed_tests n (take i listed) rest)) front
-    ∙ first_fault-append (listed_tests n (take i listed) (get_or listed i d)) (all_listed_tests n (take i listed ++ get_or listed i d ∷ []) (drop (i + 1) listed))
-    ∙ ap (λ seen. option_or (first_fault (listed_tests n (take i listed) (get_or listed i d))) (first_fault (all_listed_tests n seen (drop (i + 1) listed)))) (sym more)
 
 -- a listed state fails some links, all known ones
 pub record IsListed (n : ℕ) (l : Listed) : Type 0 where
