@@ -111,6 +111,3 @@ pub enough_step : (lefts : List ℕ) (num k : ℕ) (ks rest : List ℕ) → ks �
 enough_step lefts num k ks rest is enough =
     let now = subst (λ js. AreEnough lefts js num) is enough in
     record { each = each_after lefts num k (get_or lefts k 0 - num) rest now.different.0 now.each.1; different = now.different.1 }
-
-pub enough_first : (lefts : List ℕ) (num k : ℕ) (ks rest : List ℕ) → ks ≡ k ∷ rest → AreEnough lefts ks num → (k < length lefts) × (num ≤ get_or lefts k 0)
-enough_first lefts num k ks rest is enough = (subst (λ js. AreEnough lefts js num) is enough).each.0

@@ -121,12 +121,6 @@ all_drop P [] (suc i) all = all
 all_drop P (x ∷ xs) zero all = all
 all_drop P (x ∷ xs) (suc i) all = all_drop P xs i all.1
 
-pub different_drop : (xs : List ℕ) (i : ℕ) → AreDifferent xs → AreDifferent (drop i xs)
-different_drop [] zero different = different
-different_drop [] (suc i) different = different
-different_drop (x ∷ xs) zero different = different
-different_drop (x ∷ xs) (suc i) different = different_drop xs i different.1
-
 -- where a walk is, it began, or a leg with flow left arrived
 pub arrived : (legs : List Leg) (lefts : List ℕ) (a : ℕ) (ks : List ℕ) (b : ℕ) → Chain legs a ks b → AllByRecursion (λ k. IsLive legs lefts k) ks → (a ≡ b) ⊎ ((k : ℕ) × IsLive legs lefts k × ((leg_at legs k).to.0 ≡ b))
 arrived legs lefts a [] b chain all = inl chain
