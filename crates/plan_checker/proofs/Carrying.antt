@@ -5,7 +5,7 @@ use Rattle.plan_terms.specs.Terms.{Case, graph_in, Joins, Routing, Carries, IsFl
 use Rattle.module_choice.specs.inner.Routes.{weight}
 use Rattle.module_choice.proofs.Carrying.{load_is_weight, load_none}
 use Rattle.plan_report.specs.Terms.{known_to, AreRoutingsInForm, IsFlowInForm}
-use Rattle.plan_checker.specs.Carried.{HasBadPath, IsOverloaded, IsUncarried}
+use Rattle.plan_checker.specs.Carried.{IsOverloaded, IsUncarried}
 use Rattle.plan_checker.specs.Shares.{AreCarried}
 use Rattle.plan_checker.proofs.Places.{holds_read}
 use Rattle.plan_checker.specs.inner.Routes.{FollowPaths}
@@ -62,14 +62,6 @@ module _ (p : Case) (scale : ℕ) (nums : List ℕ) (routings : List Routing) (f
         let h = carried s (let lt = slice_get_within routings s r at in omega (arith, lt, form.long)) in
         let same : h.item ≡ r = cc (at, h.at) in
         subst (Carries (Joins (graph_in p s)) p.demands scale nums) same h.holds
-
-    pub not_astray : (s f : ℕ) → HasBadPath p routings s f → ⊥
-    not_astray s f h =
-        let carry = carried_at s h.item h.at in
-        let flow = h.holds.item in
-        let same : get_or h.item.flows f flow ≡ flow = get_or_from_slice_get h.item.flows f flow flow h.holds.at in
-        let is = subst (IsFlow (Joins (graph_in p s)) p.demands) same (carry.flows f flow (slice_get_within h.item.flows f flow h.holds.at)) in
-        h.holds.holds (record { of = is.of; at = is.at; path = is.path })
 
     pub not_unmet : (s k : ℕ) → IsUncarried p scale routings s k → ⊥
     not_unmet s k h = h.holds.holds ((carried_at s h.item h.at).met k h.holds.item h.holds.at)

@@ -3,7 +3,6 @@ pub mod Certifying
 pub mod Firsts
 pub mod FlowSums
 pub mod KeptLengths
-pub mod LineSums
 pub mod MixedSums
 pub mod Places
 pub mod SharesKept

@@ -1,5 +1,5 @@
 -- sums of mixed numbers
-use Rattle.std.proofs.Common.{◌≡◌, ℕ, ◌+◌, ◌-◌, ◌*◌, ◌/◌, ◌%◌, ◌^◌, ◌<◌, ◌≤◌, ◌⊎◌, inl, inr, ap, min, arith, ⊎_elim}
+use Rattle.std.proofs.Common.{◌≡◌, ℕ, ◌+◌, ◌-◌, ◌*◌, ◌/◌, ◌%◌, ◌^◌, ◌<◌, ◌≤◌, ◌⊎◌, ap, min, arith, ⊎_elim}
 use Rattle.std.proofs.Math.Nat.{mul-le-mul_left}
 use Rattle.net_core.proofs.Library.{cases_lt}
 use Rattle.plan_checker.specs.inner.Mixed.{IsMixed}
@@ -57,30 +57,3 @@ module _ (den n whole : ℕ) (m : Mixed) (is : IsMixed den n m) (low : whole < 2
     where
       rest_none : is.count ≡ whole → n ≡ whole * den → m.rest ≡ 0
       rest_none e same = let times : den * is.count ≡ den * whole = ap (λ i. den * i) e in omega (arith, times, same, is.parts)
-
-  pub whole_mixed : m.whole ≡ whole → m.rest ≡ 0 → n ≡ whole * den
-  whole_mixed e none =
-      let count : is.count ≡ whole = omega (arith, e, is.held, low) in
-      let times : den * is.count ≡ den * whole = ap (λ i. den * i) count in
-      omega (arith, times, is.parts, none)
-
-  -- a number that is more than a whole one
-  pub mixed_more : whole * den < n → (whole < m.whole) ⊎ ((m.whole ≡ whole) × (0 < m.rest))
-  mixed_more more = ⊎_elim
-      (λ lt. absurd (omega (arith, more, count_below lt)))
-      (λ ge. ⊎_elim
-      (λ lt. inl (omega (arith, lt, is.held, low)))
-      (λ le. let e : is.count ≡ whole = omega (arith, ge, le) in
-      let times : den * is.count ≡ den * whole = ap (λ i. den * i) e in
-      inr (omega (arith, e, is.held, low), omega (arith, times, more, is.parts)))
-      (cases_lt whole is.count))
-      (cases_lt is.count whole)
-
-  pub more_mixed : whole < m.whole → whole * den < n
-  more_mixed lt = count_above (omega (arith, lt, is.held))
-
-  pub rest_mixed : m.whole ≡ whole → 0 < m.rest → whole * den < n
-  rest_mixed e some =
-      let count : is.count ≡ whole = omega (arith, e, is.held, low) in
-      let times : den * is.count ≡ den * whole = ap (λ i. den * i) count in
-      omega (arith, times, is.parts, some)

@@ -59,9 +59,6 @@ pub record GivesBefore (links : List Link) (share : Share) (n : ℕ) (nums : Lis
   pub each : (e : ℕ) (l : Link) → slice_get links e ≡ Some l → e < n → IsShareOf l share.scale (get_or share.units e 0) (get_or nums e 0) (get_or costs e 0)
   pub sum : cost ≡ sum_by (λ c. c) costs
 
-pub share_none : (links : List Link) (share : Share) → GivesBefore links share 0 [] 0
-share_none links share = record { costs = []; nums_count = refl; costs_count = refl; each = λ e l at lt. absurd (omega (arith, lt)); sum = refl }
-
 -- a link more
 pub share_more : (links : List Link) (n : ℕ) (d : Link) (share : Share) (nums : List ℕ) (cost num paid : ℕ) → n < length links
     → IsShareOf (get_or links n d) share.scale (get_or share.units n 0) num paid → GivesBefore links share n nums cost → GivesBefore links share (n + 1) (nums ++ num ∷ []) (cost + paid)
