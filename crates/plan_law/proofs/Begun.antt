@@ -178,14 +178,3 @@ module _ (p : Case) (snapshot : List CutLine) where
       here = All-nil (λ ls. HasCut cuts (s + 1) ls);
       reach = All-weaker (IsReached s taken) (IsReached (s + 1) []) (reached_state s taken) o.opened o.reach;
     }
-
-  -- where those of all states are, the list is a beginning
-  pub opened_all : (taken : List (List ℕ)) (cuts : List CutLine) → IsOpenedTo p snapshot (length p.listed + 1) taken cuts → IsBeginning p snapshot cuts
-  opened_all taken cuts o = record {
-    opened = o.opened;
-    whole = o.whole;
-    opening = o.opening;
-    lacking = o.lacking;
-    ordered = o.ordered;
-    every = λ s le. o.before s (omega (arith, le));
-  }
