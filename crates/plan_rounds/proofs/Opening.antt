@@ -1,5 +1,5 @@
 -- opening cuts, taken one after another
-use Rattle.std.proofs.Common.{◌≡◌, ℕ, ◌+◌, ◌≤◌, ⊎_elim, List, [], ◌∷◌, ◌++◌, All, Bool, true, false, cond, length, map, sym, ap, subst, ◌∙◌, arith}
+use Rattle.std.proofs.Common.{◌≡◌, ℕ, ◌+◌, ◌≤◌, ⊎_elim, List, [], ◌∷◌, ◌++◌, All, length, map, sym, ap, subst, ◌∙◌, arith}
 use Rattle.std.proofs.lemmas.List.{append_assoc, append-nil, length-append}
 use Rattle.net_core.proofs.Library.{length-map, All-tail}
 use Rattle.plan_terms.specs.Terms.{Demand, CutLine, Case, graph_in, Graph, AreOpening, each_once}
@@ -45,10 +45,6 @@ module _ (p : Case) (pool : List CutLine) (s : ℕ) where
   pub state_opened : (cuts : List Cut) (old new : List CutLine) → All (IsCutOf (graph_in p s)) cuts → AreOpening (graph_in p s) (lengths_of_cuts cuts) → TakesCuts p.demands cuts old new
       → IsOpenedTo p pool s [] old → IsOpenedTo p pool (s + 1) [] new
   state_opened cuts old new of opening takes o = opened_state p pool s (lengths_of_cuts cuts) new (opened_takes cuts [] old new of opening o takes) opening
-
-cond_few : {X : Type 0} (b : Bool) (xs ys : List X) → length xs ≤ 2 → length ys ≤ 2 → length (cond b xs ys) ≤ 2
-cond_few true xs ys one two = one
-cond_few false xs ys one two = two
 
 takes_few : (demands : List Demand) (cuts : List Cut) (old new : List CutLine) → TakesCuts demands cuts old new → length new ≤ length old + length cuts
 takes_few demands [] old new takes = let same : length old ≡ length new = ap length takes in omega (arith, same)

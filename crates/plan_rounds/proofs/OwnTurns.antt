@@ -40,9 +40,6 @@ line_once p a b first second same =
     ∙ (ap (λ ls. record { state = b.state; lengths = ls; right = a.right }) lengths
     ∙ ap (λ r. record { state = b.state; lengths = b.lengths; right = r }) right)
 
-no_line : CutLine
-no_line = record { state = record { 0 = 0 }; lengths = []; right = 0 }
-
 -- the line of a cut that is among those of lines
 line_of_cut : (lines : List CutLine) (cut : ℕ × List ℕ) → Contains (map cut_of_line lines) cut → (line : CutLine) × Contains lines line × (cut_of_line line ≡ cut)
 line_of_cut lines cut at =
@@ -67,9 +64,6 @@ module _ (p : Case) (pairs : List UnitPair) (units : AreUnitPairs p.links pairs)
     (share : Share) (caps : Caps) (a : Answered) (old : Candidates) (answered : List (ℕ × List ℕ)) (n : ℕ) (least : IsLeastShare p.links pairs old.lines share) (gives : GivesNoLess p pairs caps share)
     (separates : All (SeparatesAt p caps) (cuts_since past now)) (apart : AllPairs (λ x y. x.0 ≢ y.0) (cuts_since past now)) (inside : All (Contains answered) (cuts_since past now)) (found_is : map cut_of_line a.found.lines ≡ answered)
     (sorted : AreSorted p caps now.history n a) (listed : AreListed p past.history old) (pool : IsPoolOfList p pairs (cuts_of past.history) old.lines) where
-  abbrev cs : List (ℕ × List ℕ)
-  cs = cuts_since past now
-
   since : cuts_of now.history ≡ cuts_of past.history ++ cuts_since past now
   since = alone_since past now part more alone
 

@@ -88,9 +88,6 @@ module _ (p : Case) (pairs : List UnitPair) where
     lowest = least.lowest;
   }
 
-  pub best_scale : (cuts : List CutLine) (best : Best) → IsBestAt p pairs cuts best → 0 < best.share.scale
-  best_scale cuts best at = (proper cuts best.share at.least).positive
-
   -- what the capacities violate, the share violates
   abbrev pub GivesNoLess : Caps → Share → Type 0
   GivesNoLess caps share = (line : CutLine) → Violates caps line → Violates (share_caps p.links pairs share) line

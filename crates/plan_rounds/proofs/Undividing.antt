@@ -1,8 +1,8 @@
 -- routings and evidence at capacities over a divisor, at the capacities themselves
-use Rattle.std.proofs.Common.{◌≡◌, ℕ, pos, ◌+◌, ◌*◌, ◌/◌, ◌^◌, ◌<◌, ◌≤◌, ◌==◌, ⊎_elim, if◌then◌else◌, List, [], ◌∷◌, ◌++◌, All, Some, None, get_or, length, map, slice_get, slice_index, refl, sym, ap, subst, ◌∙◌, arith}
+use Rattle.std.proofs.Common.{◌≡◌, ℕ, pos, ◌+◌, ◌*◌, ◌/◌, ◌^◌, ◌<◌, ◌≤◌, ◌==◌, ⊎_elim, if◌then◌else◌, List, [], ◌∷◌, ◌++◌, All, Some, get_or, length, map, slice_get, slice_index, refl, sym, ap, subst, ◌∙◌, arith}
 use Rattle.net_core.proofs.Library.{IsGcd, ◌∣◌, get_or-map, length-map, get_or-le-sum_by, dvd_trans, get_or_from_slice_get, slice_get-get_or, slice_get_within, dvd-mul_left_of_dvd, dvd_of_mul-dvd-mul_left, eq-one_of_dvd-one, mul-div_cancel', mul-dvd-mul_left}
 use Rattle.std.proofs.lemmas.Bool.{eq-eqb}
-use Rattle.std.proofs.lemmas.List.{append_assoc, append-nil, length-append}
+use Rattle.std.proofs.lemmas.List.{append_assoc, length-append}
 use Rattle.std.proofs.Math.Nat.{mul-le-mul_right}
 use Rattle.plan_terms.specs.Terms.{Evidence, Route, Master, RouteColumn, DemandSlack, LinkSlack, Number, Demand, Caps, Flow, Routing, Case, graph_in, Graph, Joins, Carries, sent}
 use Rattle.plan_terms.proofs.Lemmas.{product_below}
@@ -136,9 +136,6 @@ pub record IsUnderWay (divisor : ℕ) (all left new : List Routing) : Type 0 whe
   pub parts : all ≡ done ++ left
   pub are : AreUndivided divisor done new
 
-pub under_way_none : (divisor : ℕ) (all : List Routing) → IsUnderWay divisor all all []
-under_way_none divisor all = record { done = []; parts = refl; are = record { count = refl; each = λ i a b one. absurd (let e : None ≡ Some a = one in cc e) } }
-
 pub under_way_more : (divisor : ℕ) (all rest new : List Routing) (a b : Routing) → IsUnderWay divisor all (a ∷ rest) new → IsUndivided divisor a b → IsUnderWay divisor all rest (new ++ b ∷ [])
 under_way_more divisor all rest new a b w is = record {
   done = w.done ++ a ∷ [];
@@ -157,10 +154,6 @@ under_way_more divisor all rest new a b w is = record {
         (get_more w.done a i x one);
   };
 }
-
-pub under_way_end : (divisor : ℕ) (all left new : List Routing) → length left ≡ 0 → IsUnderWay divisor all left new → AreUndivided divisor all new
-under_way_end divisor all [] new none w = subst (λ rs. AreUndivided divisor rs new) (sym (w.parts ∙ append-nil w.done)) w.are
-under_way_end divisor all (a ∷ left) new none w = absurd (omega (arith, none))
 
 -- the quotient of a divisor and the new denominator have no common divisor
 pub undivided_of : (divisor common : ℕ) (old new : Routing) → 0 < divisor → IsGcd old.den divisor common → new.den ≡ old.den / common → new.flows ≡ map (flow_times (divisor / common)) old.flows → IsUndivided divisor old new
