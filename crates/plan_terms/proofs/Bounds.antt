@@ -1,11 +1,10 @@
 -- bounds: rounded up to a multiple of the greatest common divisor of what links charge
-use Rattle.std.proofs.Common.{◌≡◌, ℕ, zero, suc, ◌*◌, ◌/◌, ◌≤◌, ◌<◌, List, [], ◌∷◌, ◌++◌, refl, sym, ap, subst, ◌∙◌, ◌≢◌, ◌+◌, ◌⊎◌, inl, inr, ⊎_elim, arith, All, map}
+use Rattle.std.proofs.Common.{◌≡◌, ℕ, zero, suc, ◌*◌, ◌/◌, ◌≤◌, ◌<◌, List, [], ◌∷◌, ◌++◌, refl, sym, ap, subst, ◌∙◌, ◌≢◌, ◌+◌, ◌⊎◌, inl, inr, ⊎_elim, arith}
 use Rattle.std.proofs.Math.Nat.{mul-le-mul_left, lt_of_mul-lt-mul_right}
 use Rattle.net_core.proofs.Library.{le_of_mul-le-mul_left, dvd-mul_right, mul-div_cancel', All-append, All-from_recursion, recursion_from_All, dvd_refl, dvd-zero, dvd_trans, dvd_antisymm, cases_eq, ◌∣◌, IsGcd, AllByRecursion}
 use Rattle.std.proofs.lemmas.Nat.Gcd.{le_of_dvd}
 use Rattle.net_core.specs.declared.network.Link.{Link}
-use Rattle.net_core.specs.declared.network.Module.{Module}
-use Rattle.plan_terms.specs.Bounds.{IsLowest, with_setup, link_charges, charges, IsGreatestDivisor, IsBound}
+use Rattle.plan_terms.specs.Bounds.{IsLowest, charges, IsGreatestDivisor, IsBound}
 use Rattle.plan_terms.proofs.Duality.{divides_parts}
 
 -- where nothing is charged the bound is 0
@@ -30,16 +29,6 @@ bound_rounded links num den g count some is enough least = record {
       let times : num ≤ den * g * (other / g) = omega (arith, reached, ap (λ i. i * den) whole) in
       let all : g * count ≤ g * (other / g) = mul-le-mul_left g (least (other / g) times) in
       omega (arith, all, whole);
-}
-
--- a bound of 0 where nothing is asked for
-pub bound_none : (links : List Link) (den g : ℕ) → IsGreatestDivisor (charges links) g → IsBound links 0 den 0
-bound_none links den g is = record {
-  divisor = g;
-  is_divisor = is;
-  multiple = dvd-zero g;
-  reaches = λ some. omega arith;
-  least = λ other divides reached. omega arith;
 }
 
 -- a fraction in lowest terms has a positive denominator
@@ -138,25 +127,6 @@ divisor_limit xs g limit some below is = ⊎_elim
     absurd (omega (arith, le)))
     (cases_eq g 0))
     (divisor_or_none g limit xs below (recursion_from_All (λ x. g ∣ x) xs is.divides))
-
--- numbers of two lists are below a limit
-below_both : (limit : ℕ) (xs ys : List ℕ) → AllByRecursion (λ x. x < limit) xs → AllByRecursion (λ x. x < limit) ys → AllByRecursion (λ x. x < limit) (xs ++ ys)
-below_both limit [] ys all others = others
-below_both limit (x ∷ xs) ys all others = (all.0, below_both limit xs ys all.1 others)
-
-costs_below : (limit : ℕ) (modules : List Module) → AllByRecursion (λ m. m.cost < limit) modules → AllByRecursion (λ x. x < limit) (map (λ m. m.cost) modules)
-costs_below limit [] all = tt
-costs_below limit (m ∷ ms) all = (all.0, costs_below limit ms all.1)
-
--- a setup and module costs below a limit: so is all that their link charges
-link_below : (limit setup : ℕ) (modules : List Module) → setup < limit → All (λ m. m.cost < limit) modules → AllByRecursion (λ x. x < limit) (with_setup setup (map (λ m. m.cost) modules))
-link_below limit setup [] low all = tt
-link_below limit setup (m ∷ ms) low all = (low, costs_below limit (m ∷ ms) (recursion_from_All (λ x. x.cost < limit) (m ∷ ms) all))
-
--- what links charge is below a limit where their setups and module costs are
-pub charges_below : (limit : ℕ) (links : List Link) → AllByRecursion (λ l. (l.setup < limit) × All (λ m. m.cost < limit) l.modules) links → AllByRecursion (λ x. x < limit) (charges links)
-charges_below limit [] all = tt
-charges_below limit (l ∷ ls) all = below_both limit (link_charges l) (charges ls) (link_below limit l.setup l.modules all.0.0 all.0.1) (charges_below limit ls all.1)
 
 -- a quotient that is rounded up is the least number of times that reaches
 pub quotient_least : (a y q : ℕ) → q * y < a + y → (c : ℕ) → a ≤ y * c → q ≤ c

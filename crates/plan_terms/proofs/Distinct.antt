@@ -80,18 +80,6 @@ pub path_links_known : (g : Graph) (a b : ℕ) (es : List LinkId) → IsPath (Jo
 path_links_known g a b es p =
     All-from_recursion (λ e. e.0 < length g.links) es (path_links_inside g a b es p)
 
--- a link that a list names is below n where each of the list is
-pub named_inside : (n e : ℕ) (es : List LinkId) → AllByRecursion (λ x. x.0 < n) es → names_link e es ≡ true → e < n
-named_inside n e [] all named = absurd (false≢true named)
-named_inside n e (x ∷ xs) all named = ⊎_elim
-    (λ t. subst (λ i. i < n) (eqb-true x.0 e t) all.0)
-    (λ f. named_inside n e xs all.1 (rw f at named))
-    (cases_Bool (eqb x.0 e))
-
-pub path_names_known : (g : Graph) (a b : ℕ) (es : List LinkId) (e : ℕ) → IsPath (Joins g) a b es → names_link e es ≡ true → e < length g.links
-path_names_known g a b es e p named =
-    named_inside (length g.links) e es (path_links_inside g a b es p) named
-
 -- on a path no link appears twice
 pub path_links_differ : (g : Graph) (a b : ℕ) (es : List LinkId) → IsPath (Joins g) a b es → DistinctLinks es
 path_links_differ g a b es p =

@@ -1,8 +1,8 @@
 -- what `Joins` says of a link that is given
-use Rattle.std.proofs.Common.{◌≡◌, ◌≢◌, ℕ, ◌<◌, [], length, get_or, Some, false, inl, inr, refl, sym, arith, subst, All, slice_get}
+use Rattle.std.proofs.Common.{◌≡◌, ℕ, ◌<◌, length, get_or, Some, inl, inr, refl, sym, arith, subst, All, slice_get}
 use Rattle.net_core.proofs.Library.{∥∥₁_elim, props, slice_get_read, slice_get_within, get_or_from_slice_get}
 use Rattle.net_core.specs.declared.network.Link.{Link}
-use Rattle.net_core.specs.Terms.{IsLink, IsNetwork, fails, Graph, HasEnds, Joins, Survives}
+use Rattle.net_core.specs.Terms.{IsLink, IsNetwork, Graph, HasEnds, Joins, Survives}
 
 turned_ends : (l : Link) (x y : ℕ) → HasEnds l x y → HasEnds l y x
 turned_ends l x y (inl p) = inr (p.1, p.0)
@@ -24,11 +24,7 @@ joins_one g e x y z j k =
     let same : k.survives.link ≡ j.survives.link = cc (j.survives.at, k.survives.at) in
     one_end j.survives.link x y z j.ends (subst (λ (l : Link). HasEnds l x z) same k.ends)
 
--- the link at place e survives, where it does
-pub survives_from : (g : Graph) (e : ℕ) (l : Link) → e < length g.links → l ≡ get_or g.links e l → l.modules ≢ [] → fails g.listed g.state e ≡ false → Survives g e
-survives_from g e l lt is has_module unfailed = record { link = l; at = slice_get_read g.links (length g.links) e l refl lt is; has_module = has_module; unfailed = unfailed }
-
--- and it is that of `Survives`
+-- the link at a place is that of `Survives`
 pub survives_same : (g : Graph) (e : ℕ) (l : Link) → e < length g.links → l ≡ get_or g.links e l → (v : Survives g e) → v.link ≡ l
 survives_same g e l lt is v =
     let here : slice_get g.links e ≡ Some l = slice_get_read g.links (length g.links) e l refl lt is in
