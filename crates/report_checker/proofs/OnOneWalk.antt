@@ -1,8 +1,7 @@
 -- outcomes that are checked along a walk
-use Rattle.std.proofs.Common.{◌≡◌, ◌∙◌, ℕ, suc, ◌+◌, ◌<◌, ◌≤◌, All, None, Some, length, get_or, arith, ap, slice_get, subst, sym, take, ⊎_elim, IfErr, OnOk, Result, Ok, Err}
+use Rattle.std.proofs.Common.{◌≡◌, ◌∙◌, ℕ, suc, ◌+◌, ◌<◌, ◌≤◌, All, None, Some, length, get_or, arith, ap, slice_get, subst, ⊎_elim, IfErr, OnOk, Result, Ok, Err}
 use Rattle.net_core.proofs.Library.{⊤, cases_eq, get_or_from_slice_get, slice_get-get_or}
 use Rattle.std.proofs.Math.Nat.{min-le_right}
-use Rattle.std.proofs.lemmas.List.{take_min}
 use Rattle.plan_terms.specs.Terms.{Case}
 use Rattle.plan_types.specs.declared.report.Outcome.{Outcome}
 use Rattle.plan_types.specs.declared.report.Report.{Report}
@@ -16,16 +15,9 @@ use Rattle.report_checker.specs.inner.Along.{AreChecked, AreSoundBefore, IsFirst
 use Rattle.report_checker.specs.inner.Outcomes.{IsFirstOfOutcomes, TellOutcomes}
 use Rattle.report_checker.specs.inner.Said.{IsSaid, findings_there}
 use Rattle.plan_types.specs.Terms.{outcome_position}
-use Rattle.report_checker.specs.inner.Walks.{HasPassed}
 use Rattle.report_checker.specs.declared.along.Checked.{Checked}
-use Rattle.report_checker.specs.declared.walk.Walk.{Walk}
 use Rattle.report_checker.proofs.PoolLines.{some_item}
 use Rattle.report_checker.proofs.There.{accepted, all_there}
-
--- a walk to an outcome's place is one to its position
-pub walked_there : (p : Case) (r : Report) (o : Outcome) (place : ℕ) (w : Walk) → outcome_place r o ≡ place → HasPassed p (take place r.entries) w → HasPassed p (take (outcome_position o) r.entries) w
-walked_there p r o place w is =
-    subst (λ b. HasPassed p b w) (sym (ap (λ n. take n r.entries) is) ∙ take_min (outcome_position o) r.entries)
 
 -- what the check of an outcome there shows
 pub sound_met : (p : Case) (r : Report) (o : Outcome) (place : ℕ) (t : Result ⊤ Stop) → TellFirst (findings_there p r o) t → OnOk t (IsSaid (case_at p r.entries (outcome_position o)) o)
@@ -50,14 +42,6 @@ module _ (p : Case) (r : Report) (place : ℕ) where
       (cases_eq (outcome_place r o) place))
       (λ other. here i o (omega (arith, lt, other)) at within)
       (cases_eq i k)
-
--- no outcome is of a place before the first
-pub none_checked : (p : Case) (r : Report) (c : Checked) → c.clean ≡ length r.outcomes → c.finding ≡ None → AreChecked p r 0 c
-none_checked p r c all none = record {
-  inside = omega (arith, all);
-  clean = λ i o lt at within. absurd (omega (arith, within));
-  first = subst (IsFirstAfterClean p r c.clean) (sym none) (omega (arith, all));
-}
 
 -- all outcomes are of places before the one after the journal
 module _ (p : Case) (r : Report) (k : ℕ) (sound : AreSoundBefore p r (length r.entries + 1) k) where

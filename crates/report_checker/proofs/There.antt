@@ -1,5 +1,5 @@
 -- outcomes, and the case at their positions
-use Rattle.std.proofs.Common.{◌≡◌, ◌∙◌, List, length, nat_le, refl, ap, subst, take, OnOk, Result, Ok, Err}
+use Rattle.std.proofs.Common.{◌≡◌, ◌∙◌, List, length, nat_le, refl, ap, subst, take, OnOk, Result}
 use Rattle.net_core.proofs.Library.{⊤}
 use Rattle.plan_terms.specs.Terms.{Demand, Case}
 use Rattle.plan_types.specs.declared.report.Outcome.{Outcome}
@@ -19,16 +19,9 @@ pub all_there : (p : Case) (r : Report) (o : Outcome) → findings_there p r o �
 all_there p r (Planned caller serial plan) = refl
 all_there p r (Unsurvivable caller serial version position state demand) = refl
 
-pub told_outcome : (p : Case) (r : Report) (o : Outcome) (t : Result ⊤ Stop) → TellFirst (findings_there p r o) t → TellFirst (outcome_findings p r o) t
-told_outcome p r o t = subst (λ ks. TellFirst ks t) (all_there p r o)
-
 pub accepted : (p : Case) (r : Report) (o : Outcome) → IsSaid (case_at p r.entries (outcome_position o)) o → IsAcceptedOutcome p r o
 accepted p r (Planned caller serial plan) said = said
 accepted p r (Unsurvivable caller serial version position state demand) said = said
-
-pub sound_outcome : (p : Case) (r : Report) (o : Outcome) (t : Result ⊤ Stop) → OnOk t (IsSaid (case_at p r.entries (outcome_position o)) o) → OnOk t (IsAcceptedOutcome p r o)
-sound_outcome p r o (Ok u) said = accepted p r o said
-sound_outcome p r o (Err e) said = tt
 
 module _ (p : Case) (r : Report) (o : Outcome) (w : Walk) (passed : HasPassed p (take (outcome_position o) r.entries) w) (ds : List Demand) (is : ds ≡ w.book.demands) where
   abbrev own : Case
