@@ -6,7 +6,7 @@ pub use Rattle.route_law.proofs.Lowest.{carried_lowest}
 pub use Rattle.route_law.proofs.Meeting.{all_gained, some_left}
 pub use Rattle.route_law.proofs.Multiples.{divided_are_carried, divided_are_violated}
 pub use Rattle.route_law.proofs.Packing.{bound_nonneg, no_slack, program_packing, route_packing}
-pub use Rattle.route_law.proofs.Pushed.{flows_none, flows_pass, flows_push, flows_slack}
+pub use Rattle.route_law.proofs.Pushed.{flows_pass, flows_push, flows_slack}
 pub use Rattle.route_law.proofs.Rows.{below-both, beside_after, beside_each, beside_first, sum-pos}
 pub use Rattle.route_law.proofs.Slacks.{number_evidence}
 pub use Rattle.route_law.proofs.SomePrices.{some_price}

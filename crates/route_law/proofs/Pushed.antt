@@ -6,9 +6,6 @@ use Rattle.simplex_law.specs.Terms.{ColumnOf}
 use Rattle.route_law.specs.BasisFlows.{is_of_demand, runs_over, AreFlowsOf}
 
 module _ (basis : ℕ → ColumnOf RouteColumn) (amounts : ℕ → ℕ) where
-  pub flows_none : AreFlowsOf 0 basis amounts []
-  flows_none = record { sent_is = λ k. refl; load_is = λ e. refl }
-
   nothing : (b : Bool) (v : ℕ) → v ≡ 0 → cond b v 0 ≡ 0
   nothing true v z = z
   nothing false v z = refl

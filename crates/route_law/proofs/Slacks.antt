@@ -2,7 +2,7 @@
 use Rattle.std.proofs.Common.{ℕ, ◌<◌, List, refl, inl}
 use Rattle.std.proofs.Math.IntN.{pos}
 use Rattle.plan_terms.specs.Terms.{RouteColumn, WideKind, Number, Row, Product, Sum, Common, Value, Length, Demand, Caps, Graph}
-use Rattle.simplex_law.specs.Terms.{unit_vector, ColumnOf, slack_basis, AreNames, HoldsKind, IsReachedEvidence, IsWide}
+use Rattle.simplex_law.specs.Terms.{unit_vector, ColumnOf, slack_basis, AreNames, HoldsKind, IsWide}
 use Rattle.simplex_law.proofs.Lemmas.{start_reached, started}
 use Rattle.route_law.specs.RouteEvidence.{HoldsOfRoute, IsRouteEvidence}
 use Rattle.route_law.specs.RoutingPrograms.{route_rows, route_bound, route_slack, IsCarrying, IsRouteColumn}
@@ -31,13 +31,3 @@ module _ (g : Graph) (demands : List Demand) (caps : Caps) where
   holds basis Common h = h
   holds basis Value h = h
   holds basis (Length link) h = absurd h
-
-  -- what holds as of each packing program holds of the routing program
-  pub route_evidence : (names : List RouteColumn) (kind : WideKind RouteColumn)
-      → IsReachedEvidence (route_rows g demands) (route_bound g demands caps) (route_slack g) (IsRouteColumn g demands) (HoldsKind (route_rows g demands) (route_bound g demands caps) (route_slack g) (IsRouteColumn g demands)) names kind
-      → IsRouteEvidence g demands caps names kind
-  route_evidence names kind e = record {
-    basis = e.basis;
-    evidence = record { named = e.evidence.named; feasible = e.evidence.feasible; holds = holds e.basis kind e.evidence.holds };
-    reached = e.reached;
-  }
