@@ -12,7 +12,7 @@ use Rattle.cut_pool.specs.Terms.{cuts_of}
 use Rattle.separator.specs.declared.answers.StateAnswer.{StateAnswer}
 use Rattle.separator.specs.Separators.{IsAnswerOf, IsSpotIn, cut_answered, cuts_since}
 use Rattle.separator.specs.inner.Working.{AddsCut, AreAnswersBelow, AreCutsAnswered, AreCutsBelow, AreCutsOf, AreOtherAnswers, ContinueTo, IsCutAnswer}
-use Rattle.separator.proofs.Answering.{answers_more, answers_none, cuts_more, cuts_none, cuts_weaker, no_cuts}
+use Rattle.separator.proofs.Answering.{answers_more, cuts_more, cuts_none, cuts_weaker, no_cuts}
 use Rattle.separator.proofs.Pooling.{cuts_both}
 use Rattle.separator.proofs.Seeing.{sees_both, sees_none, spot_later}
 use Rattle.separator.proofs.SomeAnswers.{among_none, answered_later, answered_wider, cut_more, cuts_unanswered, others_more}
@@ -98,9 +98,6 @@ module _ (p : Case) (caps : Caps) where
 
   pub none_below : (all : ℕ) (a : Caller) → AreCutsBelow p caps all (cuts_pooled a a)
   none_below all a = cuts_weaker p caps 0 all (cuts_pooled a a) (omega arith) (none_so_far a)
-
-  pub none_answered : (a : Caller) (answers : List StateAnswer) → answers ≡ [] → AreAnswersBelow p caps 0 (caller_seen a).history (cuts_pooled a a) answers
-  none_answered a answers is = subst (λ cuts. AreAnswersBelow p caps 0 (caller_seen a).history cuts answers) (pooled_none a) (answers_none p caps (caller_seen a).history answers is)
 
   module _ (n : ℕ) (a b t : Caller) (first : SeesOn a b) (second : SeesOn b t) where
     pub one_state_more : AreCutsBelow p caps n (cuts_pooled a b) → AreCutsOf p caps n (cuts_pooled b t) → AreCutsBelow p caps (n + 1) (cuts_pooled a t)
