@@ -1,5 +1,5 @@
 -- what is answered of the states, one after another
-use Rattle.std.proofs.Common.{◌≡◌, ◌≢◌, ◌∙◌, ℕ, ◌+◌, ◌*◌, ◌<◌, ◌≤◌, ◌⊎◌, inl, inr, ⊎_elim, List, [], ◌∷◌, ◌++◌, All, AllPairs, Contains, None, Some, drop, get_or, length, slice_get, sym, ap, subst, arith, sum_by, zip}
+use Rattle.std.proofs.Common.{◌≡◌, ◌≢◌, ◌∙◌, ℕ, ◌+◌, ◌*◌, ◌<◌, ◌≤◌, ◌⊎◌, inl, inr, ⊎_elim, List, [], ◌∷◌, ◌++◌, All, AllPairs, Contains, Some, drop, get_or, length, slice_get, sym, ap, subst, arith, sum_by, zip}
 use Rattle.std.proofs.lemmas.List.{append-nil, length-append}
 use Rattle.net_core.proofs.Library.{drop-append-le, All-append, All-cons, All-nil, All-weaker, Contains-append_left, Contains-append_right, front_rest, all_pairs_push}
 use Rattle.std.proofs.lemmas.List.Concat.{flat_map-append}
@@ -170,13 +170,6 @@ module _ (p : Case) (caps : Caps) where
   pub below_weaker : (m n : ℕ) (a b : Board) → m ≤ n → PoolsBelow p caps m a b (cuts_after a.entries b.entries) → PoolsBelow p caps n a b (cuts_after a.entries b.entries)
   below_weaker m n a b le one = record { pools = one.pools; cuts_are = cuts_weaker m n (cuts_after a.entries b.entries) le one.cuts_are }
 
-  pub answers_none : (history : List Entry) (answers : List StateAnswer) → answers ≡ [] → AreAnswersBelow p caps 0 history [] answers
-  answers_none history answers is = record {
-    count = ap length is;
-    each = λ s a at. absurd (let e : None ≡ Some a = ap (λ (xs : List StateAnswer). slice_get xs s) (sym is) ∙ at in cc e);
-    among = All-nil (Contains (cuts_answered answers));
-  }
-
   -- in a later history in which each cut keeps its spot
   module _ (h later : List Entry) (stands : (cut : ℕ × List ℕ) (spot : Spot) → IsSpotIn h cut spot → IsSpotIn later cut spot) where
     pub answer_later : (s : ℕ) (answer : Separated) → IsAnswerOf p caps h s answer → IsAnswerOf p caps later s answer
@@ -206,10 +199,6 @@ module _ (p : Case) (caps : Caps) where
               (λ k d lt. Contains-append_right (cuts_answered answers) (cut_answered answer.answer ++ []) (get_or ys k d)
               (Contains-append_left (cut_answered answer.answer) [] (get_or ys k d) (named k d lt))));
         }
-
-  -- so it is on boards
-  pub board_answers_none : (b : Board) (answers : List StateAnswer) → answers ≡ [] → AreAnswersBelow p caps 0 b.entries (cuts_after b.entries b.entries) answers
-  board_answers_none b answers is = subst (λ cuts. AreAnswersBelow p caps 0 b.entries cuts answers) (sym (pools_since b b [] (pools_none b))) (answers_none b.entries answers is)
 
   pub board_answers_more : (n : ℕ) (a b c : Board) (answers : List StateAnswer) (answer : StateAnswer) → PoolsMore a b (cuts_after a.entries b.entries) → PoolsMore b c (cuts_after b.entries c.entries)
       → AreAnswersBelow p caps n b.entries (cuts_after a.entries b.entries) answers
