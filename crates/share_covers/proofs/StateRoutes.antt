@@ -15,9 +15,6 @@ pub record AreRoutedTo (p : Case) (caps : Caps) (n : ℕ) (routings : List Routi
   pub each : (s : ℕ) (r : Routing) → slice_get routings s ≡ Some r → IsRouted (graph_in p s) p.demands caps r
 
 module _ (p : Case) (caps : Caps) where
-  pub routed_none : AreRoutedTo p caps 0 []
-  routed_none = record { count = refl; each = λ s r at. absurd (cc) }
-
   -- one state more
   pub routed_more : (n : ℕ) (routings : List Routing) (r : Routing) → AreRoutedTo p caps n routings → IsRouted (graph_in p n) p.demands caps r → AreRoutedTo p caps (n + 1) (routings ++ r ∷ [])
   routed_more n routings r before routed = record {
