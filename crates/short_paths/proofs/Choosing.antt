@@ -21,9 +21,6 @@ abbrev pub IsBefore : Arc → Option Arc → Bool → Type 0
 IsBefore h best told = MatchOption best (IsTrue told) (λ o. IsTrue told ↔ (h.link.0 < o.link.0))
 
 module _ (arcs : List Arc) (lengths back : List ℕ) (here : ℕ) where
-  pub best_none : IsBest arcs lengths back here 0 None
-  best_none = λ k d lt. absurd (omega arith)
-
   -- a arc that doesn't fit changes nothing
   pub best_other : (i : ℕ) (d : Arc) (best : Option Arc) → i < length arcs → (Fits lengths back here (get_or arcs i d) → ⊥) → IsBest arcs lengths back here i best → IsBest arcs lengths back here (i + 1) best
   best_other i d None lt not b = All-more (λ g. Fits lengths back here g → ⊥) arcs i d lt b not

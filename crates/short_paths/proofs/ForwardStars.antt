@@ -1,13 +1,13 @@
 -- how the arcs over the joining links are gathered, and where those of a node are
-use Rattle.std.proofs.Common.{◌≡◌, ℕ, ◌+◌, ◌-◌, ◌<◌, ◌≤◌, List, [], ◌∷◌, ◌++◌, length, get_or, take, drop, true, false, ltb, ◌⊎◌, inl, inr, ⊎_elim, refl, sym, ap, subst, ◌∙◌, arith, length-append, length-take, length-drop, All, Contains}
+use Rattle.std.proofs.Common.{◌≡◌, ℕ, ◌+◌, ◌-◌, ◌<◌, ◌≤◌, List, [], ◌∷◌, ◌++◌, length, get_or, take, drop, true, false, ltb, ◌⊎◌, inl, inr, ⊎_elim, refl, sym, ap, subst, ◌∙◌, arith, length-take, length-drop, All, Contains}
 use Rattle.std.specs.List.Sorted.{IsPermutation, IsPartitionPoint}
-use Rattle.net_core.proofs.Library.{cases_lt, get_or_append_left, get_or_push, All-contains, Contains-append_left, Contains-append_right, Contains-append_cases, Contains-get_or, IsPermutation-sym}
+use Rattle.net_core.proofs.Library.{cases_lt, All-contains, Contains-append_left, Contains-append_right, Contains-append_cases, Contains-get_or, IsPermutation-sym}
 use Rattle.std.proofs.lemmas.Bool.{ltb-true, ltb-false}
 use Rattle.std.proofs.lemmas.List.{get_or-take, get_or-drop}
 use Rattle.std.proofs.lemmas.List.Elements.{Contains-push_cases}
 use Rattle.std.proofs.lemmas.List.Sorted.{Contains-permutation}
 use Rattle.short_paths.specs.declared.forward_star.Arc.{Arc}
-use Rattle.short_paths.specs.inner.ForwardStars.{AddsArcs, AreArcs, AreStarts, IsStartOf, HasArc}
+use Rattle.short_paths.specs.inner.ForwardStars.{AddsArcs, AreArcs, IsStartOf, HasArc}
 use Rattle.net_core.proofs.Lists.{none_within}
 
 -- the arc over link e from x to y
@@ -20,14 +20,6 @@ one_of_two a b x h =
     (λ first. ⊎_elim (λ none. absurd (none_within x none)) (λ e. inl e) (Contains-push_cases [] a x first))
     (λ e. inr e)
     (Contains-push_cases (a ∷ []) b x h)
-
--- a link that joins nothing adds no arc
-pub adds_none : (joins : ℕ → ℕ → ℕ → Type 0) (e : ℕ) (old : List Arc) → ((x y : ℕ) → joins e x y → ⊥) → AddsArcs joins e old old
-adds_none joins e old none = record {
-  kept = λ f x y h. h;
-  sound = λ f x y h. inl h;
-  whole = λ x y j. absurd (none x y j);
-}
 
 -- a link that joins a and b adds both arcs
 pub adds_both : (joins : ℕ → ℕ → ℕ → Type 0) (e a b : ℕ) (old : List Arc) → joins e a b → joins e b a → ((x y : ℕ) → joins e x y → ((a ≡ x) × (b ≡ y)) ⊎ ((b ≡ x) × (a ≡ y))) → AddsArcs joins e old (old ++ arc e a b ∷ arc e b a ∷ [])
@@ -58,12 +50,6 @@ adds_both joins e a b old there back only = record {
 pub record ArcsBelow (joins : ℕ → ℕ → ℕ → Type 0) (n : ℕ) (arcs : List Arc) : Type 0 where
   pub sound : (e x y : ℕ) → HasArc arcs e x y → joins e x y
   pub whole : (e x y : ℕ) → e < n → joins e x y → HasArc arcs e x y
-
-pub arcs_none : (joins : ℕ → ℕ → ℕ → Type 0) → ArcsBelow joins 0 []
-arcs_none joins = record {
-  sound = λ e x y h. absurd (none_within (arc e x y) h);
-  whole = λ e x y lt j. absurd (omega arith);
-}
 
 pub arcs_more : (joins : ℕ → ℕ → ℕ → Type 0) (n : ℕ) (old new : List Arc) → ArcsBelow joins n old → AddsArcs joins n old new → ArcsBelow joins (n + 1) new
 arcs_more joins n old new below adds = record {
@@ -110,18 +96,6 @@ start_from_point arcs x i within point = record {
   before = λ k d low high. ltb-true (get_or arcs k d).from.0 x (point.0 k d low high);
   after = λ k d low high. ltb-false (get_or arcs k d).from.0 x (point.1 k d low high);
 }
-
-pub starts_none : (arcs : List Arc) → AreStarts arcs []
-starts_none arcs = λ x lt. absurd (omega arith)
-
-pub starts_push : (arcs : List Arc) (starts : List ℕ) (x s : ℕ) → length starts ≡ x → AreStarts arcs starts → IsStartOf arcs x s → AreStarts arcs (starts ++ s ∷ [])
-starts_push arcs starts x s size are now = λ y lt.
-    ⊎_elim
-    (λ before. subst (IsStartOf arcs y) (sym (get_or_append_left starts (s ∷ []) 0 y before)) (are y before))
-    (λ past.
-    let same : y ≡ x = omega (arith, length-append starts (s ∷ [])) in
-    subst (λ k. IsStartOf arcs k (get_or (starts ++ s ∷ []) k 0)) (sym same) (subst (IsStartOf arcs x) (sym (get_or_push starts s 0 x size)) now))
-    (cases_lt y (length starts))
 
 -- the arcs of a node begin before those of the next
 pub starts_rise : (arcs : List Arc) (x s t : ℕ) → IsStartOf arcs x s → IsStartOf arcs (x + 1) t → s ≤ t

@@ -11,9 +11,6 @@ module _ (joins : ℕ → ℕ → ℕ → Type 0) (lengths : List ℕ) (far n : 
     pub sizes : (t : ℕ) → t < k → length (get_or rows t []) ≡ n
     pub tables : (t : ℕ) → t < k → IsTable joins lengths far t (get_or rows t [])
 
-  pub rows_none : RowsBelow 0 []
-  rows_none = record { count = omega arith; sizes = λ t lt. absurd (omega arith); tables = λ t lt. absurd (omega arith) }
-
   pub rows_more : (k : ℕ) (rows : List (List ℕ)) (row : List ℕ) → RowsBelow k rows → length row ≡ n → IsTable joins lengths far k row → RowsBelow (k + 1) (rows ++ row ∷ [])
   rows_more k rows row below size table = record {
     count = omega (arith, length-append rows (row ∷ []), below.count);
@@ -27,13 +24,6 @@ module _ (joins : ℕ → ℕ → ℕ → Type 0) (lengths : List ℕ) (far n : 
         (λ past. let same : t ≡ k = omega arith in
         subst (IsTable joins lengths far t) (sym (get_or_push rows row [] t (omega (arith, below.count)))) (subst (λ x. IsTable joins lengths far x row) (sym same) table))
         (cases_lt t k);
-  }
-
-  pub rows_all : (k : ℕ) (rows : List (List ℕ)) → n ≡ k → RowsBelow k rows → AreTables joins lengths far n rows
-  rows_all k rows done below = record {
-    count = omega (arith, below.count);
-    sizes = λ t lt. below.sizes t (omega arith);
-    tables = λ t lt. below.tables t (omega arith);
   }
 
 module _ (joins : ℕ → ℕ → ℕ → Type 0) (lengths : List ℕ) (far n : ℕ) (rows : List (List ℕ)) (are : ∥ AreTables joins lengths far n rows ∥₁) (t : ℕ) (row : List ℕ) (lt : t < n) (is : row ≡ get_or rows t row) where

@@ -1,6 +1,6 @@
 -- the numbers of each two nodes, gathered row by row
-use Rattle.std.proofs.Common.{◌≡◌, ◌≢◌, ℕ, map, zero, suc, ◌+◌, ◌-◌, ◌*◌, ◌^◌, ◌<◌, ◌≤◌, List, [], ◌++◌, length, get_or, take, Some, cond, eqb, min, max, ⊎_elim, refl, sym, subst, ap, ◌∙◌, arith, add-one, le_refl, length-append}
-use Rattle.net_core.proofs.Library.{cases_lt, cases_eq, get_or_append_left, get_or-map, length-map, All-nil, All-append, All-map, All-take, All-same, All-from_get_or}
+use Rattle.std.proofs.Common.{◌≡◌, ◌≢◌, ℕ, map, zero, suc, ◌+◌, ◌-◌, ◌*◌, ◌^◌, ◌<◌, ◌≤◌, List, ◌++◌, length, get_or, take, Some, cond, eqb, min, max, ⊎_elim, refl, sym, subst, ap, ◌∙◌, arith, add-one, le_refl, length-append}
+use Rattle.net_core.proofs.Library.{cases_lt, cases_eq, get_or_append_left, get_or-map, length-map, All-append, All-map, All-take, All-same, All-from_get_or}
 use Rattle.std.proofs.lemmas.Bool.{eq-eqb, ne_eqb}
 use Rattle.std.proofs.lemmas.List.{get_or-append-add, get_or-take, length-take-le}
 use Rattle.plan_terms.specs.Terms.{IsDistance}
@@ -49,13 +49,6 @@ narrowed_answer d most low = ⊎_elim
     let is : d ≡ FAR = omega arith in
     rw is refl)
     (cases_lt d FAR)
-
-pub pairs_none : (joins : ℕ → ℕ → ℕ → Type 0) (lengths : List ℕ) → ArePairs joins lengths 0 []
-pairs_none joins lengths = record {
-  size = omega arith;
-  each = λ low high lt within. absurd (omega arith);
-  low = All-nil (λ d. d ≢ APART → d < 2 ^ 39);
-}
 
 module _ (joins : ℕ → ℕ → ℕ → Type 0) (lengths : List ℕ) (short : (e : ℕ) → get_or lengths e 0 < 2 ^ 32) where
   pub pairs_more : (n : ℕ) (old new : List ℕ) → ArePairs joins lengths n old → AddsRow joins lengths FAR n old new → ArePairs joins lengths (n + 1) new

@@ -54,14 +54,6 @@ module _ (g : Graph) (seen : List Bool) (b : ℕ) where
   walk_stops a e es none ([], leads, ends, different, unseen) = leads
   walk_stops a e es none (c ∷ cs, leads, ends, different, unseen) = none c leads.0
 
-  -- at the end of the links
-  pub walk_ends : (a : ℕ) → IsUnseenPath (Joins g) seen a b [] ↔ (a ≡ b)
-  walk_ends a = (walk_end a, λ same. ([], tt, same, tt, tt))
-    where
-      walk_end : (a : ℕ) → IsUnseenPath (Joins g) seen a b [] → a ≡ b
-      walk_end a ([], leads, ends, different, unseen) = ends
-      walk_end a (c ∷ cs, leads, ends, different, unseen) = absurd leads
-
   nodes_inside : ∥ IsNetwork g.nodes g.links ∥₁ → (a : ℕ) (es : List LinkId) (cs : List ℕ) → Leads (Joins g) a es cs → AllByRecursion (λ c. c < length g.nodes) cs
   nodes_inside checked a [] [] leads = tt
   nodes_inside checked a [] (c ∷ cs) leads = absurd leads
