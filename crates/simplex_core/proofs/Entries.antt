@@ -29,12 +29,6 @@ dot_end nums [] (suc k) le = refl
 dot_end nums (e ∷ es) zero le = absurd (omega arith)
 dot_end nums (e ∷ es) (suc k) le = dot_end nums es k (omega arith)
 
--- the entry at k
-pub entry_fits : (m : ℕ) (es : List Entry) (k : ℕ) (d : Entry) → AllByRecursion (IsEntry m) es → k < length es → IsEntry m (get_or es k d)
-entry_fits m [] k d all lt = absurd (omega arith)
-entry_fits m (e ∷ es) zero d all lt = all.0
-entry_fits m (e ∷ es) (suc k) d all lt = entry_fits m es k d all.1 (omega arith)
-
 pub inside_all : (m : ℕ) (es : List Entry) → AllByRecursion (IsEntry m) es → AllByRecursion (λ e. e.row < m) es
 inside_all m [] all = tt
 inside_all m (e ∷ es) all = (all.0.inside, inside_all m es all.1)

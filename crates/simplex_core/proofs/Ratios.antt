@@ -1,5 +1,5 @@
 -- the order of the ratio test over the rows that the code has
-use Rattle.std.proofs.Common.{◌≡◌, ◌≢◌, ℕ, suc, ◌<◌, ◌+◌, List, length, Option, Some, None, Ok, refl, sym, ap, subst, ◌∙◌, arith, ⊎_elim, inl, inr, option_map}
+use Rattle.std.proofs.Common.{◌≡◌, ℕ, suc, ◌<◌, ◌+◌, List, length, Option, Some, None, Ok, refl, sym, ap, subst, ◌∙◌, arith, ⊎_elim, inr, option_map}
 use Rattle.std.proofs.Math.IntN.{ℤ, pos, ◌*ℤ◌}
 use Rattle.std.specs.Int.Signed.{◌<ℤ◌, ◌≤ℤ◌}
 use Rattle.net_core.proofs.Library.{ints, cases_lt}
@@ -28,11 +28,6 @@ no_later_trans m bound u p v q w r pp pq pr h i =
 pub no_later_same : (m : ℕ) (bound u : ℕ → ℤ) (p : ℤ) → IsNoLater m bound u p u p
 no_later_same m bound u p = lex_none (suc m) (combined (valued m bound u) p (valued m bound u) p) (λ k l. gone (valued m bound u k) (valued m bound u k) p p refl)
 
--- values decide where they differ
-value_less : (m : ℕ) (bound u : ℕ → ℤ) (p : ℤ) (v : ℕ → ℤ) (q x y : ℤ) → x ≡ dot m u bound → y ≡ dot m v bound → (x *ℤ q) <ℤ (y *ℤ p) → IsNoLater m bound u p v q
-value_less m bound u p v q x y ex ey less =
-    inl (over (dot m u bound) (dot m v bound) p q (subst (λ a. (a *ℤ q) <ℤ (dot m v bound *ℤ p)) ex (subst (λ b. (x *ℤ q) <ℤ (b *ℤ p)) ey less)))
-
 -- else the numbers do
 row_less : (m : ℕ) (bound u : ℕ → ℤ) (p : ℤ) (v : ℕ → ℤ) (q x y : ℤ) → x ≡ dot m u bound → y ≡ dot m v bound → x *ℤ q ≡ y *ℤ p
     → IsFirstLess m (λ k. u k *ℤ q) (λ k. v k *ℤ p) → IsNoLater m bound u p v q
@@ -51,12 +46,6 @@ row_equal m bound u p v q x y ex ey same all =
       gone (dot m u bound) (dot m v bound) p q (ap (λ a. a *ℤ q) (sym ex) ∙ (same ∙ ap (λ b. b *ℤ p) ey)),
       lex_none m (combined v q u p) (λ k l. gone (u k) (v k) p q (all k l)),
     )
-
-pub by_values : (m : ℕ) (bound u : ℕ → ℤ) (p : ℤ) (v : ℕ → ℤ) (q x y : ℤ) (order : Ordering) → x ≡ dot m u bound → y ≡ dot m v bound → order ≢ Equal
-    → ComparesNumbers 1 (λ k. x *ℤ q) (λ k. y *ℤ p) order → ComparesRatios m bound u p v q order
-by_values m bound u p v q x y Less ex ey ne c = value_less m bound u p v q x y ex ey c.3
-by_values m bound u p v q x y Equal ex ey ne c = absurd (ne refl)
-by_values m bound u p v q x y Greater ex ey ne c = value_less m bound v q u p y x ey ex c.3
 
 pub by_rows : (m : ℕ) (bound u : ℕ → ℤ) (p : ℤ) (v : ℕ → ℤ) (q x y : ℤ) (order : Ordering) → x ≡ dot m u bound → y ≡ dot m v bound → x *ℤ q ≡ y *ℤ p
     → ComparesNumbers m (λ k. u k *ℤ q) (λ k. v k *ℤ p) order → ComparesRatios m bound u p v q order
@@ -109,20 +98,6 @@ module _ (rows : List Row) (bounds products : List ℤ) where
             (cases_lt k n),
       ))
       is
-
-  -- a row without a positive product
-  pub best_kept : (n : ℕ) (best : Option Candidate) → IsBestBefore (length rows) rows bounds products n best → num products n ≤ℤ pos 0 → IsBestBefore (length rows) rows bounds products (n + 1) best
-  best_kept n None before none = λ k l. ⊎_elim
-      (λ less. before k less)
-      (λ ge. let e : n ≡ k = omega arith in subst (λ i. num products i ≤ℤ pos 0) e none)
-      (cases_lt k n)
-  best_kept n (Some best) before none = (
-    before.0,
-    λ k l pk. ⊎_elim
-        (λ less. before.1 k less pk)
-        (λ ge. let e : k ≡ n = omega arith in absurd (omega (arith, ints, none, pk, ap (num products) e)))
-        (cases_lt k n),
-  )
 
   -- the best of all rows
   pub leaves : (n : ℕ) (best : Option Candidate) → n ≡ length rows → IsBestBefore (length rows) rows bounds products n best
