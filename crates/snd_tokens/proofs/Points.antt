@@ -1,6 +1,6 @@
 -- a word's parts before and after its point
 use Rattle.std.proofs.Common.{◌≡◌, ℕ, ◌+◌, ◌-◌, ◌<◌, Bool, true, false, cond, not, ◌||◌, List, [], ◌∷◌, length, take, drop, IsTrue, sym, refl, ap, ◌∙◌, subst, arith}
-use Rattle.net_core.proofs.Library.{list_all, list_any, position_or_len, false≢true, and_parts, and_from, or_right, take_rest, drop_all}
+use Rattle.net_core.proofs.Library.{list_all, list_any, position_or_len, false≢true, and_parts, and_from, take_rest, drop_all}
 use Rattle.snd_tokens.specs.Digits.{is_digit, are_digits}
 use Rattle.snd_tokens.specs.Amounts.{AreParts, is_point, is_decimal, whole_part, places_of}
 
@@ -39,21 +39,6 @@ without_point word point first none whole =
         after = empty ∙ sym no_places;
         whole_digits = list_all-digits (take point word) whole;
         places_digits = rw empty refl;
-      },
-    )
-
--- a word of digits, a point and digits
-pub with_point : (word : List ℕ) (point : ℕ) → point ≡ position_or_len is_point word → point < length word → are_digits (take point word) ≡ true → are_digits (take (length word - (point + 1)) (drop (point + 1) word)) ≡ true → IsTrue (is_decimal word) × AreParts word (take point word) (take (length word - (point + 1)) (drop (point + 1) word))
-with_point word point first some whole places =
-    let before : are_digits (whole_part word) ≡ true = subst (λ n. are_digits (take n word) ≡ true) first whole in
-    let following : take (length word - (point + 1)) (drop (point + 1) word) ≡ places_of word = take_rest word (point + 1) ∙ ap (λ n. drop (n + 1) word) first in
-    let after : are_digits (places_of word) ≡ true = subst (λ bytes. are_digits bytes ≡ true) following places in (
-      and_from _ _ before (or_right _ _ after),
-      record {
-        before = ap (λ n. take n word) first;
-        after = following;
-        whole_digits = list_all-digits (take point word) whole;
-        places_digits = list_all-digits (take (length word - (point + 1)) (drop (point + 1) word)) places;
       },
     )
 
