@@ -5,7 +5,7 @@ use Rattle.std.proofs.lemmas.List.{drop-drop, length-take}
 use Rattle.net_core.specs.Terms.{are_same}
 use Rattle.snd_tokens.specs.Terms.{first_line, second_line, trimmed, Text, WordAt, OpenAt, CloseAt, EndAt, text_from, text_of, tokens_from}
 use Rattle.snd_tokens.proofs.Scan.{tokens_from-end}
-use Rattle.text_kit.specs.Answers.{AnswersAs, Fails, ReadsAllAs}
+use Rattle.text_kit.specs.Answers.{AnswersAs, ReadsAllAs}
 use Rattle.text_kit.specs.Files.{IsNotTooEarly, SpellsAs, SpellsBy, body, file_at}
 use Rattle.text_kit.specs.Items.{Item, Begins}
 use Rattle.text_kit.specs.Laws.{WrittenIsRead}
@@ -178,10 +178,6 @@ module _ {K X Y : Type 0} (other : K) (header : List ℕ) (r : Reading K X) (mea
 
   pub file_read : (bytes : List ℕ) (x : X) (rest : Text) → are_same (trimmed (first_line bytes)) header ≡ true → r (body bytes) ≡ Ok (x, rest) → (at : ℕ) × (file bytes ≡ Ok (meaning x, EndAt at))
   file_read bytes x rest line read = spelled_read other header (mapped meaning r) Means meant_law bytes (meaning x) rest line (ap (λ (q : Read K X). after q (λ y. give (meaning y))) read)
-
-  pub file_fails : (bytes : List ℕ) (e : Refusal K) → are_same (trimmed (first_line bytes)) header ≡ true → Fails e (r (body bytes)) → Fails e (file bytes)
-  file_fails bytes (Bad at kind) line fails = ap (λ (b : Bool). cond b (mapped meaning r (body bytes)) (Err (0, other))) line ∙ ap (λ (q : Read K X). after q (λ y. give (meaning y))) fails
-  file_fails bytes NoMemory line fails = tt
 
   pub answer_found : {Z : Type 0} (view : Z → Y) (bytes : List ℕ) (a : Result Z (Refusal K)) → ReadsAllAs view a (file bytes) → IfOk a (λ z. IsOf bytes (view z))
   answer_found view bytes (Ok z) h = from_meant bytes (view z) (found_spelled other header (mapped meaning r) Means meant_law view bytes (Ok z) h)

@@ -1,5 +1,5 @@
 -- A text that was written begins with its items.
-use Rattle.std.proofs.Common.{◌≡◌, ℕ, ◌+◌, ◌-◌, ◌≤◌, ◌<◌, ◌==◌, ◌||◌, Bool, true, false, not, List, [], ◌∷◌, ◌++◌, length, get_or, take, drop, refl, sym, ap, subst, ◌∙◌, arith, length-drop, drop-cons, add-one, append_assoc, decimal, flat_map}
+use Rattle.std.proofs.Common.{◌≡◌, ℕ, ◌+◌, ◌-◌, ◌≤◌, ◌<◌, ◌==◌, ◌||◌, Bool, true, false, not, List, [], ◌∷◌, ◌++◌, length, get_or, take, drop, refl, sym, ap, subst, ◌∙◌, arith, length-drop, drop-cons, add-one, append_assoc, decimal}
 use Rattle.net_core.proofs.Library.{AllByRecursion, list_all, and_parts}
 use Rattle.std.proofs.lemmas.List.{drop-drop}
 use Rattle.snd_tokens.specs.declared.token.TokenKind.TheVariants as kinds
@@ -120,7 +120,3 @@ written_begins (Money p n ∷ is) whole at all within e =
 pub written_both : (a b : List Item) → written (a ++ b) ≡ written a ++ written b
 written_both [] b = refl
 written_both (i ∷ a) b = ap (λ (t : List ℕ). word_of i ++ byte_after i ∷ t) (written_both a b) ∙ sym (append_assoc (word_of i) (byte_after i ∷ written a) (written b))
-
-pub written_all : {X : Type 0} (f : X → List Item) (xs : List X) → written (flat_map f xs) ≡ flat_map (λ x. written (f x)) xs
-written_all f [] = refl
-written_all f (x ∷ xs) = written_both (f x) (flat_map f xs) ∙ ap (λ (t : List ℕ). written (f x) ++ t) (written_all f xs)
