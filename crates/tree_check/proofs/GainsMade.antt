@@ -5,24 +5,11 @@ use Rattle.plan_terms.specs.Terms.{IsModule, Link, sum_below}
 use Rattle.line_check.specs.Inequalities.{module_number}
 use Rattle.tree_check.specs.declared.bounded.Gains.{Gains}
 use Rattle.tree_check.specs.declared.weighing.Weighing.{Weighing}
-use Rattle.tree_check.specs.inner.Weighing.{AddsModules, AreGainsOf, IsBoundedIn, gain_in, loss_in, total_of}
+use Rattle.tree_check.specs.inner.Weighing.{AddsModules, AreGainsOf, IsBoundedIn, gain_in, loss_in}
 
 -- the sum below the next number
 pub below_next : (n : ℕ) (f : ℕ → ℕ) → sum_below (n + 1) f ≡ sum_below n f + f n
 below_next n f = rw add-one refl
-
--- a module more
-pub adds_more : (w : Weighing) (e m : ℕ) (old now new : Gains) → AddsModules w e m old now → IsBoundedIn w e m
-    → total_of new.gains ≡ total_of now.gains + gain_in w e m → total_of new.losses ≡ total_of now.losses + loss_in w e m
-    → new.gains.high ≤ now.gains.high + 2 ^ 64 → new.losses.high ≤ now.losses.high + 2 ^ 64
-    → AddsModules w e (m + 1) old new
-adds_more w e m old now new so_far is gains losses gains_high losses_high = record {
-  bounded = λ k lt. ⊎_elim (λ low. so_far.bounded k low) (λ (high : m ≤ k). let same : m ≡ k = omega arith in subst (IsBoundedIn w e) same is) (cases_lt k m);
-  gains = omega (arith, gains, so_far.gains, below_next m (gain_in w e));
-  losses = omega (arith, losses, so_far.losses, below_next m (loss_in w e));
-  gains_high = omega (arith, gains_high, so_far.gains_high);
-  losses_high = omega (arith, losses_high, so_far.losses_high);
-}
 
 -- a link more
 pub gains_more : (w : Weighing) (e : ℕ) (now new : Gains) → AreGainsOf w e now → module_number w.links.now e ≤ 16 → AddsModules w e (module_number w.links.now e) now new → AreGainsOf w (e + 1) new

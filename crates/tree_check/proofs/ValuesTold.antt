@@ -44,9 +44,6 @@ module _ (w : Weighing) (s : Gains) (gains : AreGainsOf w (length w.links.now) s
   near_modules : AreNear (total_of s.gains) (total_of s.losses) → AreNear (all_gains w.links.now w.boxed.now w.den (weighed w.tested.now w.lines.now)) (all_losses w.links.now w.boxed.now w.den (weighed w.tested.now w.lines.now))
   near_modules near = record { above = omega (arith, near.above, gains.gains, gains.losses); under = omega (arith, near.under, gains.gains, gains.losses) }
 
-  pub far_modules : (value : ℕ) → IsValueIn w value → AreNear (total_of s.gains) (total_of s.losses)
-  far_modules value is = record { above = omega (arith, is.certificate.modules_limit.above, gains.gains, gains.losses); under = omega (arith, is.certificate.modules_limit.under, gains.gains, gains.losses) }
-
   pub told_value : (up down value : ℕ) → 1 ≤ w.den → w.den < 2 ^ 72 → All (λ m. m.num < 2 ^ 62) w.lines.now → asked < 2 ^ 126 → given < 2 ^ 126
       → AreNear (total_of s.gains) (total_of s.losses)
       → up ≡ value_gains w.links.now w.boxed.now w.den (weighed w.tested.now w.lines.now) → down ≡ value_losses w.links.now w.boxed.now w.den (weighed w.tested.now w.lines.now)
