@@ -50,9 +50,6 @@ carried_same {T} x y cs ds same =
     cc inner
 
 module _ {T I O : Type 0} (history : T → List I) (made : T → O) (origin : O) where
-  Rules : State (Option T) (View I O) → Type 0
-  Rules = Kept history made origin
-
   -- a pass whose turn isn't out changes its view, and isn't out then
   pub slot_set : (log : List I) (homes : List (mathlib.Core.Option.Option (Option T))) (vs : List (View I O)) (id : ℕ) (v w : View I O) → get_elem? vs id ≡ some v → turns_of v.stage ≡ 0 → turns_of w.stage ≡ 0
       → HasSlot history made origin log homes vs → HasSlot history made origin log homes (set vs id w)
