@@ -14,7 +14,8 @@ flows_header = codes "?planner flows; version: 1"
 -- a flow: its demand, its link, the node at which it enters the link, and its amount
 abbrev pub link_flow_items : KnownNames → List Demand → LinkFlow → List Item
 link_flow_items known demands f =
-    Verbatim (demand_name demands f.demand) ∷ Verbatim (link_name known.links f.arc.link) ∷ Verbatim (node_name known.nodes f.arc.from) ∷ Money known.places f.arc.num ∷ []
+    Verbatim (demand_name demands f.demand) ∷ Verbatim (link_name known.links f.arc.link) ∷ Verbatim (node_name known.nodes f.arc.from)
+        ∷ Money known.places f.arc.num ∷ []
 
 -- the flows of a state, by its number: the state's name, and its flows between parentheses
 abbrev pub state_flows_items : KnownNames → List Demand → ℕ × List LinkFlow → List Item
