@@ -91,7 +91,8 @@ IsImportFault p caps all fault = (fault ≡ NoMemory) ⊎ IsFirstStateFault p ca
 pub record IsImportedState (p : Case) (caps : List ℕ) (s : ℕ) (flows : List LinkFlow) (routing : Routing) : Type 0 where
   pub whole : routing.den ≡ 1
   pub sound : AreSoundIn p caps s flows
-  pub split : (k : ℕ) (d : Demand) → slice_get p.demands k ≡ Some d → IsFlowSplit p.links (demand_arcs k flows) d.from.0 d.to.0 d.need (demand_paths k routing.flows)
+  pub split : (k : ℕ) (d : Demand) → slice_get p.demands k ≡ Some d
+      → IsFlowSplit p.links (demand_arcs k flows) d.from.0 d.to.0 d.need (demand_paths k routing.flows)
   pub carries : Carries (Joins (graph_in p s)) p.demands 1 caps routing
 
 -- no routing, which is read past the last

@@ -34,7 +34,8 @@ pub record IsFirstAbove (loads caps : List ℕ) (e : ℕ) : Type 0 where
 -- why the arcs of demand k, of this from, to and need, weren't split in state s
 abbrev pub IsSplitFault : Case → ℕ → List LinkFlow → Demand → ℕ → ImportFault → Type 0
 IsSplitFault p s flows d k (Dead t e) = ⊥
-IsSplitFault p s flows d k (Unbalanced t j n) = (t.0 ≡ s) × (j ≡ k) × IsFirstUnbalanced (length p.nodes) p.links (demand_arcs k flows) d.from.0 d.to.0 d.need n.0
+IsSplitFault p s flows d k (Unbalanced t j n) = (t.0 ≡ s) × (j ≡ k)
+    × IsFirstUnbalanced (length p.nodes) p.links (demand_arcs k flows) d.from.0 d.to.0 d.need n.0
 IsSplitFault p s flows d k (Overloaded t e) = ⊥
 IsSplitFault p s flows d k NoMemory = Unit {0}
 
