@@ -22,7 +22,8 @@ module _ (g : Graph) (demands : List Demand) (caps : Caps) where
     pub lengths : List ℕ
     pub priced : ArePricedLengths g demands caps lengths
     pub keeps : Keeps g lengths cut.lengths
-    pub violated : (right : ℕ) → IsRight (Joins g) cut.lengths demands right → Violates caps (record { state = cut.state; lengths = cut.lengths; right = right })
+    pub violated : (right : ℕ) → IsRight (Joins g) cut.lengths demands right
+        → Violates caps (record { state = cut.state; lengths = cut.lengths; right = right })
 
   -- evidence of this state and these capacities
   abbrev pub IsEvidenceHere : Evidence → Type 0

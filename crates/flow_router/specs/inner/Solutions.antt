@@ -8,10 +8,12 @@ use Rattle.route_law.specs.Terms.{ArePricedLengths, AreJoined, route_rows, route
 
 -- an optimum of the task's routing program
 abbrev pub IsSolution : RouteTask → Optimum RouteColumn → Type 0
-IsSolution t = Solves (route_rows (graph_of t.graph) t.demands.now) (route_bound (graph_of t.graph) t.demands.now t.caps.now) (route_slack (graph_of t.graph)) (IsCarrying (graph_of t.graph) t.demands.now)
+IsSolution t = Solves (route_rows (graph_of t.graph) t.demands.now) (route_bound (graph_of t.graph) t.demands.now t.caps.now) (route_slack (graph_of t.graph))
+    (IsCarrying (graph_of t.graph) t.demands.now)
 
 -- the lengths are link prices at a best basis whose value is below what the demands need, all of which some path carries
 pub record ArePricesBelow (t : RouteTask) (lengths : List ℕ) : Type 0 where
   pub joined : AreJoined (graph_of t.graph) t.demands.now
   pub priced : ArePricedLengths (graph_of t.graph) t.demands.now t.caps.now lengths
-  pub below : dot (route_rows (graph_of t.graph) t.demands.now) priced.duals (route_bound (graph_of t.graph) t.demands.now t.caps.now) <ℤ (priced.den *ℤ pos (total_scaled_need t.demands.now t.caps.now))
+  pub below : dot (route_rows (graph_of t.graph) t.demands.now) priced.duals
+      (route_bound (graph_of t.graph) t.demands.now t.caps.now) <ℤ (priced.den *ℤ pos (total_scaled_need t.demands.now t.caps.now))
