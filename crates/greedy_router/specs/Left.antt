@@ -13,5 +13,6 @@ pub record IsLeft (joins : ℕ → ℕ → ℕ → Type 0) (demands : List Deman
   pub count : length left.rest ≡ length demands
   pub met : (k : ℕ) (d : Demand) → slice_get demands k ≡ Some d → sent left.routing.flows k + slice_index left.rest k ≡ d.need * scale
   pub within : (e : ℕ) → load left.routing.flows e ≤ slice_index nums e
-  pub blocked : (k : ℕ) (d : Demand) → slice_get demands k ≡ Some d → 0 < slice_index left.rest k → IsBlocked joins (HasSpare nums left.routing.flows) d.from.0 d.to.0
+  pub blocked : (k : ℕ) (d : Demand) → slice_get demands k ≡ Some d → 0 < slice_index left.rest k
+      → IsBlocked joins (HasSpare nums left.routing.flows) d.from.0 d.to.0
   pub few : length left.routing.flows ≤ length nums + length demands

@@ -50,7 +50,8 @@ pub record IsDraft (joins : ℕ → ℕ → ℕ → Type 0) (demands : List Dema
 
 -- demand k has no rest, or no path of links with spare capacity
 abbrev pub IsEnded : (ℕ → ℕ → ℕ → Type 0) → List Demand → Draft → ℕ → Type 0
-IsEnded joins demands draft k = (d : Demand) → slice_get demands k ≡ Some d → 0 < slice_index draft.rest k → IsBlocked joins (λ e. 0 < slice_index draft.spares e) d.from.0 d.to.0
+IsEnded joins demands draft k = (d : Demand) → slice_get demands k ≡ Some d → 0 < slice_index draft.rest k
+    → IsBlocked joins (λ e. 0 < slice_index draft.spares e) d.from.0 d.to.0
 
 -- a draft in which these demands have been routed
 pub record AreRouted (joins : ℕ → ℕ → ℕ → Type 0) (demands : List Demand) (scale : ℕ) (nums : List ℕ) (done : List ℕ) (draft : Draft) : Type 0 where
