@@ -35,7 +35,8 @@ module _ {N : Type 0} (links demands : ℕ) (basis : ℕ → ColumnOf N) (place 
 
   -- the product of that row with a column, or, with the bounds, its value
   abbrev pub key_dot : (ℕ → ℕ → ℤ) → (ℕ → ℤ) → ℤ → ℕ → (ℕ → ℤ) → ℤ
-  key_dot kept weight all d a = (all *ℤ a (links + d)) -ℤ int_sum links (λ i. key_times weight d i *ℤ dot links (kept i) (left_column links demands basis place a))
+  key_dot kept weight all d a = (all *ℤ a (links + d)) -ℤ int_sum links
+      (λ i. key_times weight d i *ℤ dot links (kept i) (left_column links demands basis place a))
 
   -- the rows of the inverse by role; those of the keys are given, over any denominators
   abbrev pub role_nums : (ℕ → ℕ → ℤ) → (ℕ → ℤ) → (ℕ → ℕ → ℤ) → (ℕ → ℤ) → ℕ → ℕ → ℤ
@@ -43,10 +44,12 @@ module _ {N : Type 0} (links demands : ℕ) (basis : ℕ → ColumnOf N) (place 
 
   -- the value of a role over a common denominator of the block
   abbrev pub role_value : (ℕ → ℕ → ℤ) → (ℕ → ℤ) → ℤ → (ℕ → ℤ) → ℕ → ℤ
-  role_value kept weight all bound r = cond (ltb r links) (weight r *ℤ dot links (kept r) (left_column links demands basis place bound)) (key_dot kept weight all (r - links) bound)
+  role_value kept weight all bound r = cond (ltb r links) (weight r *ℤ dot links (kept r) (left_column links demands basis place bound))
+      (key_dot kept weight all (r - links) bound)
 
 -- a row of each demand's key, over a positive denominator
 pub record AreKeyRows {N : Type 0} (links demands : ℕ) (basis : ℕ → ColumnOf N) (place : ℕ → ℕ) (of_keys : ℕ → ℕ → ℤ) (of_den : ℕ → ℤ) : Type 0 where
   pub rows : (d : ℕ) → d < demands
-      → IsRow (links + demands) (λ j. (basis j).entry) (unit_vector (place (links + d))) (full_key links demands basis place d (of_keys d) (of_den d)) (of_den d)
+      → IsRow (links + demands) (λ j. (basis j).entry) (unit_vector (place (links + d))) (full_key links demands basis place d (of_keys d) (of_den d))
+      (of_den d)
   pub over : (d : ℕ) → d < demands → pos 0 <ℤ of_den d

@@ -50,7 +50,8 @@ pub record KeyedTurn (N : Type 0) : Type 0 where
   pub key_rows : AreKeyRows before.links before.demands before.basis before.place of_keys of_den
   pub enters : ColumnOf N
   pub leaves : ℕ
-  pub pick : IsKeyPick before.links before.demands before.bound before.basis before.place before.kept before.den before.prices before.prices_den of_keys of_den enters leaves
+  pub pick : IsKeyPick before.links before.demands before.bound before.basis before.place before.kept before.den
+      before.prices before.prices_den of_keys of_den enters leaves
 
 -- the basis after the turn
 abbrev pub basis_after : {N : Type 0} → KeyedTurn N → ℕ → ColumnOf N

@@ -23,7 +23,8 @@ module _ (N : Type 0) where
       → ((c : ColumnOf N) → IsColumnBy test c → Gains (whole_rows k) (whole_prices k) k.prices_den c → ⊥)
       → ((i : ℕ) → i < k.links → weight i *ℤ k.den i ≡ all)
       → pos 0 <ℤ all
-      → IsOptimum (whole_rows k) k.bound (IsColumnBy test) k.basis (λ j. role_value k.links k.demands k.basis k.place k.kept weight all k.bound (k.role j)) all (whole_prices k) k.prices_den
+      → IsOptimum (whole_rows k) k.bound (IsColumnBy test) k.basis
+      (λ j. role_value k.links k.demands k.basis k.place k.kept weight all k.bound (k.role j)) all (whole_prices k) k.prices_den
 
   -- the next basis is reached where this one is
   abbrev pub TurnsReach : Type 0

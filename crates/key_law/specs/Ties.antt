@@ -21,7 +21,8 @@ ComesFirst links x p y q n r o s a b = ((x *ℤ q) <ℤ (y *ℤ p)) ⊎ ((x *ℤ
 
 -- the row of a role over den, its value, and its product with a, which is positive; nums and lowest are its link entries and its product
 -- but for a positive factor, as in lowest terms
-pub record IsRoleRow (links demands : ℕ) (keys : ℕ → ℕ → ℤ) (bound a : ℕ → ℤ) (role : ℕ) (value product : ℤ) (nums : ℕ → ℤ) (lowest : ℤ) (target : ℕ → ℤ) (u : ℕ → ℤ) (den : ℤ) (full : ℕ → ℤ) : Type 0 where
+pub record IsRoleRow (links demands : ℕ) (keys : ℕ → ℕ → ℤ) (bound a : ℕ → ℤ) (role : ℕ) (value product : ℤ) (nums : ℕ → ℤ) (lowest : ℤ) (target : ℕ → ℤ)
+    (u : ℕ → ℤ) (den : ℤ) (full : ℕ → ℤ) : Type 0 where
   pub inside : role < links + demands
   pub spreads : IsSpread links demands keys target u den full
   pub of_block : role < links → (d : ℕ) → d < demands → target d ≡ pos 0

@@ -16,16 +16,20 @@ pub record IsKeyPick {N : Type 0} (links demands : ℕ) (bound : ℕ → ℤ) (b
   pub positive : pos 0 <ℤ dot (links + demands) (role_nums links demands basis place kept den of_keys of_den r) c.entry
   pub gains : cost links demands basis place prices prices_den c <ℤ pos 0
   pub ratio : (i : ℕ) → i < links + demands → i ≢ r → pos 0 <ℤ dot (links + demands) (role_nums links demands basis place kept den of_keys of_den i) c.entry
-      → IsRatioLe (links + demands) bound c.entry (role_nums links demands basis place kept den of_keys of_den r) (role_nums links demands basis place kept den of_keys of_den i)
+      → IsRatioLe (links + demands) bound c.entry (role_nums links demands basis place kept den of_keys of_den r)
+      (role_nums links demands basis place kept den of_keys of_den i)
 
 -- the rows of the block and the prices after the column of row r has left for c: each combined with row r, in lowest terms
-pub record IsBlockTurned {N : Type 0} (links demands : ℕ) (basis : ℕ → ColumnOf N) (place : ℕ → ℕ) (c : ColumnOf N) (r : ℕ) (kept next : ℕ → ℕ → ℤ) (den next_den : ℕ → ℤ)
+pub record IsBlockTurned {N : Type 0} (links demands : ℕ) (basis : ℕ → ColumnOf N) (place : ℕ → ℕ) (c : ColumnOf N) (r : ℕ) (kept next : ℕ → ℕ → ℤ)
+    (den next_den : ℕ → ℤ)
     (prices later : ℕ → ℤ) (prices_den later_den : ℤ) : Type 0 where
   pub others : (i : ℕ) → i < links → i ≢ r
-      → IsReduced links (combined (kept i) (dot links (kept i) (left_column links demands basis place c.entry)) (kept r) (dot links (kept r) (left_column links demands basis place c.entry)))
+      → IsReduced links (combined (kept i) (dot links (kept i) (left_column links demands basis place c.entry)) (kept r)
+      (dot links (kept r) (left_column links demands basis place c.entry)))
       (den i *ℤ dot links (kept r) (left_column links demands basis place c.entry)) (next i) (next_den i)
   pub pivot : IsReduced links (kept r) (dot links (kept r) (left_column links demands basis place c.entry)) (next r) (next_den r)
-  pub prices_are : IsReduced links (combined prices (cost links demands basis place prices prices_den c) (kept r) (dot links (kept r) (left_column links demands basis place c.entry)))
+  pub prices_are : IsReduced links (combined prices (cost links demands basis place prices prices_den c) (kept r)
+      (dot links (kept r) (left_column links demands basis place c.entry)))
       (prices_den *ℤ dot links (kept r) (left_column links demands basis place c.entry)) later later_den
 
 -- c is a column of demand d, and no column of the block is one, so that c may take the place of the key
