@@ -17,7 +17,18 @@ use Rattle.key_paths.specs.declared.turns.Turn.TheVariants.{Again, Unbounded, Wi
 
 -- a basis with other products
 abbrev pub with_products : Keyed → List ℤ → Keyed
-with_products b products = record { names = b.names; places = b.places; owners = b.owners; rows = b.rows; prices = b.prices; duals = b.duals; bounds = b.bounds; rest = b.rest; values = b.values; products = products }
+with_products b products = record {
+  names = b.names;
+  places = b.places;
+  owners = b.owners;
+  rows = b.rows;
+  prices = b.prices;
+  duals = b.duals;
+  bounds = b.bounds;
+  rest = b.rest;
+  values = b.values;
+  products = products;
+}
 
 -- what is too wide of a key, by its place, when a column of this name enters
 abbrev pub wide_kind : Keyed → RouteColumn → WideTest → WideKind RouteColumn
@@ -46,7 +57,8 @@ module _ (links demands : ℕ) (bound : ℕ → ℤ) (basis : ℕ → ColumnOf R
   -- the next basis is held, or a kind holds of it or of the basis before, or no role limits the column
   abbrev pub Enters : ColumnOf RouteColumn → Turn → Keyed → Type 0
   Enters c Again new = (r : ℕ) × IsPicked c r × ((places roles : ℕ → ℕ) × IsHeld links demands bound (put basis (place r) c) places roles new)
-  Enters c (Wide kind) new = IsWideBasis links demands c basis new.names kind ⊎ ((r : ℕ) × IsPicked c r × IsWideBasis links demands c (put basis (place r) c) new.names kind)
+  Enters c (Wide kind) new = IsWideBasis links demands c basis new.names kind
+      ⊎ ((r : ℕ) × IsPicked c r × IsWideBasis links demands c (put basis (place r) c) new.names kind)
   Enters c Unbounded new = (r : ℕ) → r < links + demands → LimitsNothing (links + demands) bound basis place c.entry r
 
 -- a column of this name gains in some basis that is so held

@@ -40,7 +40,8 @@ abbrev pub HaveProducts : ℕ → List ℤ → (ℕ → ℕ → ℤ) → (ℕ �
 HaveProducts links products rows left = (i : ℕ) → i < links → num products i ≡ dot links (rows i) left
 
 -- a column of this name, whose products with the rows the basis holds, enters for that of role r, which is first by the ratio test
-pub record IsEntering (links demands : ℕ) (bound : ℕ → ℤ) (basis : ℕ → ColumnOf RouteColumn) (place role : ℕ → ℕ) (b : Keyed) (name : RouteColumn) (c : ColumnOf RouteColumn) (r : ℕ) : Type 0 where
+pub record IsEntering (links demands : ℕ) (bound : ℕ → ℤ) (basis : ℕ → ColumnOf RouteColumn) (place role : ℕ → ℕ) (b : Keyed) (name : RouteColumn)
+    (c : ColumnOf RouteColumn) (r : ℕ) : Type 0 where
   pub held : IsHeld links demands bound basis place role b
   pub named : IsColumnNamed links demands name c
   pub sound : IsNameOf links demands name

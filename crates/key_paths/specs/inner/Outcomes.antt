@@ -50,4 +50,5 @@ module _ (links demands : ℕ) (c : ColumnOf RouteColumn) where
 -- a column of this name and cost that enters for that of role r leaves the turn, and a basis as the code then holds it
 abbrev pub TurnsAt : ℕ → ℕ → Keyed → RouteColumn → ℤ → ℕ → Turn → Keyed → Type 0
 TurnsAt links demands b name x r turn next = (bound : ℕ → ℤ) (basis : ℕ → ColumnOf RouteColumn) (place role : ℕ → ℕ) (c : ColumnOf RouteColumn)
-    → IsEntering links demands bound basis place role b name c r → IsPriced links demands basis place b c x → ComesOf links demands c bound basis (place r) turn next
+    → IsEntering links demands bound basis place role b name c r → IsPriced links demands basis place b c x
+    → ComesOf links demands c bound basis (place r) turn next

@@ -18,11 +18,33 @@ key_takes b d k = num b.bounds (length b.rows + d) *ℤ path_uses (links_in (key
 
 -- a basis with another rest
 abbrev pub with_rest : Keyed → List ℤ → Keyed
-with_rest b rest = record { names = b.names; places = b.places; owners = b.owners; rows = b.rows; prices = b.prices; duals = b.duals; bounds = b.bounds; rest = rest; values = b.values; products = b.products }
+with_rest b rest = record {
+  names = b.names;
+  places = b.places;
+  owners = b.owners;
+  rows = b.rows;
+  prices = b.prices;
+  duals = b.duals;
+  bounds = b.bounds;
+  rest = rest;
+  values = b.values;
+  products = b.products;
+}
 
 -- a basis with other values and products
 abbrev pub with_numbers : Keyed → List ℕ → List ℤ → Keyed
-with_numbers b values products = record { names = b.names; places = b.places; owners = b.owners; rows = b.rows; prices = b.prices; duals = b.duals; bounds = b.bounds; rest = b.rest; values = values; products = products }
+with_numbers b values products = record {
+  names = b.names;
+  places = b.places;
+  owners = b.owners;
+  rows = b.rows;
+  prices = b.prices;
+  duals = b.duals;
+  bounds = b.bounds;
+  rest = b.rest;
+  values = values;
+  products = products;
+}
 
 -- the places of two roles are swapped
 abbrev pub AreSwapped : List ℕ → List ℕ → ℕ → ℕ → Type 0
@@ -55,7 +77,8 @@ pub record AreRowsTurned (old : Keyed) (name : RouteColumn) (cost : ℤ) (i : �
   pub owners : new.owners ≡ slice_set old.owners i (owner_in (length old.duals) name)
   pub rows : AreTurned (length old.rows) old.rows new.rows old.products i
   pub length_prices : length new.prices.nums ≡ length old.rows
-  pub prices : IsReduced (length old.rows) (combined (num old.prices.nums) cost (nums_at old.rows i) (num old.products i)) (old.prices.den *ℤ num old.products i) (num new.prices.nums) new.prices.den
+  pub prices : IsReduced (length old.rows) (combined (num old.prices.nums) cost (nums_at old.rows i) (num old.products i))
+      (old.prices.den *ℤ num old.products i) (num new.prices.nums) new.prices.den
   pub duals : new.duals ≡ old.duals
   pub bounds : new.bounds ≡ old.bounds
   pub rest : new.rest ≡ old.rest
@@ -64,5 +87,6 @@ pub record AreRowsTurned (old : Keyed) (name : RouteColumn) (cost : ℤ) (i : �
 
 -- the prices of the next basis are too wide, or a row of it
 abbrev pub IsWideTurn : Keyed → ℤ → ℕ → WideTurn → Type 0
-IsWideTurn old cost i Prices = (wide : WideNumber) × IsTooWide (length old.rows) (combined (num old.prices.nums) cost (nums_at old.rows i) (num old.products i)) (old.prices.den *ℤ num old.products i) wide
+IsWideTurn old cost i Prices = (wide : WideNumber)
+    × IsTooWide (length old.rows) (combined (num old.prices.nums) cost (nums_at old.rows i) (num old.products i)) (old.prices.den *ℤ num old.products i) wide
 IsWideTurn old cost i (RowOf k) = IsWideRow (length old.rows) old.rows old.products i k
