@@ -20,7 +20,8 @@ module _ (m : ℕ) (bound : ℕ → ℤ) (basis : ℕ → ColumnOf RouteColumn) 
 
   -- where both limit it, role r comes no later than role s
   abbrev pub IsNoLaterRole : ℕ → ℕ → Type 0
-  IsNoLaterRole r s = (u v : ℕ → ℤ) (d e : ℤ) → IsInverseRow m basis (place r) u d → IsInverseRow m basis (place s) v e → pos 0 <ℤ dot m u a → pos 0 <ℤ dot m v a → IsRatioLe m bound a u v
+  IsNoLaterRole r s = (u v : ℕ → ℤ) (d e : ℤ) → IsInverseRow m basis (place r) u d → IsInverseRow m basis (place s) v e → pos 0 <ℤ dot m u a
+      → pos 0 <ℤ dot m v a → IsRatioLe m bound a u v
 
   -- the first of these roles that limits the column, if one does
   abbrev pub IsFirstRole : (ℕ → Type 0) → Option ℕ → Type 0
@@ -28,14 +29,17 @@ module _ (m : ℕ) (bound : ℕ → ℤ) (basis : ℕ → ColumnOf RouteColumn) 
   IsFirstRole these (Some r) = (r < m) × HasStep r × ((s : ℕ) → s < m → these s → IsNoLaterRole r s)
 
 -- a column of this name may enter a basis that is held by its keys; its products with the rows are those that the basis holds
-pub record IsAsked (bound : ℕ → ℤ) (basis : ℕ → ColumnOf RouteColumn) (place role : ℕ → ℕ) (b : Keyed) (name : RouteColumn) (c : ColumnOf RouteColumn) : Type 0 where
+pub record IsAsked (bound : ℕ → ℤ) (basis : ℕ → ColumnOf RouteColumn) (place role : ℕ → ℕ) (b : Keyed) (name : RouteColumn)
+    (c : ColumnOf RouteColumn) : Type 0 where
   pub keyed : IsKeyed (length b.rows) (length b.duals) bound basis place role b
   pub named : IsColumnNamed (length b.rows) (length b.duals) name c
-  pub products : (i : ℕ) → i < length b.rows → num b.products i ≡ dot (length b.rows) (nums_at b.rows i) (left_column (length b.rows) (length b.duals) basis place c.entry)
+  pub products : (i : ℕ) → i < length b.rows
+      → num b.products i ≡ dot (length b.rows) (nums_at b.rows i) (left_column (length b.rows) (length b.duals) basis place c.entry)
 
 -- whatever the basis, this is the first of these roles
 abbrev pub IsFirstOfRoles : Keyed → RouteColumn → (ℕ → Type 0) → Option ℕ → Type 0
-IsFirstOfRoles b name these o = (bound : ℕ → ℤ) (basis : ℕ → ColumnOf RouteColumn) (place role : ℕ → ℕ) (c : ColumnOf RouteColumn) → IsAsked bound basis place role b name c
+IsFirstOfRoles b name these o = (bound : ℕ → ℤ) (basis : ℕ → ColumnOf RouteColumn) (place role : ℕ → ℕ) (c : ColumnOf RouteColumn)
+    → IsAsked bound basis place role b name c
     → IsFirstRole (length b.rows + length b.duals) bound basis place c.entry these o
 
 -- the rows of each demand, and each part of them, take no more than the demand's bound

@@ -33,7 +33,8 @@ module _ (b : Keyed) (d : ℕ) where
   -- the row is too wide, or the common denominator before it
   abbrev pub IsWideSpread : WideKey → Type 0
   IsWideSpread Common = HaveNoDenominator (own_den b.rows b.owners d) (length b.rows)
-  IsWideSpread RowOf = (weights : List ℤ) × (all : ℤ) × AreWeights b.rows b.owners weights d all × IsWideKey (less_rows b.rows b.owners weights d (length b.rows)) (length b.rows) all
+  IsWideSpread RowOf = (weights : List ℤ) × (all : ℤ) × AreWeights b.rows b.owners weights d all
+      × IsWideKey (less_rows b.rows b.owners weights d (length b.rows)) (length b.rows) all
 
 -- what is too wide of the key of demand d when a column of this name enters
 abbrev pub IsWideKeyTest : Keyed → RouteColumn → ℕ → WideTest → Type 0

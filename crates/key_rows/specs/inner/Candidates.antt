@@ -59,7 +59,8 @@ IsWideRowTest b d role (TestProduct r) = ⊥
 
 -- a row, or a key when a column of this name enters, with its value and its product, which is positive
 abbrev pub IsLeavingCandidate : Keyed → RouteColumn → Candidate → Type 0
-IsLeavingCandidate b name x = IsRowCandidate (length b.rows) b.values b.products x ⊎ ((length b.rows ≤ x.role) × IsKeyCandidate b (x.role - length b.rows) (own_entry name (x.role - length b.rows)) x)
+IsLeavingCandidate b name x = IsRowCandidate (length b.rows) b.values b.products x
+    ⊎ ((length b.rows ≤ x.role) × IsKeyCandidate b (x.role - length b.rows) (own_entry name (x.role - length b.rows)) x)
 
 -- a candidate whose role there is
 pub record IsPlacedCandidate (b : Keyed) (name : RouteColumn) (x : Candidate) : Type 0 where
@@ -115,5 +116,6 @@ IsJoined b name key (Some best) x after = (better : Candidate) × (after ≡ Som
 
 -- the best so far and the key of demand d: it may be the best itself, or have no step
 abbrev pub IsWithKey : Keyed → RouteColumn → List LinkId → ℕ → Option Candidate → Option Candidate → Type 0
-IsWithKey b name key d best after = (HasNoStep b d (own_entry name d) × (after ≡ best)) ⊎ (((same : Candidate) × (best ≡ Some same) × (same.role ≡ length b.rows + d) × (after ≡ best))
+IsWithKey b name key d best after = (HasNoStep b d (own_entry name d) × (after ≡ best))
+    ⊎ (((same : Candidate) × (best ≡ Some same) × (same.role ≡ length b.rows + d) × (after ≡ best))
     ⊎ ((x : Candidate) × IsKeyCandidate b d (own_entry name d) x × IsJoined b name key best x after))
