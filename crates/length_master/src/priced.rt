@@ -127,7 +127,8 @@ fn is_even(links: &[Link], pairs: &[UnitPair], cuts: &[CutLine], duals: &Row, sl
     requires counts { All (λ cut. length cut.lengths ≡ length links.now) cuts.now }
     requires right { All (λ cut. cut.right < 2 ^ 84) cuts.now }
     requires inside { IsSlotInside (length links.now) (length cuts.now) slot }
-    ensures { IsTrue result → dot (length duals.now.nums) (num duals.now.nums) (slot_entry pairs.now cuts.now slot) ≡ duals.now.den *ℤ slot_gain links.now cuts.now slot }
+    ensures { IsTrue result → dot (length duals.now.nums) (num duals.now.nums) (slot_entry pairs.now cuts.now slot)
+        ≡ duals.now.den *ℤ slot_gain links.now cuts.now slot }
 {
     match slot {
         Slot::Slack(e) => is_unpriced(duals.nums(), e),
