@@ -40,7 +40,8 @@ pub record IsBestOf (links : List Link) (cuts : List CutLine) (best : Best) : Ty
   pub cost : share_cost pairs best.share * best.raw_den ≡ best.raw_num * best.share.scale
   pub scale_limit : best.share.scale < 2 ^ 62
   pub units_limit : All (λ u. u < 2 ^ 62) best.share.units
-  pub above : (cut : CutLine) (own bound : ℕ) → Contains cuts cut → IsOwnBound links cut.lengths cut.right own → IsBound links best.raw_num best.raw_den bound → own ≤ bound
+  pub above : (cut : CutLine) (own bound : ℕ) → Contains cuts cut → IsOwnBound links cut.lengths cut.right own → IsBound links best.raw_num best.raw_den bound
+      → own ≤ bound
 
 -- evidence of the master program of the cuts
 abbrev pub IsEvidenceOf : List Link → List CutLine → Evidence → Type 0

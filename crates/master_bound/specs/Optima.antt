@@ -12,7 +12,8 @@ use Rattle.master_bound.specs.Narrow.{IsWideCut}
 pub record IsMasterOptimum (links : List Link) (pairs : List UnitPair) (cuts : List CutLine) (best : Optimum MasterColumn) : Type 0 where
   pub basis : ℕ → ColumnOf MasterColumn
   pub names : AreNames (length links) basis best.basis
-  pub optimum : IsOptimum (length links) (master_bound pairs) (IsMasterColumn links pairs cuts) basis (λ j. pos (get_or best.values j 0)) (pos best.den) (num best.duals.nums) best.duals.den
+  pub optimum : IsOptimum (length links) (master_bound pairs) (IsMasterColumn links pairs cuts) basis (λ j. pos (get_or best.values j 0)) (pos best.den)
+      (num best.duals.nums) best.duals.den
   pub narrow : best.den < 2 ^ 62
   pub count : length best.values ≡ length links
   pub prices : length best.duals.nums ≡ length links
@@ -24,4 +25,5 @@ IsWideOptimum links pairs cuts best = (o : IsMasterOptimum links pairs cuts best
 
 -- a number of a cut is too wide, or the values of the basis are
 abbrev pub IsTooWideAt : List Link → List UnitPair → List CutLine → Optimum MasterColumn → Type 0
-IsTooWideAt links pairs cuts best = ((k : ℕ) × (cut : CutLine) × (slice_get cuts k ≡ Some cut) × IsWideCut links pairs cut) ⊎ IsWideOptimum links pairs cuts best
+IsTooWideAt links pairs cuts best = ((k : ℕ) × (cut : CutLine) × (slice_get cuts k ≡ Some cut) × IsWideCut links pairs cut)
+    ⊎ IsWideOptimum links pairs cuts best

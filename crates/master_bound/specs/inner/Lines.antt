@@ -57,10 +57,12 @@ pub record HaveOneName (basis : List MasterColumn) : Type 0 where
   pub at_second : slice_get basis second ≡ Some name
 
 -- the multipliers of the first n columns
-pub record AreBasisMultipliers (cuts : List CutLine) (basis : List MasterColumn) (amounts : List ℕ) (common n : ℕ) (multipliers : List Multiplier) : Type 0 where
+pub record AreBasisMultipliers (cuts : List CutLine) (basis : List MasterColumn) (amounts : List ℕ) (common n : ℕ)
+    (multipliers : List Multiplier) : Type 0 where
   pub few : length multipliers ≤ n
   pub each : All (IsMultiplierOf cuts basis amounts common n) multipliers
   pub different : (HaveOneName basis → ⊥) → AllPairs (λ a b. a.cut ≢ b.cut) multipliers
   pub whole : (j : ℕ) → j < n → 0 < get_or amounts j 0 / common → Contains (map (λ m. m.num) multipliers) (get_or amounts j 0 / common)
-  pub sums : (links : List Link) (columns : ℕ → ColumnOf MasterColumn) → AreNames (length basis) columns basis → ((j : ℕ) → j < length basis → GainsAsCut links cuts (columns j))
+  pub sums : (links : List Link) (columns : ℕ → ColumnOf MasterColumn) → AreNames (length basis) columns basis
+      → ((j : ℕ) → j < length basis → GainsAsCut links cuts (columns j))
       → AreLinesOf links n columns (λ j. get_or amounts j 0 / common) (lines_of cuts multipliers)
