@@ -11,7 +11,8 @@ use Rattle.master_law.specs.UnitPairs.{AreUnitPairs, share_caps, share_cost}
 
 -- there is one list of the unit pairs of a network's links
 abbrev pub UnitPairsAreOne : Type 0
-UnitPairsAreOne = (nodes : List (List ℕ)) (links : List Link) (pairs others : List UnitPair) → IsNetwork nodes links → AreUnitPairs links pairs → AreUnitPairs links others → pairs ≡ others
+UnitPairsAreOne = (nodes : List (List ℕ)) (links : List Link) (pairs others : List UnitPair) → IsNetwork nodes links → AreUnitPairs links pairs
+    → AreUnitPairs links others → pairs ≡ others
 
 -- a least share violates none of its cuts
 abbrev pub LeastShareViolatesNone : Type 0
@@ -24,7 +25,8 @@ LeastShareViolatesNone = (links : List Link) (pairs : List UnitPair) (cuts : Lis
     → ⊥
 
 -- the values of an optimum, over den, and the lines that hold its cuts
-pub record AreOptimalLines (links : List Link) (pairs : List UnitPair) (cuts : List CutLine) (den : ℕ) (lines : List CertificateLine) (duals : ℕ → ℤ) (duals_den : ℤ) : Type 0 where
+pub record AreOptimalLines (links : List Link) (pairs : List UnitPair) (cuts : List CutLine) (den : ℕ) (lines : List CertificateLine) (duals : ℕ → ℤ)
+    (duals_den : ℤ) : Type 0 where
   pub basis : ℕ → ColumnOf MasterColumn
   pub amounts : ℕ → ℕ
   pub optimum : IsOptimum (length links) (master_bound pairs) (IsMasterColumn links pairs cuts) basis (λ j. pos (amounts j)) (pos den) duals duals_den
@@ -53,7 +55,8 @@ RawValueIsShareCost = (links : List Link) (pairs : List UnitPair) (cuts : List C
 
 -- the bound of the lines of an optimum is not below the own bound of a cut of the list
 abbrev pub BoundRises : Type 0
-BoundRises = (links : List Link) (pairs : List UnitPair) (cuts : List CutLine) (cut : CutLine) (den : ℕ) (lines : List CertificateLine) (duals : ℕ → ℤ) (duals_den : ℤ) (bound own : ℕ)
+BoundRises = (links : List Link) (pairs : List UnitPair) (cuts : List CutLine) (cut : CutLine) (den : ℕ) (lines : List CertificateLine) (duals : ℕ → ℤ)
+    (duals_den : ℤ) (bound own : ℕ)
     → All (λ l. All IsModule l.modules) links
     → AreUnitPairs links pairs
     → AreOptimalLines links pairs cuts den lines duals duals_den

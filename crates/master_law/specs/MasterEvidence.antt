@@ -34,7 +34,8 @@ module _ (links : List Link) (pairs : List UnitPair) (cuts : List CutLine) where
   -- an amount is 2 ^ 62 or more, or one of the certificate's two sums is 2 ^ 126 or more
   abbrev pub AreWideAmounts : (ℕ → ColumnOf MasterColumn) → (ℕ → ℤ) → Type 0
   AreWideAmounts basis amounts =
-      ((j : ℕ) × (j < length links) × IsWide (amounts j)) ⊎ (2 ^ 126 ≤ unsigned_abs (asked_sum basis amounts)) ⊎ (2 ^ 126 ≤ unsigned_abs (given_sum basis amounts))
+      ((j : ℕ) × (j < length links) × IsWide (amounts j)) ⊎ (2 ^ 126 ≤ unsigned_abs (asked_sum basis amounts))
+      ⊎ (2 ^ 126 ≤ unsigned_abs (given_sum basis amounts))
 
   -- no column gains, and over each common denominator the amounts that fill the rows are wide
   pub record HasWideValue (basis : ℕ → ColumnOf MasterColumn) : Type 0 where
