@@ -13,7 +13,8 @@ use Rattle.model_reader.specs.Models.{model_header, key_of, key_word, model_of_s
 
 -- the keys in the order in which the first missing one is told
 abbrev pub all_keys : List ModelKey
-all_keys = aspects.Demand ∷ aspects.Link ∷ aspects.LinkCapacity ∷ aspects.FixedCharge ∷ aspects.Routing ∷ aspects.AdmissiblePath ∷ aspects.HopLimit ∷ aspects.Survivability ∷ []
+all_keys = aspects.Demand ∷ aspects.Link ∷ aspects.LinkCapacity ∷ aspects.FixedCharge ∷ aspects.Routing ∷ aspects.AdmissiblePath ∷ aspects.HopLimit
+    ∷ aspects.Survivability ∷ []
 
 -- the first key that passes a test
 abbrev pub first_key : (ModelKey → Bool) → List ModelKey → Option ModelKey
