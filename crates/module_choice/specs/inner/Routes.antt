@@ -36,7 +36,8 @@ pub record AreRouted (p : Case) (lengths : List ℕ) (n : ℕ) (routings : List 
 -- the counts of all links that have these modules are the cheapest for their needs
 abbrev pub AlikeAreCovered : List Link → List ℕ → List (List ℕ) → List Module → Type 0
 AlikeAreCovered links needs counts modules =
-    (e : ℕ) (l : Link) (c : List ℕ) → slice_get links e ≡ Some l → slice_get counts e ≡ Some c → l.modules ≡ modules → AreCheapest l.modules (slice_index needs e) c
+    (e : ℕ) (l : Link) (c : List ℕ) → slice_get links e ≡ Some l → slice_get counts e ≡ Some c → l.modules ≡ modules
+    → AreCheapest l.modules (slice_index needs e) c
 
 -- an earlier link has the modules of link e
 pub record HasEarlier (links : List Link) (e : ℕ) : Type 0 where

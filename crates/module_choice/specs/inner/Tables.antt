@@ -26,7 +26,8 @@ pub record IsOneMore (modules : List Module) (entries : List Entry) (n : ℕ) (e
 -- of all such entries for one step more than there are entries the cheapest
 pub record IsNextEntry (modules : List Module) (entries : List Entry) (entry : Entry) : Type 0 where
   pub more : IsOneMore modules entries (length entries) entry
-  pub least : (k : ℕ) (m : Module) (r : Entry) → slice_get modules k ≡ Some m → slice_get entries (length entries - m.capacity) ≡ Some r → entry.cost ≤ m.cost + r.cost
+  pub least : (k : ℕ) (m : Module) (r : Entry) → slice_get modules k ≡ Some m → slice_get entries (length entries - m.capacity) ≡ Some r
+      → entry.cost ≤ m.cost + r.cost
 
 -- each entry has the least cost to reach as many steps as there are entries before it
 pub record AreLeastCosts (modules : List Module) (entries : List Entry) : Type 0 where
