@@ -15,7 +15,8 @@ boundary_lengths is_member links = map (λ l. cond (crosses_boundary is_member l
 
 -- the capacities violate the cut by its right side at the demands
 abbrev pub IsViolatedAt : Graph → List Demand → Caps → Cut → Type 0
-IsViolatedAt g demands caps cut = (right : ℕ) → IsRight (Joins g) cut.lengths demands right → Violates caps (record { state = cut.state; lengths = cut.lengths; right = right })
+IsViolatedAt g demands caps cut = (right : ℕ) → IsRight (Joins g) cut.lengths demands right
+    → Violates caps (record { state = cut.state; lengths = cut.lengths; right = right })
 
 -- a violated cut of what the state keeps of the boundary of a set of nodes
 pub record IsBoundaryCut (g : Graph) (demands : List Demand) (caps : Caps) (cut : Cut) : Type 0 where
