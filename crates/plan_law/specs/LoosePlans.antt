@@ -27,7 +27,8 @@ abbrev pub AreCapsOfShare : List Link → List UnitPair → Share → Caps → T
 AreCapsOfShare links pairs share caps = (caps ≡ share_caps links pairs share) ⊎ AreCoverCaps links pairs share caps
 
 -- a number is too wide where a state is routed at a least share of the cuts, which costs the raw value, or at counts that cover it
-pub record IsWideInState (p : Case) (pairs : List UnitPair) (cuts : List CutLine) (plan : Plan) (s : ℕ) (caps : Caps) (basis : List RouteColumn) (kind : WideKind RouteColumn) : Type 0 where
+pub record IsWideInState (p : Case) (pairs : List UnitPair) (cuts : List CutLine) (plan : Plan) (s : ℕ) (caps : Caps) (basis : List RouteColumn)
+    (kind : WideKind RouteColumn) : Type 0 where
   pub listed_state : s ≤ length p.listed
   pub share : Share
   pub least : IsLeastShare p.links pairs cuts share
