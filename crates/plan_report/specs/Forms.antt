@@ -94,7 +94,8 @@ IsKindInForm column value length rows Value = value
 IsKindInForm column value length rows (Length e) = length e
 
 -- evidence on the routing of a state: a row for each link and each demand, and as many columns
-pub record IsRouteEvidenceInForm (known : KnownNames) (demands : List Demand) (state : StateId) (caps : Caps) (basis : List RouteColumn) (kind : WideKind RouteColumn) : Type 0 where
+pub record IsRouteEvidenceInForm (known : KnownNames) (demands : List Demand) (state : StateId) (caps : Caps) (basis : List RouteColumn)
+    (kind : WideKind RouteColumn) : Type 0 where
   pub state_listed : state.0 ≤ length known.listed
   pub capacities : AreCapsInForm known.links caps
   pub long : length basis ≡ length known.links + length demands

@@ -69,7 +69,8 @@ flow_items links demands f = Verbatim (demand_name demands f.demand) ∷ Whole f
 -- the routing of a state: the state's number and name, the denominator, and the flows
 abbrev pub routing_items : KnownNames → List Demand → ℕ × Routing → List Item
 routing_items known demands p =
-    Verbatim (codes "state") ∷ Whole p.0 ∷ Verbatim (state_name known.listed p.0) ∷ Whole p.1.den ∷ enclosed (flat_map (flow_items known.links demands) p.1.flows)
+    Verbatim (codes "state") ∷ Whole p.0 ∷ Verbatim (state_name known.listed p.0) ∷ Whole p.1.den
+    ∷ enclosed (flat_map (flow_items known.links demands) p.1.flows)
 
 -- the routings of all states, from state 0
 abbrev pub routings_items : KnownNames → List Demand → List Routing → List Item
@@ -148,7 +149,8 @@ head_items caller serial version position =
 
 -- the cost, the bound, and the raw value of the certificate as a fraction
 abbrev pub costs_items : Places → Plan → List Item
-costs_items places p = Verbatim (codes "cost") ∷ Money places p.cost ∷ Verbatim (codes "bound") ∷ Money places p.bound ∷ Verbatim (codes "raw") ∷ Whole p.raw_num ∷ Whole p.raw_den ∷ []
+costs_items places p = Verbatim (codes "cost") ∷ Money places p.cost ∷ Verbatim (codes "bound") ∷ Money places p.bound ∷ Verbatim (codes "raw")
+    ∷ Whole p.raw_num ∷ Whole p.raw_den ∷ []
 
 -- a plan after its head: its demands, its costs, its modules, its certificate, its routings, and how good its bound is
 abbrev pub plan_items : KnownNames → Plan → List Item
@@ -162,7 +164,8 @@ plan_items known p =
 
 -- the state that separates a demand, by its number and name, and the demand
 abbrev pub separation_items : List Listed → StateId → List ℕ → List Item
-separation_items listed state demand = Verbatim (codes "state") ∷ Whole state.0 ∷ Verbatim (state_name listed state.0) ∷ Verbatim (codes "demand") ∷ Verbatim demand ∷ []
+separation_items listed state demand = Verbatim (codes "state") ∷ Whole state.0 ∷ Verbatim (state_name listed state.0) ∷ Verbatim (codes "demand")
+    ∷ Verbatim demand ∷ []
 
 -- the outcome of a plan command
 abbrev pub outcome_items : KnownNames → Outcome → List Item
