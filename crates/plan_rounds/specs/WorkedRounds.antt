@@ -60,7 +60,8 @@ module _ (p : Case) (pairs : List UnitPair) (cuts : List CutLine) where
     pub share : fractional.share ≡ best.share
     pub proper : IsProperShare p.links fractional.share
     pub states : length fractional.routings ≡ length p.listed + 1
-    pub routed : (s : ℕ) (r : Routing) → slice_get fractional.routings s ≡ Some r → IsRouted (graph_in p s) p.demands (share_caps p.links pairs fractional.share) r
+    pub routed : (s : ℕ) (r : Routing) → slice_get fractional.routings s ≡ Some r
+        → IsRouted (graph_in p s) p.demands (share_caps p.links pairs fractional.share) r
 
   -- a number is too wide where a state is routed within the share
   pub record IsWideAt (best : Best) (s : ℕ) (caps : Caps) (basis : List RouteColumn) (kind : WideKind RouteColumn) : Type 0 where

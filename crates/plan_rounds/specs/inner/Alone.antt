@@ -60,4 +60,5 @@ PoolsAsFar p pairs most old new lines lines_now far =
 
 -- and what of all turns after what the list begins with
 abbrev pub PoolsRounds : Case → ℕ → (old new : Seen Entry) → List CutLine → Type 0
-PoolsRounds p most old new lines = IsAlone new → most ≡ 4096 → IsBeginning p [] lines → cuts_of old.history ≡ map cut_of_line lines → ∥ IsWorkedPool p new.history ∥₁
+PoolsRounds p most old new lines = IsAlone new → most ≡ 4096 → IsBeginning p [] lines → cuts_of old.history ≡ map cut_of_line lines
+    → ∥ IsWorkedPool p new.history ∥₁

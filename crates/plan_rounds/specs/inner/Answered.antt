@@ -28,7 +28,8 @@ module _ (p : Case) (caps : Caps) where
 
   -- the state is routed within the capacities, or there is evidence of it
   abbrev pub IsRoutedOrWide : ℕ → Type 0
-  IsRoutedOrWide s = ((r : Routing) × IsRouted (graph_in p s) p.demands caps r) ⊎ ((evidence : Evidence) × IsEvidenceHere (graph_in p s) p.demands caps evidence)
+  IsRoutedOrWide s = ((r : Routing) × IsRouted (graph_in p s) p.demands caps r)
+      ⊎ ((evidence : Evidence) × IsEvidenceHere (graph_in p s) p.demands caps evidence)
 
   -- a routing for each of n states
   pub record AreRoutedStates (n : ℕ) (routings : List Routing) : Type 0 where

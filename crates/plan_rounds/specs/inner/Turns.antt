@@ -72,7 +72,8 @@ AddsFound room a old new false = new ≡ old
 module _ (p : Case) (pairs : List UnitPair) where
   -- a round of at least one cut has been added to the list, or the list is as it was
   abbrev pub AddsRound : ℕ → Candidates → Candidates → Bool → Type 0
-  AddsRound room old new true = (round : Round) × IsRound p pairs old.lines round × (new.lines ≡ old.lines ++ round.cuts) × (0 < length round.cuts) × (length round.cuts ≤ room) × Extends old new
+  AddsRound room old new true = (round : Round) × IsRound p pairs old.lines round × (new.lines ≡ old.lines ++ round.cuts) × (0 < length round.cuts)
+      × (length round.cuts ≤ room) × Extends old new
   AddsRound room old new false = new ≡ old
 
   -- further cuts, or an end that no evidence of the program brings
@@ -94,4 +95,5 @@ module _ (p : Case) (pairs : List UnitPair) where
 
 -- from a beginning of any pool that leaves room for 4,096 cuts, the rounds of that pool
 abbrev pub WorksOn : Case → List Entry → ℕ → List CutLine → Worked → Type 0
-WorksOn p history most lines worked = (pool : List CutLine) → length pool + 4096 ≡ most → All (IsCut p) pool → IsBeginning p pool lines → ∥ AreWorkedRounds p history pool worked ∥₁
+WorksOn p history most lines worked = (pool : List CutLine) → length pool + 4096 ≡ most → All (IsCut p) pool → IsBeginning p pool lines
+    → ∥ AreWorkedRounds p history pool worked ∥₁
