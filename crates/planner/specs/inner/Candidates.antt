@@ -33,7 +33,11 @@ pub record IsBoundOfCut (links : List Link) (cut : CutLine) (spot : Spot) (b : C
   pub certificate : IsOwnCertificate links cut own
   pub small : All (λ x. x < 2 ^ 32) cut.lengths
   pub is : ((own.raw.num ≡ 0) × IsBoundOfNone links b)
-      ⊎ ((0 < own.raw.num) × (b ≡ record { certificate = record { den = own.multiplier.den; lines = record { num = own.multiplier.num; spot = spot; cut = cut } ∷ [] }; raw = own.raw; bound = own.bound }))
+      ⊎ ((0 < own.raw.num) × (b ≡ record {
+        certificate = record { den = own.multiplier.den; lines = record { num = own.multiplier.num; spot = spot; cut = cut } ∷ [] };
+        raw = own.raw;
+        bound = own.bound;
+      }))
 
 -- the bound of the first cut of greatest own bound
 pub record IsBoundOfBest (links : List Link) (w : Worked) (k : ℕ) (b : CertifiedBound) : Type 0 where
