@@ -89,14 +89,16 @@ wide_length_at links = do
   give (wide.Length e)
 
 abbrev pub route_wide_branches : (Bool → Reading ReportKind RouteColumn) → List Link → ℕ → Branches (WideKind RouteColumn)
-route_wide_branches column links rows = (codes "number", wide_number_at column) ∷ (codes "row", wide_row_at rows) ∷ (codes "entry", wide_entry_at column rows) ∷ (codes "sum", wide_sum_at rows)
+route_wide_branches column links rows = (codes "number", wide_number_at column) ∷ (codes "row", wide_row_at rows) ∷ (codes "entry", wide_entry_at column rows)
+    ∷ (codes "sum", wide_sum_at rows)
     ∷ (codes "common", give wide.Common) ∷ (codes "length", wide_length_at links) ∷ []
 
 abbrev pub route_wide_at : (Bool → Reading ReportKind RouteColumn) → List Link → ℕ → Reading ReportKind (WideKind RouteColumn)
 route_wide_at column links rows = branch_at (route_wide_branches column links rows)
 
 abbrev pub master_wide_branches : (Bool → Reading ReportKind MasterColumn) → ℕ → Branches (WideKind MasterColumn)
-master_wide_branches column rows = (codes "number", wide_number_at column) ∷ (codes "row", wide_row_at rows) ∷ (codes "entry", wide_entry_at column rows) ∷ (codes "sum", wide_sum_at rows)
+master_wide_branches column rows = (codes "number", wide_number_at column) ∷ (codes "row", wide_row_at rows) ∷ (codes "entry", wide_entry_at column rows)
+    ∷ (codes "sum", wide_sum_at rows)
     ∷ (codes "common", give wide.Common) ∷ (codes "value", give wide.Value) ∷ []
 
 abbrev pub master_wide_at : (Bool → Reading ReportKind MasterColumn) → ℕ → Reading ReportKind (WideKind MasterColumn)
