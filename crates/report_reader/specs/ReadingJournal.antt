@@ -30,7 +30,8 @@ unfoldable pub routing_note_at : Bool → Reading ReportKind Notes
 routing_note_at fixed = branch_or true (Ok (noted fixed false false)) (routing_note_branches fixed)
 
 abbrev pub notes_branches : Branches Notes
-notes_branches = (codes "fixed", routing_note_at true) ∷ (codes "routing", setup_note_at false true) ∷ (codes "setup", notes_end_at (noted false false true)) ∷ []
+notes_branches = (codes "fixed", routing_note_at true) ∷ (codes "routing", setup_note_at false true) ∷ (codes "setup", notes_end_at (noted false false true))
+    ∷ []
 
 unfoldable pub notes_at : Reading ReportKind Notes
 notes_at = branch_or true (Ok (noted false false false)) notes_branches
@@ -81,7 +82,8 @@ too_much_at p = do
   give (TooMuch total)
 
 abbrev pub reply_branches : Places → Branches Reply
-reply_branches p = (codes "accepted", accepted_at) ∷ (codes "unknown-demand", give UnknownDemand) ∷ (codes "known-demand", give KnownDemand) ∷ (codes "unknown-node", give UnknownNode)
+reply_branches p = (codes "accepted", accepted_at) ∷ (codes "unknown-demand", give UnknownDemand) ∷ (codes "known-demand", give KnownDemand)
+    ∷ (codes "unknown-node", give UnknownNode)
     ∷ (codes "self-demand", give SelfDemand) ∷ (codes "too-many", give TooMany) ∷ (codes "too-much", too_much_at p) ∷ []
 
 abbrev pub reply_at : Places → Reading ReportKind Reply
