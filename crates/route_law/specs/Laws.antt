@@ -13,7 +13,8 @@ basis_gain rows basis amounts = int_sum rows (λ j. pos (amounts j) *ℤ (basis 
 
 -- the flows of an optimum whose value isn't below what the demands need carry the demands
 abbrev pub BasisFlowsCarry : Type 0
-BasisFlowsCarry = (g : Graph) (demands : List Demand) (caps : Caps) (basis : ℕ → ColumnOf RouteColumn) (amounts : ℕ → ℕ) (den : ℕ) (duals : ℕ → ℤ) (duals_den : ℤ) (routing : Routing)
+BasisFlowsCarry = (g : Graph) (demands : List Demand) (caps : Caps) (basis : ℕ → ColumnOf RouteColumn) (amounts : ℕ → ℕ) (den : ℕ) (duals : ℕ → ℤ)
+    (duals_den : ℤ) (routing : Routing)
     → IsOptimum (route_rows g demands) (route_bound g demands caps) (IsRouteColumn g demands) basis (λ j. pos (amounts j)) (pos den) duals duals_den
     → routing.den ≡ den
     → AreFlowsOf (route_rows g demands) basis amounts routing.flows
