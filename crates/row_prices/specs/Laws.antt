@@ -6,7 +6,8 @@ use Rattle.row_prices.specs.KeyPaths.{IsPathBasis, HasShortestKeys}
 
 -- row r of a basis of key paths, in lowest terms, is priced somewhere, where each key is a shortest path under it
 abbrev pub RowsArePriced : Type 0
-RowsArePriced = (g : Graph) (demands : List Demand) (keys : ℕ → List LinkId) (columns : ℕ → RouteColumn) (rows : ℕ → ℕ → ℤ) (dens : ℕ → ℤ) (r : ℕ) (lengths : List ℕ)
+RowsArePriced = (g : Graph) (demands : List Demand) (keys : ℕ → List LinkId) (columns : ℕ → RouteColumn) (rows : ℕ → ℕ → ℤ) (dens : ℕ → ℤ) (r : ℕ)
+    (lengths : List ℕ)
     → IsNetwork g.nodes g.links
     → AreStates (length g.links) g.listed
     → g.state ≤ length g.listed
