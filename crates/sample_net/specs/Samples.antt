@@ -44,7 +44,8 @@ sample_link e ends small large =
 
 -- the links l0, l1 and so on between these ends: link e takes the draws 2e and 2e + 1 after x
 abbrev pub links_between : ℕ → List (ℕ × ℕ) → List Link
-links_between x ends = map (λ e. sample_link e (slice_index_or ends e (0, 0)) (nth_draw x (2 * e) 80) (nth_draw x (2 * e + 1) 200)) (range_with_len 0 (length ends))
+links_between x ends = map (λ e. sample_link e (slice_index_or ends e (0, 0)) (nth_draw x (2 * e) 80) (nth_draw x (2 * e + 1) 200))
+    (range_with_len 0 (length ends))
 
 -- the links: their draws follow those of the chords
 abbrev pub sample_links : ℕ → ℕ → List Link
