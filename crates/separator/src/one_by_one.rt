@@ -124,7 +124,8 @@ impl<'a> Separate for OneByOne<'a> {
 
     ghost seen_of = { board_seen };
 
-    ghost seen = { λ s. board_is_seen s.began.value s.board.net.now s.board.states.now s.board.opening.value s.board.entries s.board.book.demands s.board.book.version s.board.pool s.board.few s.board.few_cuts s.board.stands };
+    ghost seen = { λ s. board_is_seen s.began.value s.board.net.now s.board.states.now s.board.opening.value
+        s.board.entries s.board.book.demands s.board.book.version s.board.pool s.board.few s.board.few_cuts s.board.stands };
 
     fn admit(&mut self, cut: Cut) -> Result<Spot, NoMemory> {
         spot_of(&mut self.board, cut)

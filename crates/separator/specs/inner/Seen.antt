@@ -23,17 +23,20 @@ drop_is_part (suc n) [] = tt
 drop_is_part (suc n) (x ∷ xs) = part_more (drop n xs) xs x (drop_is_part n xs)
 
 -- a cut entry is legal whatever the demands are
-legal_cut : (net : Network) (states : States) (opening : List Demand) (before : List Entry) (e : Entry) → IsCutEntry e → IsLegalAfter (case net states opening) before e → IsLegalAfter (case net states []) before e
+legal_cut : (net : Network) (states : States) (opening : List Demand) (before : List Entry) (e : Entry) → IsCutEntry e
+    → IsLegalAfter (case net states opening) before e → IsLegalAfter (case net states []) before e
 legal_cut net states opening before (Edited caller edit reply) none legal = absurd none
 legal_cut net states opening before (Pooled index state lengths) some legal = legal
 
-pub board_is_seen : (n : ℕ) (net : Network) (states : States) (opening : List Demand) (entries : List Entry) (demands : List Demand) (version : ℕ) (pool : List PooledCut)
+pub board_is_seen : (n : ℕ) (net : Network) (states : States) (opening : List Demand) (entries : List Entry) (demands : List Demand) (version : ℕ)
+    (pool : List PooledCut)
     → length entries ≤ 65536 → length pool ≤ 4096
     → ∥ IsBoardAfter (case net states opening) entries demands version (map line_of_pooled pool) ∥₁
     → ∥ IsSeenHistory net states (record { history = entries; own = drop n entries }) ∥₁
 board_is_seen n net states opening entries demands version pool few few_cuts stands = ∥∥₁_map stands (λ b. record {
   few = few;
-  few_cuts = subst (λ (k : ℕ). k ≤ 4096) (sym (length-map pool line_of_pooled) ∙ (sym (length-map (map line_of_pooled pool) cut_of_line) ∙ ap length b.pool.cuts)) few_cuts;
+  few_cuts = subst (λ (k : ℕ). k ≤ 4096) (sym (length-map pool line_of_pooled) ∙ (sym
+      (length-map (map line_of_pooled pool) cut_of_line) ∙ ap length b.pool.cuts)) few_cuts;
   legal = λ k e at is. legal_cut net states opening (take k entries) e is (b.legal k e at);
   own_among = drop_is_part n entries;
 })
