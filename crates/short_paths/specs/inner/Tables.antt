@@ -7,7 +7,8 @@ use Rattle.plan_terms.specs.Terms.{Walk}
 pub record IsTable (joins : ℕ → ℕ → ℕ → Type 0) (lengths : List ℕ) (far a : ℕ) (found : List ℕ) : Type 0 where
   pub start : slice_index found a ≡ 0
   pub sound : (k : ℕ) → k < length found → slice_index found k < far → Walk joins lengths a k (slice_index found k)
-  pub closed : (e x y : ℕ) → slice_index found x < far → joins e x y → (slice_index found y < far) × (slice_index found y ≤ slice_index found x + slice_index lengths e)
+  pub closed : (e x y : ℕ) → slice_index found x < far → joins e x y
+      → (slice_index found y < far) × (slice_index found y ≤ slice_index found x + slice_index lengths e)
   pub low : (m : ℕ) → ((e : ℕ) → slice_index lengths e ≤ m) → (k : ℕ) → slice_index found k < far → slice_index found k ≤ m * length found
   pub most : (k : ℕ) → slice_index found k ≤ far
   pub zero : 0 < far
