@@ -7,7 +7,8 @@ use Rattle.simplex_core.specs.declared.solver.SimplexFault.{SimplexFault}
 use Rattle.simplex_core.specs.declared.solver.SimplexFault.TheVariants.{Wide, NoMemory}
 
 -- two programs have the same rows, bounds, slacks and columns
-pub record IsSameProgram {N : Type 0} (rows others : ℕ) (bound bounds : ℕ → ℤ) (slack slacks : ℕ → N) (is_listed are_listed : ColumnOf N → Type 0) : Type 0 where
+pub record IsSameProgram {N : Type 0} (rows others : ℕ) (bound bounds : ℕ → ℤ) (slack slacks : ℕ → N)
+    (is_listed are_listed : ColumnOf N → Type 0) : Type 0 where
   pub count : others ≡ rows
   pub limits : (k : ℕ) → k < rows → bounds k ≡ bound k
   pub slacks_are : (k : ℕ) → k < rows → slacks k ≡ slack k
@@ -20,8 +21,10 @@ module _ {N : Type 0} (rows : ℕ) (bound : ℕ → ℤ) (slack : ℕ → N) (is
     pub basis : ℕ → ColumnOf N
     pub names : AreNames rows basis best.basis
     pub reached : IsReached rows bound (IsProgramColumn rows slack is_listed) (slack_basis slack) basis
-    pub optimum : IsOptimum rows bound (IsProgramColumn rows slack is_listed) basis (λ j. pos (get_or best.values j 0)) (pos best.den) (num best.duals.nums) best.duals.den
-    pub greatest : IsGreatestGain rows bound (IsProgramColumn rows slack is_listed) (int_sum rows (λ j. pos (get_or best.values j 0) *ℤ (basis j).gain)) (pos best.den)
+    pub optimum : IsOptimum rows bound (IsProgramColumn rows slack is_listed) basis (λ j. pos (get_or best.values j 0)) (pos best.den)
+        (num best.duals.nums) best.duals.den
+    pub greatest : IsGreatestGain rows bound (IsProgramColumn rows slack is_listed) (int_sum rows (λ j. pos (get_or best.values j 0) *ℤ (basis j).gain))
+        (pos best.den)
     pub narrow : best.den < 2 ^ 62
     pub low : (j : ℕ) → j < rows → get_or best.values j 0 < 2 ^ 124
     pub count : length best.values ≡ rows

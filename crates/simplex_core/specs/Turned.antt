@@ -23,7 +23,8 @@ pub record HavePivot (products : List ℤ) (n r : ℕ) : Type 0 where
 
 -- with the pivot of row r divided, the cost and all products are narrow; or a row whose product is wide, the objective row last
 abbrev pub FindsWideProduct : List ℤ → ℤ → ℕ → Option ℕ → Type 0
-FindsWideProduct products cost r None = IsNarrow (num products r) × IsNarrowOver (num products r) cost × ((k : ℕ) → k < length products → IsNarrowOver (num products r) (num products k))
+FindsWideProduct products cost r None = IsNarrow (num products r) × IsNarrowOver (num products r) cost
+    × ((k : ℕ) → k < length products → IsNarrowOver (num products r) (num products k))
 FindsWideProduct products cost r (Some i) = ((i ≡ length products) × IsWide cost) ⊎ ((i < length products) × IsWide (num products i))
 
 -- a row becomes the one combined with the pivot row

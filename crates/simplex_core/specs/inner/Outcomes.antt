@@ -18,7 +18,8 @@ use Rattle.simplex_core.specs.declared.value.ValueFault.TheVariants.{Sum as SumF
 
 -- over each narrow common denominator, the values are below 2 ^ 124
 abbrev pub HasLowValues : {N : Type 0} → Basis N → Type 0
-HasLowValues b = (fractions : List Fraction) (den : ℕ) → AreFractionsOf b.rows (num b.bounds) fractions → 0 < den → den < 2 ^ 62 → DivideAll (fraction_den fractions) (length fractions) den
+HasLowValues b = (fractions : List Fraction) (den : ℕ) → AreFractionsOf b.rows (num b.bounds) fractions → 0 < den → den < 2 ^ 62
+    → DivideAll (fraction_den fractions) (length fractions) den
     → (j : ℕ) → j < length fractions → value_at fractions den j < 2 ^ 124
 
 -- the values of a basis over their common denominator, with its names and prices
@@ -33,7 +34,8 @@ pub record IsValued {N : Type 0} (b : Basis N) (best : Optimum N) : Type 0 where
 
 -- what is too wide at the end
 abbrev pub IsWideEnd : {N : Type 0} → Basis N → WideKind N → Type 0
-IsWideEnd b Common = (fractions : List Fraction) × AreFractionsOf b.rows (num b.bounds) fractions × HaveNoDenominator (fraction_den fractions) (length fractions)
+IsWideEnd b Common = (fractions : List Fraction) × AreFractionsOf b.rows (num b.bounds) fractions
+    × HaveNoDenominator (fraction_den fractions) (length fractions)
 IsWideEnd b (Sum i) = (i < length b.rows) × (2 ^ 126 ≤ sizes_of (length b.rows) (nums_at b.rows i) (num b.bounds))
 IsWideEnd b (RowOf i) = ⊥
 IsWideEnd b (Product i name) = ⊥

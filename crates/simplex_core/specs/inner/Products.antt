@@ -16,7 +16,8 @@ pub record AreBoundedRows (rows : List Row) (bounds : List ℤ) : Type 0 where
 
 -- the products of the first n rows with entries are these, and below 2 ^ 126
 abbrev pub AreProducts : List Row → List Entry → List ℤ → ℕ → Type 0
-AreProducts rows entries products n = (i : ℕ) → i < n → (num products i ≡ dot (length rows) (nums_at rows i) (entry_of entries)) × (unsigned_abs (num products i) < 2 ^ 126)
+AreProducts rows entries products n = (i : ℕ) → i < n
+    → (num products i ≡ dot (length rows) (nums_at rows i) (entry_of entries)) × (unsigned_abs (num products i) < 2 ^ 126)
 
 -- all products, or a row whose product is wide
 abbrev pub HaveProducts : List Row → List Entry → List ℤ → Option ℕ → Type 0

@@ -29,11 +29,13 @@ ComparesRatios m bound u p v q Greater = IsNoLater m bound v q u p
 
 -- two rows of one program, whose values the bounds give
 abbrev pub HaveRowValues : List Row → (ℕ → ℤ) → Candidate → Candidate → Type 0
-HaveRowValues rows bound first second = (pos first.value ≡ dot (length rows) (nums_at rows first.row) bound) × (pos second.value ≡ dot (length rows) (nums_at rows second.row) bound)
+HaveRowValues rows bound first second = (pos first.value ≡ dot (length rows) (nums_at rows first.row) bound)
+    × (pos second.value ≡ dot (length rows) (nums_at rows second.row) bound)
 
 -- how the ratios of two rows compare
 abbrev pub ComparesRows : List Row → (ℕ → ℤ) → Candidate → Candidate → Ordering → Type 0
-ComparesRows rows bound first second order = ComparesRatios (length rows) bound (nums_at rows first.row) first.product (nums_at rows second.row) second.product order
+ComparesRows rows bound first second order = ComparesRatios (length rows) bound (nums_at rows first.row) first.product
+    (nums_at rows second.row) second.product order
 
 -- the first comes no later than the second
 abbrev pub IsFirstOf : List Row → (ℕ → ℤ) → Candidate → Candidate → Type 0

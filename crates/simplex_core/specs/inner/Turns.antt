@@ -26,19 +26,22 @@ module _ {N : Type 0} (m : ℕ) (old : Basis N) (c : ColumnOf N) where
   -- the rows and the objective row of the basis where the column is at r
   pub record TurnsTo (r : ℕ) (new : Basis N) : Type 0 where
     pub pick : Picks r
-    pub turned : IsTurned m c r (nums_at old.rows) (nums_at new.rows) (den_at old.rows) (den_at new.rows) (num old.duals.nums) (num new.duals.nums) old.duals.den new.duals.den
+    pub turned : IsTurned m c r (nums_at old.rows) (nums_at new.rows) (den_at old.rows) (den_at new.rows) (num old.duals.nums)
+        (num new.duals.nums) old.duals.den new.duals.den
     pub names : new.names ≡ slice_set old.names r c.name
     pub bounds : new.bounds ≡ old.bounds
     pub shaped : IsShaped m new
 
   -- an objective row that gets too wide where the column is at r
   abbrev pub IsWideObjective : ℕ → Type 0
-  IsWideObjective r = (wide : WideNumber) × IsTooWide m (combined (num old.duals.nums) (reduced_cost m old.duals c) (nums_at old.rows r) (dot m (nums_at old.rows r) c.entry)) (old.duals.den *ℤ dot m (nums_at old.rows r) c.entry) wide
+  IsWideObjective r = (wide : WideNumber) × IsTooWide m (combined (num old.duals.nums) (reduced_cost m old.duals c) (nums_at old.rows r)
+      (dot m (nums_at old.rows r) c.entry)) (old.duals.den *ℤ dot m (nums_at old.rows r) c.entry) wide
 
   -- row i gets too wide
   abbrev pub IsWideOther : ℕ → ℕ → Type 0
   IsWideOther r i = (i < m) × (i ≢ r) × ((wide : WideNumber)
-      × IsTooWide m (combined (nums_at old.rows i) (dot m (nums_at old.rows i) c.entry) (nums_at old.rows r) (dot m (nums_at old.rows r) c.entry)) (den_at old.rows i *ℤ dot m (nums_at old.rows r) c.entry) wide)
+      × IsTooWide m (combined (nums_at old.rows i) (dot m (nums_at old.rows i) c.entry) (nums_at old.rows r) (dot m (nums_at old.rows r) c.entry))
+      (den_at old.rows i *ℤ dot m (nums_at old.rows r) c.entry) wide)
 
   -- what is too wide: in the basis before, or in the one that the column has entered
   abbrev pub GetsWide : WideKind N → Basis N → Type 0
