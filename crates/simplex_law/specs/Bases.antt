@@ -59,7 +59,8 @@ module _ {N : Type 0} (rows : ℕ) (bound : ℕ → ℤ) (is_column : ColumnOf N
   -- n gaining steps over feasible bases, from the first to the last
   abbrev pub AreGainingSteps : ℕ → (ℕ → ColumnOf N) → (ℕ → ColumnOf N) → Type 0
   AreGainingSteps zero first last = (j : ℕ) → j < rows → first j ≡ last j
-  AreGainingSteps (suc n) first last = (between : ℕ → ColumnOf N) × AreGainingSteps n first between × IsFeasible between × GainingStep rows is_column between last
+  AreGainingSteps (suc n) first last = (between : ℕ → ColumnOf N) × AreGainingSteps n first between × IsFeasible between
+      × GainingStep rows is_column between last
 
   -- feasible bases lead from the first, by gaining steps, to this one
   pub record IsReached (first basis : ℕ → ColumnOf N) : Type 0 where

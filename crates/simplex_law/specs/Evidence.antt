@@ -31,7 +31,8 @@ module _ {N : Type 0} (rows : ℕ) where
 
   -- the absolute products of the row with the bounds sum to 2 ^ 126 or more
   abbrev pub HoldsSum : (ℕ → ℤ) → (ℕ → ColumnOf N) → ℕ → Type 0
-  HoldsSum bound basis i = (nums : ℕ → ℤ) × (den : ℤ) × IsRowOf basis i nums den × (2 ^ 126 ≤ sum_below rows (λ k. unsigned_abs (nums k) * unsigned_abs (bound k)))
+  HoldsSum bound basis i = (nums : ℕ → ℤ) × (den : ℤ) × IsRowOf basis i nums den
+      × (2 ^ 126 ≤ sum_below rows (λ k. unsigned_abs (nums k) * unsigned_abs (bound k)))
 
   -- all denominators, the objective row's too, have no common multiple below 2 ^ 62
   abbrev pub HoldsCommon : (ℕ → ColumnOf N) → Type 0

@@ -21,8 +21,10 @@ pub record IsPick {N : Type 0} (m : ℕ) (bound : ℕ → ℤ) (nums : ℕ → �
   pub ratio : (i : ℕ) → i < m → i ≢ r → pos 0 <ℤ dot m (nums i) c.entry → IsRatioLe m bound c.entry (nums r) (nums i)
 
 -- the rows after a turn: each combined with the pivot row, and that one over its pivot, in lowest terms
-pub record IsTurned {N : Type 0} (m : ℕ) (c : ColumnOf N) (r : ℕ) (nums next : ℕ → ℕ → ℤ) (den next_den : ℕ → ℤ) (duals next_duals : ℕ → ℤ) (duals_den next_duals_den : ℤ) : Type 0 where
+pub record IsTurned {N : Type 0} (m : ℕ) (c : ColumnOf N) (r : ℕ) (nums next : ℕ → ℕ → ℤ) (den next_den : ℕ → ℤ) (duals next_duals : ℕ → ℤ)
+    (duals_den next_duals_den : ℤ) : Type 0 where
   pub others : (i : ℕ) → i < m → i ≢ r
       → IsReduced m (combined (nums i) (dot m (nums i) c.entry) (nums r) (dot m (nums r) c.entry)) (den i *ℤ dot m (nums r) c.entry) (next i) (next_den i)
   pub pivot : IsReduced m (nums r) (dot m (nums r) c.entry) (next r) (next_den r)
-  pub objective : IsReduced m (combined duals (dot m duals c.entry -ℤ (duals_den *ℤ c.gain)) (nums r) (dot m (nums r) c.entry)) (duals_den *ℤ dot m (nums r) c.entry) next_duals next_duals_den
+  pub objective : IsReduced m (combined duals (dot m duals c.entry -ℤ (duals_den *ℤ c.gain)) (nums r) (dot m (nums r) c.entry))
+      (duals_den *ℤ dot m (nums r) c.entry) next_duals next_duals_den

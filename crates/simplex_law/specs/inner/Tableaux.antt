@@ -12,7 +12,8 @@ pub record IsFilling (m : ℕ) (basic nums : ℕ → ℕ → ℤ) (den w : ℕ �
   pub filled : (k l : ℕ) → k < m → l < m → int_sum m (λ j. (w j *ℤ nums j l) *ℤ basic j k) ≡ all *ℤ unit_vector k l
 
 -- the rows of the inverse of a basis, each lexicographically 0 or more with its value in front, and its duals
-pub record IsTableau {N : Type 0} (m : ℕ) (bound : ℕ → ℤ) (basis : ℕ → ColumnOf N) (nums : ℕ → ℕ → ℤ) (den : ℕ → ℤ) (duals : ℕ → ℤ) (duals_den : ℤ) : Type 0 where
+pub record IsTableau {N : Type 0} (m : ℕ) (bound : ℕ → ℤ) (basis : ℕ → ColumnOf N) (nums : ℕ → ℕ → ℤ) (den : ℕ → ℤ) (duals : ℕ → ℤ)
+    (duals_den : ℤ) : Type 0 where
   pub rows : (i : ℕ) → i < m → IsRow m (λ j. (basis j).entry) (unit_vector i) (nums i) (den i)
   pub over : (i : ℕ) → i < m → pos 0 <ℤ den i
   pub lex : (i : ℕ) → i < m → IsLexNonneg (suc m) (valued m bound (nums i))
