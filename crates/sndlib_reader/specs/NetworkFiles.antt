@@ -56,6 +56,7 @@ IsFirstFault bytes at kind = network_of bytes ≡ Err (at, kind)
 -- places where one was. It says nothing of the header and of the end.
 abbrev pub IsNoEarlyFault : List ℕ → Refusal ReadKind → Type 0
 IsNoEarlyFault bytes (Bad at kind) =
-    (other : List ℕ) (n : ℕ) → take n bytes ≡ take n other → EndsBefore at n (body bytes) → ((fine : ℕ) → IsTooFineAt bytes fine → EndsBefore fine n (body bytes))
+    (other : List ℕ) (n : ℕ) → take n bytes ≡ take n other → EndsBefore at n (body bytes)
+    → ((fine : ℕ) → IsTooFineAt bytes fine → EndsBefore fine n (body bytes))
     → (net : Network) (demands : List Demand) → Spells other net demands → ⊥
 IsNoEarlyFault bytes NoMemory = Unit {0}

@@ -29,4 +29,5 @@ IsPathLine links demands items = (name inside : List Item) × IsKnownName demand
 
 -- the section with any lines, or nothing; links and demands by their names
 abbrev pub ArePaths : List (List ℕ) → List (List ℕ) → List Item → Type 0
-ArePaths links demands items = (items ≡ []) ⊎ ((lines : List Item) × AreMany (IsPathLine links demands) lines × (items ≡ section (codes "ADMISSIBLE_PATHS") lines))
+ArePaths links demands items = (items ≡ [])
+    ⊎ ((lines : List Item) × AreMany (IsPathLine links demands) lines × (items ≡ section (codes "ADMISSIBLE_PATHS") lines))

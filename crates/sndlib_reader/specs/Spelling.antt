@@ -54,7 +54,8 @@ module_items p m = Money p m.capacity ∷ Money p m.cost ∷ []
 abbrev pub link_items : Places → List (List ℕ) → CostedLink → List Item
 link_items p nodes l =
     Verbatim l.link.name ∷ node_pair_items nodes l.link.a l.link.b
-    ++ Money p l.link.fixed ∷ Money p l.fixed_cost ∷ Money p l.routing_cost ∷ Money p l.link.setup ∷ Opening ∷ (flat_map (module_items p) l.link.modules ++ Closing ∷ [])
+    ++ Money p l.link.fixed ∷ Money p l.fixed_cost ∷ Money p l.routing_cost ∷ Money p l.link.setup ∷ Opening
+    ∷ (flat_map (module_items p) l.link.modules ++ Closing ∷ [])
 
 -- what isn't kept of a link is in its range: its name and the two further costs
 pub record IsShortLink (l : CostedLink) : Type 0 where
@@ -111,7 +112,8 @@ pub record SpellsParts (p : Places) (x : Parts × List Demand) (items : List Ite
   pub links : List CostedLink
   pub demand_items : List Item
   pub paths : List Item
-  pub items_are : items ≡ meta ++ (section (codes "NODES") part_items ++ (section (codes "LINKS") (flat_map (link_items p x.0.nodes) links) ++ (section (codes "DEMANDS") demand_items ++ paths)))
+  pub items_are : items ≡ meta ++ (section (codes "NODES") part_items
+      ++ (section (codes "LINKS") (flat_map (link_items p x.0.nodes) links) ++ (section (codes "DEMANDS") demand_items ++ paths)))
   pub meta_is : IsMeta meta
   pub parts_are : AreSpelled SpellsPart parts part_items
   pub parts_in_order : ComeAfter IsPartAfter [] parts
