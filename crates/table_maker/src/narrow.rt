@@ -93,8 +93,10 @@ fn push_narrow(
     requires lines { All (IsNarrowLine (case_of instance.now) tested.now) lines.old }
     ensures lines { OnOk result (All (IsNarrowLine (case_of instance.now) tested.now) lines.new) }
     ensures count { OnOk result (length lines.new ≤ length lines.old + 1) }
-    ensures kept { OnOk result ((k : ℕ) → HasLineOver (case_of instance.now).links tested.now lines.old k → HasLineOver (case_of instance.now).links tested.now lines.new k) }
-    ensures new { OnOk result (IsWideLine (case_of instance.now).links (test_at tested.now i) → HasLineOver (case_of instance.now).links tested.now lines.new i) }
+    ensures kept { OnOk result ((k : ℕ) → HasLineOver (case_of instance.now).links tested.now lines.old k
+        → HasLineOver (case_of instance.now).links tested.now lines.new k) }
+    ensures new { OnOk result (IsWideLine (case_of instance.now).links (test_at tested.now i)
+        → HasLineOver (case_of instance.now).links tested.now lines.new i) }
 {
     let line = line_over(alloc, i, divisor)?;
     let test = tested_line(alloc, instance, tested, &line)?;
@@ -117,8 +119,10 @@ fn add_narrow(
     requires lines { All (IsNarrowLine (case_of instance.now) tested.now) lines.old }
     ensures lines { OnOk result (All (IsNarrowLine (case_of instance.now) tested.now) lines.new) }
     ensures count { OnOk result (length lines.new ≤ length lines.old + 1) }
-    ensures kept { OnOk result ((k : ℕ) → HasLineOver (case_of instance.now).links tested.now lines.old k → HasLineOver (case_of instance.now).links tested.now lines.new k) }
-    ensures new { OnOk result (IsWideLine (case_of instance.now).links (test_at tested.now i) → HasLineOver (case_of instance.now).links tested.now lines.new i) }
+    ensures kept { OnOk result ((k : ℕ) → HasLineOver (case_of instance.now).links tested.now lines.old k
+        → HasLineOver (case_of instance.now).links tested.now lines.new k) }
+    ensures new { OnOk result (IsWideLine (case_of instance.now).links (test_at tested.now i)
+        → HasLineOver (case_of instance.now).links tested.now lines.new i) }
 {
     let line = line_in(tested, i);
     if need_of(line) <= MOST_NEED {
@@ -142,7 +146,8 @@ pub fn narrow_lines(
 ) -> Result<List<Line>, NoMemory>
     ensures lines { IfOk result (All (IsNarrowLine (case_of instance.now) tested.now)) }
     ensures few { IfOk result (λ lines. length lines ≤ length tested.now) }
-    ensures all { IfOk result (λ lines. (i : ℕ) → i < min (length tested.now) (2 ^ 32) → IsWideLine (case_of instance.now).links (test_at tested.now i) → HasLineOver (case_of instance.now).links tested.now lines i) }
+    ensures all { IfOk result (λ lines. (i : ℕ) → i < min (length tested.now) (2 ^ 32)
+        → IsWideLine (case_of instance.now).links (test_at tested.now i) → HasLineOver (case_of instance.now).links tested.now lines i) }
 {
     let mut lines = List::new(alloc);
     let count = tested.len().min(MOST_LINES);
