@@ -13,4 +13,5 @@ pub record IsHeaderLine (line : List ℕ) : Type 0 where
 
 -- A header's line, and after it the text of items, is a file of these items: so reading what was written gives it back.
 abbrev pub WrittenIsRead : Type 0
-WrittenIsRead = (header : List ℕ) (items : List Item) → IsHeaderLine header → AllByRecursion IsWritable items → IsFileOf header items (header ++ 10 ∷ written items)
+WrittenIsRead = (header : List ℕ) (items : List Item) → IsHeaderLine header → AllByRecursion IsWritable items
+    → IsFileOf header items (header ++ 10 ∷ written items)
