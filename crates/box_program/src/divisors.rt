@@ -30,6 +30,8 @@ fn divisor_over(unit: u128, lists: &[List<u128>]) -> u128
 
 /// The greatest number that divides another one, each coefficient of a line, and what the line asks for beyond what is given. It takes
 /// the time of a greatest common divisor for each coefficient.
+///
+/// With 12 and a line of the coefficients 6 and 9 that asks for 33, of which 3 are given, it is 3, which divides 12, 6, 9 and 30.
 pub fn divisor_of(line: &Inequality, unit: u128) -> u128
     ensures { IsDivisorWith unit line.now result }
 {
