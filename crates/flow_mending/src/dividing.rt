@@ -34,6 +34,8 @@ fn divided(den: u64, by: u128) -> u64 {
 }
 
 /// Flows over a denominator, in lowest terms. It takes a greatest common divisor for each flow, and no memory.
+///
+/// Flows of 2 and 6 over the denominator 4 are flows of 1 and 3 over 2.
 pub fn lowest(den: u64, mut flows: List<Flow>) -> Routing {
     if den > 1 {
         let common = common_divisor(den, flows.items());
