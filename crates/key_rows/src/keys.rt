@@ -92,6 +92,8 @@ fn dual_of(prices: &Row, key: &RouteColumn) -> i128
 
 /// The price of a demand's row, where it is narrow: what its key gains, over the denominator, less what the links of its key cost. It takes time in
 /// the links of the key, and no memory.
+///
+/// With the link prices 1 and 2 over the denominator 4, a key along both links gains 4 and costs 3 of these quarters, so that it is 1.
 pub fn next_dual(prices: &Row, key: &RouteColumn) -> Option<i64>
     requires key { IsShortPath (length prices.now.nums) (links_in key.now) }
     ensures { MatchOption result (2 ^ 62 ≤ unsigned_abs (key_dual (length prices.now.nums) (num prices.now.nums) prices.now.den key.now))

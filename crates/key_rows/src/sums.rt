@@ -118,6 +118,8 @@ pub(crate) fn name_sum(nums: &[i64], name: &RouteColumn) -> i128
 
 /// A row's product with what is left of a column when the key of its demand, along this path, is taken away. It takes time in the links of both
 /// paths, and no memory.
+///
+/// With the numbers 5, 1 and 2 in a row, a column along the first link, and a key along the other two, it is 5 less 3, which is 2.
 pub fn column_product(nums: &[i64], name: &RouteColumn, key: &[LinkId]) -> i128
     requires name { IsNameWithin (length nums.now) name.now }
     requires key { IsShortPath (length nums.now) key.now }
