@@ -15,6 +15,9 @@ pub struct OwnMultiplier {
 
 /// The greatest valid multiplier of lengths, one per link: the least cost over capacity times length, over all modules of the
 /// links of positive length. It takes time in the number of modules, and no memory.
+///
+/// A link of length 2 with a module of 10.000 for 5.000, and one of length 1 with a module of 10.000 for 4.000: the ratios are 5 / 20 and
+/// 4 / 10, so that it is 1 / 4.
 pub fn greatest_multiplier(links: &[Link], lengths: &[u32]) -> OwnMultiplier
     requires sound { All (λ l. All IsModule l.modules) links.now }
     requires lengths { HaveBound links.now lengths.now }
