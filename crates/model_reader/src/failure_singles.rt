@@ -46,6 +46,8 @@ fn singles(alloc: Global, links: &[Link]) -> Result<List<Listed>, NoMemory>
 
 /// Every single-link failure, as a state with the name of the link, in the order of the links. It takes memory for the
 /// states, and time in the square of the number of links, since their names are compared again.
+///
+/// In the triangle AB, BC, AC they are three states, AB, BC and AC.
 pub fn single_links(alloc: Global, net: &Network) -> Result<States, NoMemory>
     ensures list { IfOk result (λ states. states.listed ≡ single_states net.now.links) }
     ensures belong { IfOk result (λ states. AreStates (length net.now.links) states.listed) }
