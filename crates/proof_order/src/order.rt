@@ -67,6 +67,8 @@ fn moved_nodes(alloc: Global, places: &[u32], tree: List<Node>) -> Result<List<N
 
 /// The entries of a search in the order of a proof, the cuts first and then the lines, and nodes that name them so.
 /// It takes time and memory in the numbers of all.
+///
+/// A cut, a line and a further cut become the two cuts and the line; where a node names them by 0, 1 and 2, it names them by 0, 2 and 1 then.
 pub fn in_order(alloc: Global, entries: List<Entry>, tree: List<Node>) -> Result<Ordered, NoMemory>
     requires few { length entries < 2 ^ 31 }
     ensures { IfOk result (IsOrderOf entries tree) }
