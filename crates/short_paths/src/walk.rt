@@ -79,6 +79,8 @@ fn leads_unseen(
 
 /// Whether links are a path between two nodes: each survives, and no node comes twice. `seen` is room for a mark of each node,
 /// whatever the list holds before. It takes no memory, and time that grows with the nodes and with the path.
+///
+/// In the triangle AB, BC, AC the links AB and BC are a path from A to C. AB, BC and AC lead back to A, and aren't one.
 pub fn is_path(
     graph: &Surviving,
     path: &[LinkId],
