@@ -93,6 +93,9 @@ pub(crate) fn write_list(
 
 /// Whether a column's gain exceeds its priced entries, for entries of the rows that the prices are of. It is exact, takes
 /// no memory, and a time that grows with the count of entries.
+///
+/// At the prices 1 and 2 over the denominator 2, a column that takes 2 of the first row and 1 of the second is worth 2: with a gain of 3 it
+/// gains, and with one of 2 it doesn't.
 pub fn gains(duals: &Row, gain: i64, entries: &[Entry]) -> bool
     requires gain { IsNarrow gain }
     requires entries { AllByRecursion (IsEntry (length duals.now.nums)) entries.now }
