@@ -88,6 +88,8 @@ fn singles(alloc: Global, links: &[Link]) -> Result<List<Listed>, NoMemory>
 /// The states of a network in which each link fails alone: one for each link, in their order, under its name.
 ///
 /// It takes time in the square of the links, and memory in the links.
+///
+/// In the triangle AB, BC, AC they are three states, AB, BC and AC.
 pub fn single_failures(alloc: Global, net: &Network) -> Result<States, NoMemory>
     ensures belong { IfOk result (λ s. AreStates (length net.now.links) s.listed) }
     ensures singles { IfOk result (λ s. AreSingles net.now.links s.listed) }
