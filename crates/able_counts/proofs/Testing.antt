@@ -1,15 +1,11 @@
 -- routings that are kept or become ones within other capacities
-use Rattle.std.proofs.Common.{◌≡◌, ◌∙◌, ℕ, zero, suc, ◌+◌, ◌*◌, ◌≤◌, ◌<◌, ◌⊎◌, inl, inr, ⊎_elim, List, [], ◌∷◌, All, None, Some, Option, IfSome, length, slice_get, slice_index, refl, sym, ap, subst, arith}
+use Rattle.std.proofs.Common.{◌≡◌, ◌∙◌, ℕ, zero, suc, ◌+◌, ◌≤◌, ◌<◌, ◌⊎◌, inl, inr, ⊎_elim, List, [], ◌∷◌, All, None, Some, Option, IfSome, length, slice_get, refl, sym, ap, subst, arith}
 use Rattle.std.proofs.Math.ListN.{set, length-set}
 use Rattle.net_core.proofs.Library.{cases_lt, slice_get_within}
-use Rattle.plan_terms.specs.Terms.{Caps, CutLine, Routing, Case, graph_in, AreDemands, Joins, IsCut, Carries, load, IsSurvivable}
+use Rattle.plan_terms.specs.Terms.{Caps, CutLine, Routing, Case, graph_in, AreDemands, Joins, IsCut, Carries, IsSurvivable}
 use Rattle.net_core.proofs.Lists.{some_same}
-use Rattle.metric_cut.specs.declared.cut.Cut.{Cut}
 use Rattle.route_law.specs.Terms.{AreJoined}
 use Rattle.flow_router.specs.Answers.{IsRouted}
-use Rattle.separator.specs.Findings.{IsFoundCutOf}
-use Rattle.separator.specs.Separators.{IsLineAt}
-use Rattle.separator.proofs.Answering.{line_separates}
 use Rattle.able_counts.proofs.FoundForms.{routing_found}
 use Rattle.able_counts.specs.AbleTests.{AreKeptOrWithin, AreRoutingsWithin, IsRoutingOf, IsRoutingWithin, IsStopAt}
 use Rattle.able_counts.specs.declared.stop.Stop.{Stop}
@@ -46,16 +42,6 @@ module _ (p : Case) (nums : List ℕ) where
       → (s : ℕ) (r : Routing) → slice_get b s ≡ Some r → IsRoutingOf p s r
   routings_kept a b of kept s r at = ⊎_elim (λ old. of s r old) (λ within. record { nums = nums; within = within }) (kept.each s r at)
 
--- a routing whose loads are within other capacities
-pub within_now : (p : Case) (s : ℕ) (nums : List ℕ) (r : Routing) → IsRoutingOf p s r → ((e : ℕ) → load r.flows e ≤ slice_index nums e * r.den) → IsRoutingWithin p s nums r
-within_now p s nums r of fits =
-    let was = of.within.carries in
-    record {
-      carries = record { den = was.den; flows = was.flows; met = was.met; within = fits };
-      form = of.within.form;
-      lowest = of.within.lowest;
-    }
-
 module _ (p : Case) (s : ℕ) (caps : Caps) (scale : caps.scale ≡ 1) where
   -- a routing that is found
   pub routed_within : AreDemands (length p.nodes) p.demands → length p.links ≤ 256 → (r : Routing) → IsRouted (graph_in p s) p.demands caps r → IsRoutingWithin p s caps.nums r
@@ -64,10 +50,6 @@ module _ (p : Case) (s : ℕ) (caps : Caps) (scale : caps.scale ≡ 1) where
     form = routing_found (graph_in p s) p.demands belong few caps r is;
     lowest = is.lowest;
   }
-
--- a cut that is found
-pub cut_stops : (p : Case) (s : ℕ) (caps : Caps) (cut : Cut) (line : CutLine) → IsFoundCutOf (graph_in p s) p.demands caps cut → IsLineAt p.demands cut line → IsStopAt p caps (stop.Cut line)
-cut_stops p s caps cut line found is = let whole = line_separates p caps s cut line found is in (whole.cut, whole.violated)
 
 -- a state whose positive demands aren't separated
 pub survivable_joins : (p : Case) (s : ℕ) → IsSurvivable p → s < length p.listed + 1 → AreJoined (graph_in p s) p.demands

@@ -77,7 +77,7 @@ impl AbleTest {
         &self.routings
     }
 
-    /// The routings, without a copy.
+    /// The routings, without a copy. It takes constant time.
     pub fn into_routings(self) -> List<Routing>
         ensures { result ≡ self.routings }
     {

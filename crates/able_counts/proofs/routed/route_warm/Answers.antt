@@ -1,5 +1,5 @@
 use Rattle.std.proofs.Common.{IfSome, subst}
-use Rattle.plan_terms.specs.Terms.{Graph, case_of, graph_in, graph_of}
+use Rattle.plan_terms.specs.Terms.{Graph, case_of, graph_of}
 use Rattle.separator.specs.Findings.{IsFinding}
 use Rattle.warm_routing.specs.WarmAnswers.{IsWarmAnswer}
 use Rattle.able_counts.proofs.routed.route_warm.Goals as goal
