@@ -1,11 +1,11 @@
 -- blocks, one module and one link after another
-use Rattle.std.proofs.Common.{◌≡◌, ◌∙◌, ℕ, ◌+◌, ◌≤◌, ◌<◌, List, [], ◌∷◌, ◌++◌, length, slice_index, take, sym, ap, subst}
+use Rattle.std.proofs.Common.{◌≡◌, ◌∙◌, ℕ, ◌+◌, ◌≤◌, ◌<◌, List, [], ◌∷◌, ◌++◌, length, slice_index, take, sym, ap}
 use Rattle.std.proofs.lemmas.List.{append_assoc, take_all}
 use Rattle.net_core.proofs.Library.{map-append}
 use Rattle.trim_plan.specs.declared.trimming.Block.{Block}
-use Rattle.trim_plan.specs.Trimmed.{module_count, modules_in_use, one_less}
-use Rattle.trim_plan.specs.inner.Sparing.{LowersCounts, block_places}
-use Rattle.trim_plan.proofs.Lowering.{lowers, module_added, module_skipped}
+use Rattle.trim_plan.specs.Trimmed.{modules_in_use}
+use Rattle.trim_plan.specs.inner.Sparing.{block_places}
+use Rattle.trim_plan.proofs.Lowering.{module_added, module_skipped}
 
 -- a block after others
 pub place_added : (blocks old : List Block) (b : Block) (e m : ℕ) (counts : List ℕ) → m < length counts → 0 < slice_index counts m → ◌≡◌ {A = ℕ × ℕ} (b.link.0, b.module) (e, m)
@@ -26,9 +26,3 @@ place_skipped blocks old e m counts lt none so_far = so_far ∙ ap (λ ps. block
 pub places_all : (blocks old : List Block) (e m : ℕ) (counts : List ℕ) → length counts ≤ m
     → block_places blocks ≡ block_places old ++ modules_in_use e 0 (take m counts) → block_places blocks ≡ block_places old ++ modules_in_use e 0 counts
 places_all blocks old e m counts all so_far = so_far ∙ ap (λ cs. block_places old ++ modules_in_use e 0 cs) (take_all m counts all)
-
--- counts of which a module is taken off
-pub taken_lowers : (counts same taken : List (List ℕ)) (e m n : ℕ) → same ≡ counts → n ≡ module_count same e m → 0 < n → taken ≡ one_less same e m → LowersCounts counts taken
-taken_lowers counts same taken e m n is count some off =
-    let there : 0 < module_count counts e m = subst (λ (cs : List (List ℕ)). 0 < module_count cs e m) is (subst (λ k. 0 < k) count some) in
-    subst (LowersCounts counts) (sym (off ∙ ap (λ (cs : List (List ℕ)). one_less cs e m) is)) (lowers counts e m there)

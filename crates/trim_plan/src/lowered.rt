@@ -17,7 +17,7 @@ fn number_at(numbers: &[u64], at: usize) -> u64
     if at < numbers.len() { numbers[at] } else { 0 }
 }
 
-/// The count of a module; 0 where there is none at this place.
+/// The count of a module; 0 where there is none at this place. It takes constant time, and no memory.
 pub fn module_count(counts: &Counts, place: Place) -> u64
     ensures { result ≡ module_count counts.now place.link place.module }
 {
@@ -48,7 +48,7 @@ fn lower_link(counts: &mut [List<u64>], e: usize, m: usize)
     lower_module(counts[e].items_mut(), m);
 }
 
-/// The counts with one module less.
+/// The counts with one module less. It takes time and memory for a copy of the counts.
 pub fn one_less(counts: &Counts, place: Place) -> Result<Counts, NoMemory>
     requires { 0 < module_count counts.now place.link place.module }
     ensures { IfOk result (λ lower. lower ≡ one_less counts.now place.link place.module) }
