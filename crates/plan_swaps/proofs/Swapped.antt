@@ -1,5 +1,5 @@
 -- plans with cheaper counts
-use Rattle.std.proofs.Common.{◌≡◌, ◌≤◌, refl, ℕ, Some, slice_get, List}
+use Rattle.std.proofs.Common.{◌≡◌, ◌≤◌, refl, ℕ, Some, slice_get}
 use Rattle.plan_terms.specs.Terms.{Case, Routing, capacities}
 use Rattle.plan_types.specs.declared.plan.Plan.{Plan}
 use Rattle.able_counts.specs.AbleTests.{IsRoutingOf}
