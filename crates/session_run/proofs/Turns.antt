@@ -8,12 +8,12 @@ use Rattle.cut_pool.specs.declared.answers.EditAnswer.TheVariants.{At, Full, NoM
 use Rattle.cut_pool.specs.declared.board.Board.{Board}
 use Rattle.turn_lock.specs.Passes.{items_at, opening_of}
 use Rattle.board_desk.specs.declared.caller.Caller.{Caller}
-use Rattle.board_desk.specs.Turns.{AreAtOneDesk, EditsInTurn, HasTurn, IsSameCaller, caller_places, caller_seen}
+use Rattle.board_desk.specs.Turns.{EditsInTurn, HasTurn, IsSameCaller, caller_places, caller_seen}
 use Rattle.board_desk.proofs.Passes.{BoardDesk, own_at, placed_in}
 use Rattle.separation_workers.proofs.Places.{items_after}
 use Rattle.session_run.specs.declared.setting.Setting.{Setting}
 use Rattle.session_run.specs.declared.setting.Stop.{Stop}
-use Rattle.session_run.specs.inner.Running.{CanRun, IsOfSetting}
+use Rattle.session_run.specs.inner.Running.{IsOfSetting}
 use Rattle.session_run.specs.inner.Turns.{EndsEdit, IsDoneBy}
 
 -- ---- callers
@@ -27,18 +27,6 @@ still_of s a b of same = record {
   own = same.own;
   net = subst (λ (d : BoardDesk). (opening_of d).net.now ≡ s.net.now) (sym same.desk) of.net;
   states = subst (λ (d : BoardDesk). (opening_of d).states.now ≡ s.states.now) (sym same.desk) of.states;
-}
-
-pub still_ready : (s : Setting) (a b : Caller) → CanRun s a → AreAtOneDesk a b → caller_places b ≡ [] → CanRun s b
-still_ready s a b ready same none = record {
-  of = record {
-    own = same.2;
-    net = subst (λ (d : BoardDesk). (opening_of d).net.now ≡ s.net.now) same.0 ready.of.net;
-    states = subst (λ (d : BoardDesk). (opening_of d).states.now ≡ s.states.now) same.0 ready.of.states;
-  };
-  none = none;
-  few = ready.few;
-  form = ready.form;
 }
 
 -- ---- turns

@@ -95,7 +95,7 @@ pub fn run_session<R: Threads + Wait + Sync, G: Gate + Sync>(
     report(rt, alloc, net, &board, outcomes, script.commands.items())
 }
 
-/// The script of one plan command, of caller 1.
+/// The script of one plan command, of caller 1. It takes constant time, and memory for the command.
 pub fn single_plan(alloc: Global) -> Result<Script, NoMemory>
     ensures script { IfOk result (λ s. s.commands ≡ record { caller = 1; act = Plan } ∷ []) }
     ensures form { IfOk result (λ s. IsScript s.commands) }

@@ -1,6 +1,5 @@
 -- what the types of a session's values say of them
-use Rattle.std.specs.Prelude.{◌≤◌, ◌<◌, ◌^◌, All, length}
-use Rattle.plan_terms.specs.Terms.{CutLine}
+use Rattle.std.specs.Prelude.{◌≤◌, ◌<◌, ◌^◌, length}
 use Rattle.plan_types.specs.declared.report.Outcome.{Outcome}
 use Rattle.plan_types.specs.declared.report.Outcome.TheVariants.{Planned, Unsurvivable}
 
