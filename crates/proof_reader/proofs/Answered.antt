@@ -46,7 +46,3 @@ module _ (known : KnownNames) (demands : List Demand) (net : ∥ IsNetwork known
 
   pub answer_first : from ≤ length bytes → IfErr a (IsNoEarlyTreeFault known demands from bytes)
   answer_first within = first_by known demands (links_differ known.nodes known.links net) apart from bytes within a gives
-
--- what is given of one reading is given of another that is the same
-pub gives_same : (a : Result ReadTree (Refusal ReportKind)) (p q : TreeRead) → p ≡ q → Gives a p → Gives a q
-gives_same a p q e h = subst (λ (r : TreeRead). Gives a r) e h
