@@ -2,8 +2,8 @@
 use Rattle.std.proofs.Common.{◌≡◌, ◌∙◌, ℕ, zero, suc, ◌+◌, ◌^◌, ◌<◌, ◌⊎◌, inl, inr, ⊎_elim, List, [], ◌∷◌, ◌++◌, All, Some, length, slice_get, refl, ap, sym, subst, arith}
 use Rattle.std.proofs.Math.Logic.{∥∥₁_elim}
 use Rattle.std.proofs.Props.{props}
-use Rattle.plan_terms.specs.Terms.{AreCounts, AreDemands, AreWithinLimits, Caps, Case, IsNetwork, Joins, Link, Routing, capacities, graph_in, total_cost}
-use Rattle.able_counts.specs.AbleTests.{AreRoutingsWithin, IsRoutingWithin, whole_caps}
+use Rattle.plan_terms.specs.Terms.{AreCounts, AreDemands, AreWithinLimits, Case, IsNetwork, Joins, Link, Routing, capacities, graph_in, total_cost}
+use Rattle.able_counts.specs.AbleTests.{AreRoutingsWithin, IsRoutingWithin}
 use Rattle.trim_plan.proofs.AtMost.{shape_at_most, total_at_most}
 use Rattle.box_search.specs.Finds.{AreCheaperCounts}
 use Rattle.box_search.specs.inner.Lowering.{HaveRoomFor}
@@ -13,10 +13,6 @@ use Rattle.box_search.proofs.Lowering.{room_at_most, room_limits}
 -- what is pre-installed is little
 pub fixed_low : (nodes : List (List ℕ)) (links : List Link) → ∥ IsNetwork nodes links ∥₁ → All (λ l. l.fixed < 2 ^ 40) links
 fixed_low nodes links checked = ∥∥₁_elim checked (hlevel props) (λ net. λ k d lt. (net.sound k d lt).fixed)
-
--- capacities of whole units
-pub whole_same : (caps : Caps) → caps.scale ≡ 1 → caps ≡ whole_caps caps.nums
-whole_same caps scale = ap (λ (s : ℕ). record { scale = s; nums = caps.nums }) scale
 
 -- ---- a routing for each state
 

@@ -1,5 +1,5 @@
 -- cuts and lines that are known, with their tests
-use Rattle.std.proofs.Common.{◌≡◌, ◌∙◌, ℕ, ◌+◌, ◌≤◌, ◌<◌, ◌^◌, zero, suc, true, false, inl, List, [], ◌∷◌, ◌++◌, All, Contains, Some, get_or, length, map, slice_get, refl, ap, subst, sym, arith}
+use Rattle.std.proofs.Common.{◌≡◌, ◌∙◌, ℕ, ◌+◌, ◌≤◌, ◌<◌, ◌^◌, zero, suc, true, false, inl, List, [], ◌∷◌, ◌++◌, All, Some, length, map, slice_get, refl, ap, subst, sym, arith}
 use Rattle.std.proofs.lemmas.List.{append_assoc, length-map, length_push, map_push}
 use Rattle.std.specs.List.{AllZip}
 use Rattle.net_core.proofs.Library.{All-map, All-push, get_or_from_slice_get, slice_get_within}
@@ -120,10 +120,6 @@ place_names p k known i cut at =
 pub none_empties : (tested : List Tested) (links : List Link) (box : TreeBox) (n : ℕ) → length tested ≤ n
     → ((k : ℕ) → k < n → EmptiesBox (names_by tested false) links box k → ⊥) → (i : ℕ) → EmptiesBox (names_by tested false) links box i → ⊥
 none_empties tested links box n long none i empties = none i (omega (arith, long, empties.1.0)) empties
-
--- a cut that is at no place isn't listed
-pub not_listed : (cuts : List CutLine) (cut : CutLine) (n : ℕ) → length cuts ≤ n → ((k : ℕ) → k < n → get_or cuts k cut ≡ cut → ⊥) → Contains cuts cut → ⊥
-not_listed cuts cut n long none listed = none listed.0 (omega (arith, long, listed.1)) listed.2
 
 -- ---- what these tests tell
 

@@ -14,7 +14,7 @@ use Rattle.line_check.specs.declared.tested.Tested.{Tested}
 use Rattle.tree_check.specs.Proofs.{EmptiesBox}
 use Rattle.tree_check.specs.Trees.{TreeBox}
 use Rattle.tree_check.specs.declared.boxes.Span.{Span}
-use Rattle.tree_check.specs.declared.proof.Node.TheVariants.{Closed, Empty}
+use Rattle.tree_check.specs.declared.proof.Node.TheVariants.{Empty}
 use Rattle.box_search.specs.Causes.{HasFreeValue, IsUnsettled}
 use Rattle.box_search.specs.declared.certs.Valued.{Valued}
 use Rattle.box_search.specs.declared.found.Cheaper.{Cheaper}
@@ -34,11 +34,6 @@ use Rattle.box_search.proofs.ViolatedCuts.{violated_empties}
 use Rattle.box_search.proofs.WideForms.{wide_form}
 
 -- ---- settled boxes
-
--- a certificate of at least the plan's cost
-pub closed_found : (p : Case) (plan : Plan) (handed : List CutLine) (tested : List Tested) (n : ℕ) (box : TreeBox) (v : Valued) → HasBoxValue (names_by tested false) p.links box v.cert v.value
-    → plan.cost ≤ v.value → IsFoundAt p plan handed tested n box (found.Twig (twig.Settled (Closed v.cert)))
-closed_found p plan handed tested n box v has reaches = ((record { value = v.value; has = has; reaches = reaches }, tt), refl)
 
 -- a cut that empties it
 pub empty_found : (p : Case) (plan : Plan) (handed : List CutLine) (tested : List Tested) (n : ℕ) (box : TreeBox) (i : ℕ) → EmptiesBox (names_by tested false) p.links box i

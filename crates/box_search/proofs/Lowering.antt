@@ -36,9 +36,6 @@ pub record IsLoweredTo (modules : List Module) (counts lowered : List ℕ) (miss
   pub room : (modules_capacity modules counts ≡ modules_capacity modules lowered) ⊎ (missing ≡ 0)
   pub enough : 2 ^ 44 ≤ modules_capacity modules lowered + missing + 1
 
-pub lowered_none : IsLoweredTo [] [] [] (2 ^ 44 - 1)
-lowered_none = record { fewer = tt; few = All-nil (λ (n : ℕ). n < 2 ^ 44); small = inl (omega arith); room = inl refl; enough = omega arith }
-
 -- one module more
 pub lowered_more : (ms : List Module) (cs ls : List ℕ) (missing : ℕ) (m : Module) (c n : ℕ) → length cs ≡ length ms → length ls ≡ length ms → IsModule m
     → IsLoweredTo ms cs ls missing → n ≤ c → n ≤ missing → m.capacity * n < missing + m.capacity → (n ≡ c) ⊎ (missing ≤ m.capacity * n)
@@ -70,14 +67,6 @@ lowered_more ms cs ls missing m c n same_cs same_ls sound was fewer few small ro
           was.room;
       enough = omega (arith, enough, left);
     }
-
-pub lowered_all : (ms : List Module) (cs ls : List ℕ) (missing : ℕ) → IsLoweredTo ms cs ls missing → IsLoweredLink ms cs ls
-lowered_all ms cs ls missing is = let enough = is.enough in record {
-  fewer = is.fewer;
-  few = is.few;
-  small = ⊎_elim (λ (lt : modules_capacity ms ls + missing < 2 ^ 44). omega (arith, lt)) (λ h. h.1) is.small;
-  room = ⊎_elim (λ same. inl same) (λ (none : missing ≡ 0). inr (omega (arith, enough, none))) is.room;
-}
 
 -- ---- the counts of all links
 

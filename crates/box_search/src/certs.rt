@@ -19,7 +19,7 @@ pub struct Valued {
     pub value: u128,
 }
 
-/// The certificate of no lines.
+/// The certificate of no lines. It takes constant time, and no memory.
 pub fn empty_cert(alloc: Global) -> BoxCert
     ensures { result ≡ record { den = 1; lines = [] } }
 {
@@ -29,7 +29,7 @@ pub fn empty_cert(alloc: Global) -> BoxCert
     }
 }
 
-/// A copy of a certificate.
+/// A copy of a certificate. It takes time and memory in its lines.
 pub fn copied(cert: &BoxCert) -> Result<BoxCert, NoMemory>
     ensures { IfOk result (λ copy. copy ≡ cert.now) }
 {

@@ -62,7 +62,7 @@ fn entries_of(alloc: Global, cuts: List<CutLine>) -> Result<List<Entry>, NoMemor
 }
 
 impl Known {
-    /// Cuts of an instance, each tested.
+    /// Cuts of an instance, each tested. It takes time in the cuts times the links, and memory for the cuts.
     pub fn new(
         alloc: Global,
         instance: &Instance,
@@ -195,7 +195,7 @@ impl Known {
         }
     }
 
-    /// The optimum of the program of a box; none where a number is too wide.
+    /// The optimum of the program of a box; none where a number is too wide. It takes the time of the program's exact simplex.
     pub fn solved(
         &self,
         alloc: Global,
@@ -213,7 +213,7 @@ impl Known {
         solved(alloc, links, aim.plan.cost, lines, boxed)
     }
 
-    /// The first cut or line that empties a box.
+    /// The first cut or line that empties a box. It takes time in the cuts and lines times the modules, and no memory.
     pub fn emptied_by(&self, aim: &Aim, boxed: &Boxed) -> Option<u32>
         requires { IsKnown (aimed aim.now) self.now }
         ensures none { result ≡ None → (i : ℕ) → EmptiesBox (names_by self.now.tested false) (aimed aim.now).links boxed.now i → ⊥ }

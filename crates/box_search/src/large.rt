@@ -1,7 +1,5 @@
 ghost use Rattle.std.specs.Prelude.{◌≡◌, ◌+◌, ◌<◌, IfOk, MatchResult, length};
-ghost use Rattle.plan_terms.specs.Terms.{AreCounts, IsSurvivable, capacities, case_of, graph_in};
-ghost use Rattle.route_law.specs.Terms.{AreJoined};
-ghost use Rattle.separator.specs.Findings.{IsFinding};
+ghost use Rattle.plan_terms.specs.Terms.{AreCounts, IsSurvivable, capacities, case_of};
 ghost use Rattle.able_counts.specs.AbleTests.{AreRoutingsWithin, IsRoutingWithin, IsStopAt, whole_caps};
 
 use able_counts::Stop;

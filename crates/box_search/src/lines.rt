@@ -1,4 +1,4 @@
-ghost use Rattle.std.specs.Prelude.{◌≡◌, ◌≤◌, ◌<◌, ◌^◌, All, IfOk, OnOk, length, true};
+ghost use Rattle.std.specs.Prelude.{◌≡◌, ◌≤◌, ◌<◌, ◌^◌, All, OnOk, length, true};
 ghost use Rattle.plan_terms.specs.Terms.{IsCut};
 ghost use Rattle.box_search.specs.Searches.{HasLearned, IsSearch, aimed, most_entries};
 
@@ -356,6 +356,7 @@ fn make_certified(
 ///
 /// Where a link has more than two kinds of modules, the cuts of node sets come first, up to 1,024, with the lines that table lines are
 /// made over; and a round makes table lines of weights up to 20, or divided lines where the program's point misses no table line.
+/// Each round takes the time of a program's optimum, and memory for the lines that it keeps.
 pub fn make_first_lines(
     alloc: Global,
     aim: &Aim,
