@@ -169,7 +169,8 @@ fn send_missing(alloc: Global, task: &RouteTask, mending: &mut Mending) -> Resul
             return Ok(false);
         }
     }
-    Ok(false)
+    let missing = mending.missing.items();
+    Ok(!is_missing(missing, most_missing(missing)))
 }
 
 /// Whether something is missing of a demand.

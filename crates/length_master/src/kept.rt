@@ -199,8 +199,10 @@ impl KeptMaster {
         }
     }
 
-    /// The capacities of a least share of the cuts, where the basis that the last call of `best` ended with tells them: for cuts whose
-    /// share has units that are too wide, though its capacities aren't. `None` where the basis doesn't pass the test.
+    /// The capacities of a least share of the cuts, where the basis that is kept tells them: for cuts whose share has units that are too wide,
+    /// though its capacities aren't. `None` where nothing is kept, since no turns of `best` came to an end where no column gains; where a
+    /// number is too wide for the test, as a common multiple of the unit pairs' capacities, the certificate's common denominator or that of
+    /// the prices of 2^62 or more; and where the basis doesn't pass the test, as one that other cuts have left.
     ///
     /// It takes time in the cube of the count of links and in the lengths of the cuts, and memory in the square of the count of links and
     /// in the lengths of the cuts.
