@@ -15,7 +15,7 @@ flows_header = codes "?planner flows; version: 1"
 abbrev pub link_flow_items : KnownNames → List Demand → LinkFlow → List Item
 link_flow_items known demands f =
     Verbatim (demand_name demands f.demand) ∷ Verbatim (link_name known.links f.arc.link) ∷ Verbatim (node_name known.nodes f.arc.from)
-        ∷ Money known.places f.arc.num ∷ []
+    ∷ Money known.places f.arc.num ∷ []
 
 -- the flows of a state, by its number: the state's name, and its flows between parentheses
 abbrev pub state_flows_items : KnownNames → List Demand → ℕ × List LinkFlow → List Item
