@@ -1,6 +1,5 @@
 -- routings that are kept or become ones within other capacities
-use Rattle.std.proofs.Common.{◌≡◌, ◌∙◌, ℕ, zero, suc, ◌+◌, ◌≤◌, ◌<◌, ◌⊎◌, inl, inr, ⊎_elim, List, [], ◌∷◌, All, None, Some, Option, IfSome, length, slice_get, refl, sym, ap, subst, arith}
-use Rattle.std.proofs.Math.ListN.{set, length-set}
+use Rattle.std.proofs.Common.{◌≡◌, ◌∙◌, ℕ, zero, suc, ◌+◌, ◌≤◌, ◌<◌, ◌⊎◌, inl, inr, ⊎_elim, List, [], ◌∷◌, All, None, Some, Option, IfSome, length, slice_get, refl, sym, ap, subst, arith, set, length-set}
 use Rattle.net_core.proofs.Library.{cases_lt, slice_get_within}
 use Rattle.plan_terms.specs.Terms.{Caps, CutLine, Routing, Case, graph_in, AreDemands, Joins, IsCut, Carries, IsSurvivable}
 use Rattle.net_core.proofs.Lists.{some_same}

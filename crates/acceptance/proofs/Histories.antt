@@ -1,7 +1,6 @@
 -- the cuts of a legal history are kept, and all different
-use Rattle.std.proofs.Common.{◌≢◌, ℕ, zero, suc, ◌≤◌, ◌++◌, List, [], ◌∷◌, All, AllPairs, length, get_or, take, take-suc, sym, subst, arith, ◌∙◌}
+use Rattle.std.proofs.Common.{◌≢◌, ℕ, zero, suc, ◌≤◌, ◌++◌, List, [], ◌∷◌, All, AllPairs, length, get_or, take, take-suc, sym, subst, arith, ◌∙◌, append-nil}
 use Rattle.net_core.proofs.Library.{take-length, flat_map-append, All-push, all_pairs_push, slice_get-get_or}
-use Rattle.std.proofs.lemmas.List.{append-nil}
 use Rattle.plan_terms.specs.Terms.{Entry, Edited, Pooled, Case, graph_in, AreKept}
 use Rattle.cut_pool.specs.Terms.{IsLegalAfter, IsLegalHistory, cuts_of, pooled_by}
 

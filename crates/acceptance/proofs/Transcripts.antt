@@ -1,8 +1,6 @@
 -- a transcript of commands has no finding, and the bounds of its plans hold
-use Rattle.std.proofs.Common.{◌≡◌, ◌∙◌, ℕ, ◌+◌, ◌≤◌, ◌++◌, ◌==◌, List, [], ◌∷◌, All, length, get_or, take, drop, sym, ap, subst, arith, refl, ⊎_elim}
+use Rattle.std.proofs.Common.{◌≡◌, ◌∙◌, ℕ, ◌+◌, ◌≤◌, ◌++◌, ◌==◌, List, [], ◌∷◌, All, length, get_or, take, drop, sym, ap, subst, arith, refl, ⊎_elim, eq-eqb, length-append, length-take-le, take-append-drop}
 use Rattle.net_core.proofs.Library.{∥∥₁_elim, props, nat_tests, length-map, All-cons, All-nil}
-use Rattle.std.proofs.lemmas.Bool.{eq-eqb}
-use Rattle.std.proofs.lemmas.List.{length-append, length-take-le, take-append-drop}
 use Rattle.plan_terms.specs.Terms.{Demand, Entry, Notes, Case, IsAble, total_cost}
 use Rattle.plan_terms.proofs.Lemmas.{weak_duality}
 use Rattle.plan_types.specs.Terms.{IsCarryingPlan, IsCertifiedPlan, lines_of_certificate}

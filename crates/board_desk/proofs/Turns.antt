@@ -1,7 +1,6 @@
 -- Why a caller's turn is as its contract says.
-use Rattle.std.proofs.Common.{◌≡◌, ◌∙◌, ℕ, ◌-◌, ◌++◌, List, Some, length, subst, sym, ap, arith}
+use Rattle.std.proofs.Common.{◌≡◌, ◌∙◌, ℕ, ◌-◌, ◌++◌, List, Some, length, subst, sym, ap, arith, append-nil}
 use Rattle.net_core.proofs.Library.{range_with_len}
-use Rattle.std.proofs.lemmas.List.{append-nil}
 use Rattle.plan_terms.specs.Terms.{Edit, Entry, Edited, Pooled}
 use Rattle.metric_cut.specs.declared.cut.Cut.{Cut}
 use Rattle.cut_pool.specs.declared.answers.AdmitAnswer.{AdmitAnswer}

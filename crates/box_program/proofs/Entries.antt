@@ -1,8 +1,5 @@
 -- the entries of columns
-use Rattle.std.proofs.Common.{◌≡◌, ◌≢◌, ℕ, suc, ◌+◌, ◌<◌, ◌≤◌, ◌++◌, List, [], ◌∷◌, AllPairs, cond, length, refl, ⊎_elim, sym, ap, ◌∙◌, subst, arith}
-use Rattle.std.proofs.Math.IntN.{ℤ, pos, ◌+ℤ◌}
-use Rattle.std.specs.Int.Signed.{◌<ℤ◌}
-use Rattle.std.proofs.lemmas.Bool.{eq-eqb, ne_eqb}
+use Rattle.std.proofs.Common.{◌≡◌, ◌≢◌, ℕ, suc, ◌+◌, ◌<◌, ◌≤◌, ◌++◌, List, [], ◌∷◌, AllPairs, cond, length, refl, ⊎_elim, sym, ap, ◌∙◌, subst, arith, ℤ, pos, ◌+ℤ◌, ◌<ℤ◌, eq-eqb, ne_eqb}
 use Rattle.net_core.proofs.Library.{All-get_or, All-head, All-push, All-weaker, AllByRecursion, all_pairs_push, cases_eq, ints, recursion_from_All}
 use Rattle.checked_fraction.specs.Terms.{IsNarrow}
 use Rattle.simplex_core.specs.Terms.{AreEntries, HaveApartRows, IsEntry, entry_of}

@@ -1,7 +1,5 @@
 -- a box's program is a packing program
-use Rattle.std.proofs.Common.{◌≡◌, ◌≢◌, ℕ, ◌+◌, ◌<◌, ◌++◌, List, [], ◌∷◌, All, Some, length, length-append, slice_get, ⊎_elim, sym, ap, ◌∙◌, subst, arith}
-use Rattle.std.proofs.Math.IntN.{ℤ, pos}
-use Rattle.std.specs.Int.Signed.{◌<ℤ◌}
+use Rattle.std.proofs.Common.{◌≡◌, ◌≢◌, ℕ, ◌+◌, ◌<◌, ◌++◌, List, [], ◌∷◌, All, Some, length, length-append, slice_get, ⊎_elim, sym, ap, ◌∙◌, subst, arith, ℤ, pos, ◌<ℤ◌}
 use Rattle.net_core.proofs.Library.{cases_eq, ints}
 use Rattle.checked_fraction.specs.Terms.{IsNarrow, num}
 use Rattle.simplex_law.specs.Terms.{ColumnOf, IsPacking, IsProgramColumn, IsSlack, unit_vector}

@@ -1,6 +1,5 @@
 -- the certificate of no lines has a value where no least count is large
-use Rattle.std.proofs.Common.{◌≡◌, ◌≢◌, ℕ, zero, suc, ◌+◌, ◌-◌, ◌*◌, ◌%◌, ◌^◌, ◌≤◌, ◌<◌, Bool, true, false, if◌then◌else◌, List, [], ◌∷◌, All, ⊎_elim, get_or, length, map, refl, ap, arith, slice_index, subst, unwrap_or}
-use Rattle.std.proofs.Math.Nat.{mul-le-mul_left, mul-le-mul_right}
+use Rattle.std.proofs.Common.{◌≡◌, ◌≢◌, ℕ, zero, suc, ◌+◌, ◌-◌, ◌*◌, ◌%◌, ◌^◌, ◌≤◌, ◌<◌, Bool, true, false, if◌then◌else◌, List, [], ◌∷◌, All, ⊎_elim, get_or, length, map, refl, ap, arith, slice_index, subst, unwrap_or, mul-le-mul_left, mul-le-mul_right}
 use Rattle.std.proofs.lemmas.Nat.{mod_below}
 use Rattle.std.specs.Int.{div_ceil}
 use Rattle.std.specs.List.{AllByRecursion}
@@ -9,11 +8,10 @@ use Rattle.module_prices.proofs.Divisors.{rounded_up}
 use Rattle.plan_terms.proofs.Bounds.{bound_free, bound_rounded, bound_unique, divisor_both, divisor_none, divisor_one}
 use Rattle.plan_terms.specs.Terms.{IsBound, IsGreatestDivisor, IsModule, Link, Module, charges, sum_below}
 use Rattle.tree_check.specs.Boxes.{any_count, span_at}
-use Rattle.line_check.specs.Inequalities.{AreNamedBy, WeightedLine, entry, module_number, over_modules}
+use Rattle.line_check.specs.Terms.{AreNamedBy, WeightedLine, entry, module_number, over_modules, Inequality}
 use Rattle.tree_check.specs.BoxValues.{HasBoxValue, IsBoxCertificate, IsBoxValue, all_gains, all_losses, certain_setup, certain_setups, module_charge, module_costs, module_gain, module_loss, value_gains, value_losses}
 use Rattle.tree_check.specs.Trees.{TreeBox}
 use Rattle.tree_check.specs.declared.boxes.Span.{Span}
-use Rattle.line_check.specs.declared.inequality.Inequality.{Inequality}
 use Rattle.box_search.specs.Causes.{HasFreeValue}
 use Rattle.box_search.specs.Finds.{AreLow}
 

@@ -6,10 +6,8 @@ use Rattle.master_bound.specs.declared.answer.Multiplier.{Multiplier}
 use Rattle.plan_terms.specs.Terms.{Case, CutLine}
 use Rattle.plan_types.specs.declared.certificate.CertLine.{CertLine}
 use Rattle.plan_types.specs.declared.plan.Plan.{Plan}
-use Rattle.line_check.specs.Inequalities.{AreNamedBy, line_of_cut}
-use Rattle.line_check.specs.Testing.{names_by}
-use Rattle.tree_check.specs.BoxValues.{HasBoxValue, IsBoxValue}
-use Rattle.tree_check.specs.Trees.{TreeBox}
+use Rattle.line_check.specs.Terms.{AreNamedBy, line_of_cut, names_by}
+use Rattle.tree_check.specs.Terms.{HasBoxValue, IsBoxValue, TreeBox}
 use Rattle.tree_check.specs.declared.proof.BoxCert.{BoxCert}
 use Rattle.proof_order.specs.declared.entry.Entry.{Entry}
 use Rattle.proof_order.specs.declared.entry.Entry.TheVariants as entry

@@ -1,6 +1,5 @@
 -- counts of a whole point: one for each module
-use Rattle.std.proofs.Common.{◌≡◌, ℕ, zero, suc, ◌+◌, ◌<◌, List, [], ◌∷◌, ◌++◌, drop, get_or, length, take, ap, subst, sym, ◌∙◌, arith}
-use Rattle.std.proofs.Math.ListN.{set}
+use Rattle.std.proofs.Common.{◌≡◌, ℕ, zero, suc, ◌+◌, ◌<◌, List, [], ◌∷◌, ◌++◌, drop, get_or, length, take, ap, subst, sym, ◌∙◌, arith, set}
 use Rattle.std.proofs.lemmas.List.{take_at, take_more}
 use Rattle.plan_terms.specs.Terms.{AreCounts, Link}
 use Rattle.box_search.proofs.Knowing.{zip_push}

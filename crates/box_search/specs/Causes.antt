@@ -4,8 +4,7 @@ use Rattle.plan_terms.specs.Terms.{CutLine, Link}
 use Rattle.plan_types.specs.declared.certificate.Certificate.{Certificate}
 use Rattle.plan_types.specs.declared.plan.Plan.{Plan}
 use Rattle.line_check.specs.Inequalities.{WeightedLine, line_of_cut}
-use Rattle.tree_check.specs.BoxValues.{IsBoxValue, IsEmptiedBy}
-use Rattle.tree_check.specs.Trees.{TreeBox}
+use Rattle.tree_check.specs.Terms.{IsBoxValue, IsEmptiedBy, TreeBox}
 
 -- the lines of a plan's certificate, with their numerators
 abbrev pub lines_of_plan : List Link → Certificate → List WeightedLine

@@ -3,13 +3,10 @@ use Rattle.std.specs.Prelude.{◌≡◌, ℕ, ◌+◌, ◌*◌, ◌^◌, ◌≤�
 use Rattle.plan_terms.specs.Terms.{AreCounts, AreWithinLimits, Case, CutLine, Evidence, Link, capacities, total_cost}
 use Rattle.plan_types.specs.declared.plan.Plan.{Plan}
 use Rattle.able_counts.specs.AbleTests.{AreRoutingsWithin, IsWideSomewhere, whole_caps}
-use Rattle.line_check.specs.Inequalities.{entry}
-use Rattle.line_check.specs.Testing.{names_by}
-use Rattle.line_check.specs.declared.tested.Tested.{Tested}
-use Rattle.tree_check.specs.Boxes.{IsFixedBox, least_counts}
+use Rattle.line_check.specs.Terms.{entry, names_by, Tested}
+use Rattle.tree_check.specs.Terms.{IsFixedBox, least_counts, TreeBox}
 use Rattle.tree_check.specs.BoxValues.{HasBoxValue, module_costs}
 use Rattle.tree_check.specs.Proofs.{HoldsNode, IsEvidenceAt}
-use Rattle.tree_check.specs.Trees.{TreeBox}
 use Rattle.tree_check.specs.declared.proof.Node.{Node}
 use Rattle.tree_check.specs.declared.proof.Node.TheVariants.{Split, Closed, Empty, Spent, Stuck}
 use Rattle.box_search.specs.Causes.{HasPlanValue, IsUnsettled}

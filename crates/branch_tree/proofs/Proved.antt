@@ -5,9 +5,8 @@ use Rattle.plan_terms.specs.Terms.{Case, CutLine, IsCut}
 use Rattle.plan_types.specs.Terms.{IsCertifiedPlan}
 use Rattle.plan_types.specs.declared.plan.Plan.{Plan}
 use Rattle.plan_swaps.specs.Swaps.{IsCheaperPlan}
-use Rattle.tree_check.specs.Boxes.{whole_box}
+use Rattle.tree_check.specs.Terms.{whole_box, HasBoxValue}
 use Rattle.tree_check.specs.Proofs.{HasOpenValue, HoldAllNodes, HoldsNode, IsOpenAt, VerdictFollows}
-use Rattle.tree_check.specs.BoxValues.{HasBoxValue}
 use Rattle.tree_check.specs.Trees.{IsWhole, TreeBox, boxes_left, sides_of}
 use Rattle.tree_check.specs.declared.proof.BoxCert.{BoxCert}
 use Rattle.tree_check.specs.declared.proof.Node.{Node}
@@ -15,11 +14,7 @@ use Rattle.tree_check.specs.declared.proof.Node.TheVariants.{Split, Closed, Empt
 use Rattle.tree_check.specs.declared.proof.Proof.{Proof}
 use Rattle.tree_check.specs.declared.proof.Verdict.{Verdict}
 use Rattle.tree_check.specs.declared.proof.Verdict.TheVariants.{Cheapest, Above}
-use Rattle.line_check.specs.Lines.{NamesLine, sources_of}
-use Rattle.line_check.specs.Testing.{AreTested, names_by}
-use Rattle.line_check.specs.declared.inequality.Inequality.{Inequality}
-use Rattle.line_check.specs.declared.line.Line.{Line}
-use Rattle.line_check.specs.declared.tested.Tested.{Tested}
+use Rattle.line_check.specs.Terms.{NamesLine, sources_of, AreTested, names_by, Inequality, Line, Tested}
 use Rattle.proof_order.specs.Orders.{cuts_among, lines_among, moved_certificate, moved_line, moved_node, place_of, source_of}
 use Rattle.proof_order.specs.declared.entry.Entry.{Entry}
 use Rattle.proof_order.proofs.NamesKept.{names_are_kept}

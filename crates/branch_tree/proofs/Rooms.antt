@@ -1,7 +1,5 @@
 -- how much room a box leaves for splits
-use Rattle.std.proofs.Common.{◌≡◌, ◌∙◌, ℕ, zero, suc, ◌+◌, ◌-◌, ◌*◌, ◌≤◌, ◌<◌, min, List, [], ◌∷◌, ◌++◌, Option, None, Some, IfSome, All, cond, get_or, length, map, replicate, slice_get, take, refl, ap, sym, subst, arith}
-use Rattle.std.proofs.Math.ListN.{set, length-set}
-use Rattle.std.proofs.Math.Nat.{add-mul, mul-add}
+use Rattle.std.proofs.Common.{◌≡◌, ◌∙◌, ℕ, zero, suc, ◌+◌, ◌-◌, ◌*◌, ◌≤◌, ◌<◌, min, List, [], ◌∷◌, ◌++◌, Option, None, Some, IfSome, All, cond, get_or, length, map, replicate, slice_get, take, refl, ap, sym, subst, arith, set, length-set, add-mul, mul-add}
 use Rattle.std.proofs.lemmas.List.Sums.{sum_by-cons}
 use Rattle.std.proofs.lemmas.Nat.{le-div}
 use Rattle.std.specs.List.{AllByRecursion, AllZip}

@@ -3,8 +3,7 @@ use Rattle.std.proofs.Common.{ℕ, ◌≤◌, List, [], ◌∷◌, arith}
 use Rattle.plan_terms.specs.Terms.{Case, CutLine}
 use Rattle.plan_types.specs.declared.plan.Plan.{Plan}
 use Rattle.line_check.specs.declared.tested.Tested.{Tested}
-use Rattle.tree_check.specs.Boxes.{whole_box}
-use Rattle.tree_check.specs.Trees.{TreeBox}
+use Rattle.tree_check.specs.Terms.{whole_box, TreeBox}
 use Rattle.box_search.specs.Searches.{Extends}
 use Rattle.box_search.specs.Finds.{IsTwigOf}
 use Rattle.box_search.specs.declared.twigs.Twig.{Twig}

@@ -1,12 +1,10 @@
 -- trees with another place, or with one split more
-use Rattle.std.proofs.Common.{◌≡◌, ℕ, zero, suc, ◌+◌, ◌<◌, cond, List, [], ◌∷◌, ◌++◌, Some, Bool, drop, get_or, insert, length, set, slice_get, take, refl, ap, sym, subst, add-one, arith}
-use Rattle.std.proofs.lemmas.List.{length-append}
+use Rattle.std.proofs.Common.{◌≡◌, ℕ, zero, suc, ◌+◌, ◌<◌, cond, List, [], ◌∷◌, ◌++◌, Some, Bool, drop, get_or, insert, length, set, slice_get, take, refl, ap, sym, subst, add-one, arith, length-append}
 use Rattle.net_core.proofs.Library.{slice_get_read, slice_get_within, sum_by-append, sum_by-cons}
 use Rattle.plan_terms.specs.Terms.{Case, CutLine}
 use Rattle.plan_types.specs.declared.plan.Plan.{Plan}
 use Rattle.line_check.specs.declared.tested.Tested.{Tested}
-use Rattle.tree_check.specs.Boxes.{IsSplitOf, lower_side, upper_side, whole_box}
-use Rattle.tree_check.specs.Trees.{TreeBox}
+use Rattle.tree_check.specs.Terms.{IsSplitOf, lower_side, upper_side, whole_box, TreeBox}
 use Rattle.tree_check.specs.declared.proof.Node.TheVariants.{Split}
 use Rattle.box_search.specs.Finds.{is_split}
 use Rattle.branch_tree.specs.inner.Growing.{AreSidesOf, IsChoiceOf, IsGrowing}

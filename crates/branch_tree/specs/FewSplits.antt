@@ -1,10 +1,9 @@
 -- how many splits a branch tree has at most
 use Rattle.std.specs.Prelude.{ℕ, ◌+◌, ◌-◌, ◌*◌, ◌/◌, ◌<◌, List, [], ◌∷◌, All, count_by, length}
 use Rattle.plan_terms.specs.Terms.{Link, Module}
-use Rattle.tree_check.specs.Boxes.{IsSplitOf}
+use Rattle.tree_check.specs.Terms.{IsSplitOf, IsNodeOf, TreeBox}
 use Rattle.tree_check.specs.BoxValues.{module_costs}
 use Rattle.line_check.specs.Inequalities.{entry}
-use Rattle.tree_check.specs.Trees.{IsNodeOf, TreeBox}
 use Rattle.tree_check.specs.declared.proof.Node.{Node}
 use Rattle.tree_check.specs.declared.proof.Node.TheVariants.{Split}
 use Rattle.box_search.specs.Finds.{is_split}

@@ -4,11 +4,10 @@ use Rattle.plan_terms.specs.Terms.{Case, CutLine, IsCut, capacities}
 use Rattle.plan_types.specs.declared.plan.Plan.{Plan}
 use Rattle.able_counts.specs.AbleTests.{IsWideSomewhere, whole_caps}
 use Rattle.plan_swaps.specs.Swaps.{IsCheaperPlan}
-use Rattle.tree_check.specs.Boxes.{IsFixedBox, least_counts}
+use Rattle.tree_check.specs.Terms.{IsFixedBox, least_counts, IsNodeOf, TreeBox}
 use Rattle.line_check.specs.Inequalities.{entry}
 use Rattle.tree_check.specs.BoxValues.{IsBoxCertificate, module_costs}
 use Rattle.tree_check.specs.Proofs.{IsAcceptedProof, IsOpenAt}
-use Rattle.tree_check.specs.Trees.{IsNodeOf, TreeBox}
 use Rattle.tree_check.specs.declared.proof.BoxCert.{BoxCert}
 use Rattle.tree_check.specs.declared.proof.Node.{Node}
 use Rattle.tree_check.specs.declared.proof.Node.TheVariants.{Split, Spent, Stuck}

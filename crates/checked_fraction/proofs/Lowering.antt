@@ -1,6 +1,5 @@
 -- rows of given numbers in lowest terms
-use Rattle.std.proofs.Common.{◌≡◌, ℕ, ℤ, pos, ◌<◌, ◌/◌, unsigned_abs, refl, arith, inl}
-use Rattle.std.specs.Int.Signed.{◌<ℤ◌}
+use Rattle.std.proofs.Common.{◌≡◌, ℕ, ℤ, pos, ◌<◌, ◌/◌, unsigned_abs, refl, arith, inl, ◌<ℤ◌}
 use Rattle.net_core.proofs.Library.{ints}
 use Rattle.checked_fraction.specs.Rows.{IsReduced}
 use Rattle.checked_fraction.specs.Mixed.{IsTooWide}

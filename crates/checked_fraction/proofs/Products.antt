@@ -1,11 +1,8 @@
 -- products of signed numbers
-use Rattle.std.proofs.Common.{◌≡◌, ℕ, zero, suc, ◌+◌, ◌*◌, ◌^◌, ◌<◌, ◌≤◌, unsigned_abs, ap, sym, ◌∙◌, arith}
-use Rattle.std.proofs.Math.IntN.{ℤ, pos, negsuc, ◌+ℤ◌, ◌-ℤ◌, ◌*ℤ◌}
+use Rattle.std.proofs.Common.{◌≡◌, ℕ, zero, suc, ◌+◌, ◌*◌, ◌^◌, ◌<◌, ◌≤◌, unsigned_abs, ap, sym, ◌∙◌, arith, ℤ, pos, negsuc, ◌+ℤ◌, ◌-ℤ◌, ◌*ℤ◌, ◌<ℤ◌, mul-le-mul_left}
 use Rattle.net_core.proofs.Library.{*ℤ_comm, zero-*ℤ, ints, by_lt_z, unsigned_abs-mul}
-use Rattle.std.specs.Int.Signed.{◌<ℤ◌}
 use Rattle.std.proofs.lemmas.Nat.{mul-lt}
 use borrow.Author.Differences.{up, down, sum_is_lem, product_is}
-use Rattle.std.proofs.Math.Nat.{mul-le-mul_left}
 
 pub regroup : (a b c : ℤ) → (a *ℤ b) *ℤ c ≡ a *ℤ (b *ℤ c)
 regroup a b c =

@@ -1,6 +1,5 @@
 -- rows in lowest terms
-use Rattle.std.proofs.Common.{ℕ, ℤ, List, zero, suc, pos, ◌≡◌, ◌*◌, ◌/◌, ◌<◌, ◌*ℤ◌, ◌-ℤ◌, unsigned_abs, sym, ap, subst, ◌∙◌, arith}
-use Rattle.std.specs.Int.Signed.{◌<ℤ◌}
+use Rattle.std.proofs.Common.{ℕ, ℤ, List, zero, suc, pos, ◌≡◌, ◌*◌, ◌/◌, ◌<◌, ◌*ℤ◌, ◌-ℤ◌, unsigned_abs, sym, ap, subst, ◌∙◌, arith, ◌<ℤ◌}
 use Rattle.net_core.proofs.Library.{◌∣◌, ints, unsigned_abs-mul, mul-dvd-mul_left, dvd_of_mul-dvd-mul_left, eq-one_of_dvd-one, mul-div_cancel'}
 use Rattle.checked_fraction.specs.Rows.{num, IsInLowestTerms, IsReduced}
 use Rattle.checked_fraction.specs.Mixed.{combined}

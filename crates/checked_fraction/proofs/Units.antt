@@ -1,7 +1,6 @@
 -- unit rows
-use Rattle.std.proofs.Common.{◌≡◌, ◌<◌, ℕ, pos, replicate, slice_set, sym, subst, ⊎_elim, arith}
+use Rattle.std.proofs.Common.{◌≡◌, ◌<◌, ℕ, pos, replicate, slice_set, sym, subst, ⊎_elim, arith, get_or-set_same, get_or-set_other}
 use Rattle.net_core.proofs.Library.{cases_eq, cases_lt, get_or-replicate, get_or_past, length-replicate}
-use Rattle.std.proofs.lemmas.List.{get_or-set_same, get_or-set_other}
 use Rattle.checked_fraction.specs.Rows.{num, IsNarrow}
 
 pub zeros_narrow : (n k : ℕ) → IsNarrow (num (replicate n (pos 0)) k)

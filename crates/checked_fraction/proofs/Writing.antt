@@ -1,7 +1,6 @@
 -- numbers written one by one
-use Rattle.std.proofs.Common.{ℕ, ℤ, List, pos, length, slice_set, ◌≡◌, ◌+◌, ◌<◌, ◌≤◌, sym, subst, ◌∙◌, arith, ⊎_elim}
+use Rattle.std.proofs.Common.{ℕ, ℤ, List, pos, length, slice_set, ◌≡◌, ◌+◌, ◌<◌, ◌≤◌, sym, subst, ◌∙◌, arith, ⊎_elim, get_or-set_same, get_or-set_other}
 use Rattle.net_core.proofs.Library.{cases_eq}
-use Rattle.std.proofs.lemmas.List.{get_or-set_same, get_or-set_other}
 use Rattle.checked_fraction.specs.Rows.{num, IsNarrow}
 
 -- the first k numbers are those of f, the others as they were

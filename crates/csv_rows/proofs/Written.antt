@@ -1,6 +1,5 @@
 -- what holds of a call that didn't fail
-use Rattle.std.proofs.Common.{◌≡◌, false, is_err}
-use Rattle.std.specs.Prelude.{OnOk, Ok, Err, Result}
+use Rattle.std.proofs.Common.{◌≡◌, false, is_err, OnOk, Ok, Err, Result}
 
 pub on_no_err : {A E : Type 0} (r : Result A E) (X : Type 0) → is_err r ≡ false → OnOk r X → X
 on_no_err (Ok a) X is h = h

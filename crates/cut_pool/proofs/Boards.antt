@@ -1,7 +1,6 @@
 -- boards with one entry more
-use Rattle.std.proofs.Common.{◌≡◌, ◌∙◌, ℕ, ◌<◌, ◌++◌, List, [], ◌∷◌, All, length, map, get_or, refl, sym, ap, subst, arith, ◌≤◌, ◌+◌, ◌^◌, IfErr, IfOk, OnOk, Ok, Err, Result}
+use Rattle.std.proofs.Common.{◌≡◌, ◌∙◌, ℕ, ◌<◌, ◌++◌, List, [], ◌∷◌, All, length, map, get_or, refl, sym, ap, subst, arith, ◌≤◌, ◌+◌, ◌^◌, IfErr, IfOk, OnOk, Ok, Err, Result, append-nil, length-append}
 use Rattle.net_core.proofs.Library.{∥∥₁_elim, props, get_or-map, length-map, map-append, All-map, All-push}
-use Rattle.std.proofs.lemmas.List.{append-nil, length-append}
 use Rattle.plan_terms.specs.Terms.{Demand, Edit, Entry, Edited, Pooled, Reply, CutLine, Case, graph_in, Joins, IsRight, Answered, edit_reply, version_after}
 use Rattle.demand_book.specs.declared.book.Book.{Book}
 use Rattle.metric_cut.specs.Cuts.{IsCutOf}

@@ -1,8 +1,6 @@
 -- right sides that follow an edit
-use Rattle.std.proofs.Common.{◌≡◌, ◌∙◌, ℕ, ◌+◌, ◌*◌, ◌≤◌, ◌<◌, ◌^◌, List, [], ◌∷◌, ◌++◌, All, Option, None, Some, length, map, get_or, take, drop, slice_get, slice_index_or, sum_by, unwrap_or, zip, suc, refl, sym, ap, subst, arith}
+use Rattle.std.proofs.Common.{◌≡◌, ◌∙◌, ℕ, ◌+◌, ◌*◌, ◌≤◌, ◌<◌, ◌^◌, List, [], ◌∷◌, ◌++◌, All, Option, None, Some, length, map, get_or, take, drop, slice_get, slice_index_or, sum_by, unwrap_or, zip, suc, refl, sym, ap, subst, arith, mul-le-mul_left, get_or-append-add, get_or-drop, length-take-le}
 use Rattle.net_core.proofs.Library.{∥∥₁_elim, props, get_or-map, length-map, same_lists, All-map, sum_by-cons, get_or_from_slice_get, slice_get_within}
-use Rattle.std.proofs.Math.Nat.{mul-le-mul_left}
-use Rattle.std.proofs.lemmas.List.{get_or-append-add, get_or-drop, length-take-le}
 use Rattle.plan_terms.specs.Terms.{Demand, AreDemands, IsDemand, Graph, Joins, IsRight, total_need, without, IsDistance}
 use Rattle.plan_terms.proofs.Lemmas.{distance_one}
 use Rattle.short_paths.specs.declared.distance_table.DistanceTable.{DistanceTable}

@@ -1,7 +1,6 @@
 -- the share of a name, and edits of it
-use Rattle.std.proofs.Common.{◌≡◌, ◌∙◌, ℕ, ◌^◌, Bool, true, false, cond, not, List, [], ◌∷◌, ◌++◌, get_or, sum_by, Option, None, Some, refl, sym, ap, arith, nat_lt, position}
+use Rattle.std.proofs.Common.{◌≡◌, ◌∙◌, ℕ, ◌^◌, Bool, true, false, cond, not, List, [], ◌∷◌, ◌++◌, get_or, sum_by, Option, None, Some, refl, sym, ap, arith, nat_lt, position, append-nil}
 use Rattle.net_core.proofs.Library.{cond-false, cond-true, cond_both, not_from_false, not_from_true, filter-append, sum_by-remove}
-use Rattle.std.proofs.lemmas.List.{append-nil}
 use Rattle.plan_terms.specs.Terms.{Demand, Edit, Add, Drop, Set, Reply, Accepted, TooMuch, UnknownDemand, AreDemands, are_same, Answered, add_fault, added, edit_reply, is_demand, next_version, node_of, set_need, total_need, within_total, without}
 use Rattle.metric_cut.specs.inner.Rights.{part_of}
 use Rattle.demand_book.proofs.Changed.{all_kept, alone, is_same, remove_is}

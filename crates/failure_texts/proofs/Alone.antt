@@ -1,8 +1,7 @@
 -- a case whose list of states is one link's failure, or none
 use Rattle.std.proofs.Common.{◌≡◌, ℕ, ◌≤◌, List, [], ◌∷◌, MatchOption, None, Option, Some, subst, arith}
-use Rattle.net_core.specs.declared.states.States.{States}
 use Rattle.failure_states.specs.declared.separations.Separation.{Separation}
-use Rattle.plan_terms.specs.Terms.{Demand, IsFirstSeparation, IsSurvivable, Link, Listed, Network, case, single_state}
+use Rattle.plan_terms.specs.Terms.{Demand, IsFirstSeparation, IsSurvivable, Link, Listed, Network, case, single_state, States}
 use Rattle.failure_texts.specs.Fates.{alone, with_states}
 
 -- what is said of the case of states holds for their list

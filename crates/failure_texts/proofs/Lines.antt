@@ -1,6 +1,5 @@
 -- comment lines of further elements
-use Rattle.std.proofs.Common.{ℕ, ◌+◌, ◌<◌, ◌≤◌, List, flat_map, get_or, length, sym, subst, take}
-use Rattle.std.proofs.lemmas.List.{take_all}
+use Rattle.std.proofs.Common.{ℕ, ◌+◌, ◌<◌, ◌≤◌, List, flat_map, get_or, length, sym, subst, take, take_all}
 use Rattle.text_kit.specs.Terms.{Item}
 use Rattle.comment_lines.specs.Comments.{AddsLines}
 use Rattle.comment_lines.proofs.Lines.{lines_then}

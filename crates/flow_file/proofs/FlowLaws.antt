@@ -1,7 +1,6 @@
 -- The reading of a file of flows takes exactly the texts of such files.
-use Rattle.std.proofs.Common.{◌≡◌, ◌≢◌, ℕ, ◌+◌, ◌^◌, ◌<◌, ◌≤◌, ◌==◌, ◌||◌, ◌⊎◌, Bool, true, false, nat_lt, inl, inr, ⊎_elim, List, [], ◌∷◌, ◌++◌, length, All, AllPairs, Option, None, Some, Result, Ok, Err, IfOk, IfErr, refl, sym, ap, subst, ◌∙◌, arith, flat_map, slice_get, codes}
+use Rattle.std.proofs.Common.{◌≡◌, ◌≢◌, ℕ, ◌+◌, ◌^◌, ◌<◌, ◌≤◌, ◌==◌, ◌||◌, ◌⊎◌, Bool, true, false, nat_lt, inl, inr, ⊎_elim, List, [], ◌∷◌, ◌++◌, length, All, AllPairs, Option, None, Some, Result, Ok, Err, IfOk, IfErr, refl, sym, ap, subst, ◌∙◌, arith, flat_map, slice_get, codes, eqb-true, eq-eqb, ltb-true, lt-ltb}
 use Rattle.net_core.proofs.Library.{∥∥₁_elim, props, cases_lt, get_or_from_slice_get, slice_get-get_or, slice_get_past, slice_get_within}
-use Rattle.std.proofs.lemmas.Bool.{eqb-true, eq-eqb, ltb-true, lt-ltb}
 use Rattle.plan_terms.specs.Terms.{IsLink, IsNetwork, Demand, LinkId, NodeId, Link, Places}
 use Rattle.snd_tokens.specs.Terms.{amount_of}
 use Rattle.path_split.specs.declared.arc.Arc.{Arc}

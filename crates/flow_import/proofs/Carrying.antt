@@ -1,6 +1,5 @@
 -- Splits whose links survive, within the capacities, carry the demands.
-use Rattle.std.proofs.Common.{◌≡◌, ℕ, zero, suc, ◌<◌, ◌≤◌, ◌==◌, ◌||◌, Bool, true, false, cond, List, [], ◌∷◌, length, map, get_or, refl, ap, subst, arith, All, filter}
-use Rattle.std.proofs.lemmas.Bool.{eq-eqb}
+use Rattle.std.proofs.Common.{◌≡◌, ℕ, zero, suc, ◌<◌, ◌≤◌, ◌==◌, ◌||◌, Bool, true, false, cond, List, [], ◌∷◌, length, map, get_or, refl, ap, subst, arith, All, filter, eq-eqb}
 use Rattle.net_core.proofs.Library.{All-head, All-tail, get_or-le-sum_by, slice_get-get_or, slice_get_within}
 use Rattle.plan_terms.specs.Terms.{Case, graph_in, Graph, HasEnds, Joins, Survives, names_link, Demand, LinkId, Link, Flow, Carries, IsFlow, load, IsPath, Leads}
 use Rattle.path_split.specs.declared.arc.PathFlow.{PathFlow}

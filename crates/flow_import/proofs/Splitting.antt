@@ -1,7 +1,6 @@
 -- One demand after another is split into flows along paths.
-use Rattle.std.proofs.Common.{◌≡◌, ◌≢◌, ℕ, ◌+◌, ◌<◌, ◌≤◌, ◌==◌, Bool, cond, List, [], ◌∷◌, ◌++◌, length, map, Some, slice_get, take, get_or, Result, Err, IfErr, refl, sym, ap, subst, ◌∙◌, arith, append-nil, ⊎_elim, All, filter}
+use Rattle.std.proofs.Common.{◌≡◌, ◌≢◌, ℕ, ◌+◌, ◌<◌, ◌≤◌, ◌==◌, Bool, cond, List, [], ◌∷◌, ◌++◌, length, map, Some, slice_get, take, get_or, Result, Err, IfErr, refl, sym, ap, subst, ◌∙◌, arith, append-nil, ⊎_elim, All, filter, eq-eqb, ne_eqb}
 use Rattle.net_core.proofs.Library.{cases_eq, length-map, map-append, take_more, All-append, All-filter, All-head, All-map, All-tail, All-weaker, filter-append, count_by-le-length, length-filter, slice_get_within}
-use Rattle.std.proofs.lemmas.Bool.{eq-eqb, ne_eqb}
 use Rattle.plan_terms.specs.Terms.{Case, Demand, Flow, NodeId, Link}
 use Rattle.path_split.specs.declared.arc.PathFlow.{PathFlow}
 use Rattle.path_split.specs.declared.arc.SplitFault.{SplitFault}

@@ -1,8 +1,7 @@
 -- routings that are counted carry the demands
-use Rattle.std.proofs.Common.{◌≡◌, ℕ, suc, ◌+◌, ◌≤◌, ◌<◌, ◌++◌, List, [], ◌∷◌, All, get_or, length, take, sym, subst, arith}
+use Rattle.std.proofs.Common.{◌≡◌, ℕ, suc, ◌+◌, ◌≤◌, ◌<◌, ◌++◌, List, [], ◌∷◌, All, get_or, length, take, sym, subst, arith, take_all}
 use Rattle.net_core.proofs.Library.{IsGcd, ◌∣◌, All-more, eq-one_of_dvd-one, take_more}
 use Rattle.net_core.proofs.Lists.{front_all}
-use Rattle.std.proofs.lemmas.List.{take_all}
 use Rattle.plan_terms.specs.Terms.{Flow, Routing}
 use Rattle.route_law.specs.Terms.{IsLowestRouting}
 

@@ -1,9 +1,6 @@
 -- what an optimum of the routing program answers
-use Rattle.std.proofs.Common.{◌≡◌, ℕ, zero, suc, ◌+◌, ◌*◌, ◌<◌, ◌≤◌, ◌^◌, List, [], ◌∷◌, All, Some, cond, eqb, get_or, length, map, slice_get, slice_index, ⊎_elim, refl, sym, ap, ◌∙◌, subst, arith}
+use Rattle.std.proofs.Common.{◌≡◌, ℕ, zero, suc, ◌+◌, ◌*◌, ◌<◌, ◌≤◌, ◌^◌, List, [], ◌∷◌, All, Some, cond, eqb, get_or, length, map, slice_get, slice_index, ⊎_elim, refl, sym, ap, ◌∙◌, subst, arith, pos, ◌*ℤ◌, ◌<ℤ◌, eq-eqb}
 use Rattle.net_core.proofs.Library.{◌∣◌, cases_eq, get_or-map, length-map, sum_by-cons, get_or_from_slice_get, slice_get_within, eq-one_of_dvd-one}
-use Rattle.std.proofs.Math.IntN.{pos, ◌*ℤ◌}
-use Rattle.std.specs.Int.Signed.{◌<ℤ◌}
-use Rattle.std.proofs.lemmas.Bool.{eq-eqb}
 use Rattle.checked_fraction.specs.Terms.{num, IsNarrow}
 use Rattle.plan_terms.specs.Terms.{RouteColumn, DemandSlack, Carry, Demand, Caps, Flow, Routing, Graph, Joins, Carries, IsFlow, sent, IsPath}
 use Rattle.greedy_router.specs.Left.{IsLeft}

@@ -1,7 +1,6 @@
 -- link prices of an optimum as lengths
-use Rattle.std.proofs.Common.{◌≡◌, ◌≢◌, ℕ, zero, suc, ◌*◌, ◌/◌, ◌<◌, ◌≤◌, ◌^◌, List, All, get_or, length, slice_index, refl, sym, ap, ◌∙◌, subst, arith}
+use Rattle.std.proofs.Common.{◌≡◌, ◌≢◌, ℕ, zero, suc, ◌*◌, ◌/◌, ◌<◌, ◌≤◌, ◌^◌, List, All, get_or, length, slice_index, refl, sym, ap, ◌∙◌, subst, arith, ℤ, pos}
 use Rattle.net_core.proofs.Library.{◌∣◌, get_or-map, length-map, slice_get_within, div-mul_cancel, mul-dvd-mul_right, dvd_of_mul-dvd-mul_right, eq-one_of_dvd-one, zero-dvd}
-use Rattle.std.proofs.Math.IntN.{ℤ, pos}
 use Rattle.checked_fraction.specs.Terms.{num}
 use Rattle.plan_terms.specs.Terms.{RouteColumn, Length, LinkId, RouteTask, Graph, graph_of, IsGreatestDivisor, AreZero}
 use Rattle.simplex_core.specs.declared.optimum.Optimum.{Optimum}

@@ -1,7 +1,6 @@
 -- flows over a common divisor of their numerators
-use Rattle.std.proofs.Common.{◌≡◌, ℕ, zero, suc, ◌+◌, ◌*◌, ◌/◌, ◌<◌, ◌≤◌, ◌++◌, List, [], ◌∷◌, All, length, get_or, map, take, slice_set, refl, sym, ap, ◌∙◌, subst, arith}
+use Rattle.std.proofs.Common.{◌≡◌, ℕ, zero, suc, ◌+◌, ◌*◌, ◌/◌, ◌<◌, ◌≤◌, ◌++◌, List, [], ◌∷◌, All, length, get_or, map, take, slice_set, refl, sym, ap, ◌∙◌, subst, arith, get_or-set_other, length-set, take_all}
 use Rattle.net_core.proofs.Library.{IsGcd, ◌∣◌, take_more, take_more_set, get_or_default, dvd_trans, div-mul_cancel, mul-dvd-mul_left, dvd_of_mul-dvd-mul_left, eq-one_of_dvd-one, All-push, All-cons}
-use Rattle.std.proofs.lemmas.List.{get_or-set_other, length-set, take_all}
 use Rattle.plan_terms.specs.Terms.{Flow}
 use Rattle.route_law.specs.Terms.{flow_times}
 use Rattle.flow_router.specs.inner.Lowest.{IsCommonDivisor, IsInLowest}

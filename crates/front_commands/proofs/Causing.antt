@@ -1,7 +1,5 @@
 -- how what one step comes to is what the run comes to
-use Rattle.std.proofs.Common.{◌≡◌, ◌∙◌, ℕ, List, [], Option, Result, Ok, Err, String, inr, subst, sym}
-use Rattle.std.specs.Prelude.{◌≢◌, MatchResult}
-use Rattle.std.specs.Global.{Global}
+use Rattle.std.proofs.Common.{◌≡◌, ◌∙◌, ℕ, List, [], Option, Result, Ok, Err, String, inr, subst, sym, ◌≢◌, MatchResult, Global}
 use Rattle.outside_io.specs.Outside.{Files}
 use Rattle.check_answers.specs.declared.status.Status.{Status}
 use Rattle.check_answers.specs.declared.status.Status.TheVariants.{Done, ReadFault}

@@ -1,6 +1,5 @@
 -- a sink that takes nothing
-use Rattle.std.proofs.Common.{ℕ, List, [], Option, None, Some, refl, ap, sym}
-use Rattle.std.proofs.lemmas.List.{append-nil}
+use Rattle.std.proofs.Common.{ℕ, List, [], Option, None, Some, refl, ap, sym, append-nil}
 use Rattle.outside_io.specs.Outside.{Takes}
 
 -- what a sink has taken, with nothing more

@@ -1,6 +1,5 @@
 -- a plan that comes to no text, or to one
-use Rattle.std.proofs.Common.{◌≡◌, ◌∙◌, ◌≤◌, ℕ, Bool, List, [], Option, None, Some, inl, inr, sym}
-use Rattle.std.specs.Prelude.{◌≢◌, IfSome}
+use Rattle.std.proofs.Common.{◌≡◌, ◌∙◌, ◌≤◌, ℕ, Bool, List, [], Option, None, Some, inl, inr, sym, ◌≢◌, IfSome}
 use Rattle.std.specs.Option.{option_map_or}
 use Rattle.plan_terms.specs.Terms.{Case, Notes}
 use Rattle.check_answers.specs.declared.status.Status.{Status}

@@ -1,6 +1,5 @@
 -- how what one step comes to is what the run comes to
-use Rattle.std.proofs.Common.{◌≡◌, ◌∙◌, ℕ, List, [], Result, Ok, Err, subst, sym}
-use Rattle.std.specs.Prelude.{IfOk, MatchResult}
+use Rattle.std.proofs.Common.{◌≡◌, ◌∙◌, ℕ, List, [], Result, Ok, Err, subst, sym, IfOk, MatchResult}
 use Rattle.check_answers.specs.declared.status.Status.{Status}
 use Rattle.check_answers.specs.declared.status.Status.TheVariants.{Done, ReadFault}
 use Rattle.front_files.specs.Endings.{Halts, HasFrontCause, halt_status}

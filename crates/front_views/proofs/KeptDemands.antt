@@ -1,6 +1,5 @@
 -- the demands that a journal leaves belong to the network
-use Rattle.std.proofs.Common.{◌≡◌, ◌≢◌, ◌<◌, ◌^◌, ◌&&◌, ℕ, Bool, true, false, cond, not, List, [], ◌∷◌, ◌++◌, Option, None, Some, All, refl, sym, ap, ◌∙◌, arith, get_or, is_some, leb-false, length, nat_le, nat_lt, position, take, unwrap_or}
-use Rattle.std.proofs.lemmas.Bool.{ltb-true}
+use Rattle.std.proofs.Common.{◌≡◌, ◌≢◌, ◌<◌, ◌^◌, ◌&&◌, ℕ, Bool, true, false, cond, not, List, [], ◌∷◌, ◌++◌, Option, None, Some, All, refl, sym, ap, ◌∙◌, arith, get_or, is_some, leb-false, length, nat_le, nat_lt, position, take, unwrap_or, ltb-true}
 use Rattle.std.proofs.lemmas.List.Filters.{length-filter_both, sum_by-filter_both}
 use Rattle.net_core.proofs.Checks.{same_is}
 use Rattle.net_core.proofs.Library.{All-filter, All-head, All-tail, All-take, AllPairs-filter, cond_both, false≢true, position-Some}

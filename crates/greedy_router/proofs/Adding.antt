@@ -1,8 +1,6 @@
 -- flows of one demand are added to a routing
-use Rattle.std.proofs.Common.{◌≡◌, ℕ, ◌+◌, ◌*◌, ◌<◌, ◌≤◌, ◌==◌, ◌⊎◌, ◌++◌, All, Some, if◌then◌else◌, List, [], ◌∷◌, get_or, length, length-append, map, slice_get, take, ⊎_elim, refl, sym, ap, subst, ◌∙◌, arith}
-use Rattle.std.proofs.lemmas.List.{append_assoc, append-nil}
+use Rattle.std.proofs.Common.{◌≡◌, ℕ, ◌+◌, ◌*◌, ◌<◌, ◌≤◌, ◌==◌, ◌⊎◌, ◌++◌, All, Some, if◌then◌else◌, List, [], ◌∷◌, get_or, length, length-append, map, slice_get, take, ⊎_elim, refl, sym, ap, subst, ◌∙◌, arith, append_assoc, append-nil, IsPermutation}
 use Rattle.net_core.proofs.Library.{get_or-map, length-map, All-append, All-contains, All-more, All-nil, All-push, All-weaker, range_with_len, get_or-range_with_len, length-range_with_len, All-permutation, IsPermutation-sym, sum_by-append, sum_by_push, get_or_from_slice_get, slice_get_within}
-use Rattle.std.specs.List.Sorted.{IsPermutation}
 use Rattle.plan_terms.specs.Terms.{Demand, LinkId, Flow, names_link, IsFlow, load, sent, IsPath}
 use Rattle.greedy_router.specs.Blocked.{HasSpare, IsBlocked}
 use Rattle.greedy_router.specs.Left.{IsLeft}

@@ -1,6 +1,5 @@
 -- a flow that takes along its path what is left there
-use Rattle.std.proofs.Common.{◌≡◌, ℕ, ◌+◌, ◌<◌, ◌⊎◌, inl, inr, ◌++◌, ◌∷◌, [], List, All, Any, cond, eqb, true, length, get_or, ⊎_elim, refl, sym, ap, subst, arith}
-use Rattle.std.proofs.lemmas.Bool.{eq-eqb}
+use Rattle.std.proofs.Common.{◌≡◌, ℕ, ◌+◌, ◌<◌, ◌⊎◌, inl, inr, ◌++◌, ◌∷◌, [], List, All, Any, cond, eqb, true, length, get_or, ⊎_elim, refl, sym, ap, subst, arith, eq-eqb}
 use Rattle.net_core.proofs.Library.{list_any_at}
 use Rattle.plan_terms.specs.Terms.{names_link, LinkId, Flow}
 use Rattle.greedy_router.specs.declared.draft.Draft.{Draft}

@@ -1,6 +1,5 @@
 -- on a path no link appears twice
-use Rattle.std.proofs.Common.{◌≡◌, ◌≢◌, ℕ, zero, suc, ◌<◌, true, eqb, List, [], ◌∷◌, get_or, length, sym, ◌∙◌, arith, AllPairs}
-use Rattle.std.proofs.lemmas.Bool.{eq-eqb}
+use Rattle.std.proofs.Common.{◌≡◌, ◌≢◌, ℕ, zero, suc, ◌<◌, true, eqb, List, [], ◌∷◌, get_or, length, sym, ◌∙◌, arith, AllPairs, eq-eqb}
 use Rattle.net_core.proofs.Library.{false≢true, list_any_at}
 use Rattle.plan_terms.specs.Terms.{LinkId, Graph, Joins, names_link, IsPath}
 use Rattle.plan_terms.proofs.Lemmas.{DistinctLinks, path_links_differ}

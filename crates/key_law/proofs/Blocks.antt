@@ -1,7 +1,6 @@
 -- rows of the block and rows of the whole basis
-use Rattle.std.proofs.Common.{◌≡◌, ℕ, ◌<◌, ◌+◌, ◌-◌, sym, ap, ◌∙◌, arith, ⊎_elim, subst}
+use Rattle.std.proofs.Common.{◌≡◌, ℕ, ◌<◌, ◌+◌, ◌-◌, sym, ap, ◌∙◌, arith, ⊎_elim, subst, ℤ, pos, ◌+ℤ◌, ◌-ℤ◌, ◌*ℤ◌}
 use Rattle.net_core.proofs.Library.{cases_lt, *ℤ_comm, ints}
-use Rattle.std.proofs.Math.IntN.{ℤ, pos, ◌+ℤ◌, ◌-ℤ◌, ◌*ℤ◌}
 use Rattle.simplex_law.specs.Terms.{int_sum, dot, unit_vector, ColumnOf, IsRow}
 use Rattle.simplex_law.proofs.Lemmas.{minus_left, sum-same, sum-unit, dot-none-column}
 use Rattle.key_law.specs.Keys.{difference, IsSpread, AreRoles, AreKeys, IsBlockRow, key, key_part}

@@ -1,7 +1,5 @@
 -- the rows of all roles as the ratio test compares them, and the pick that it makes
-use Rattle.std.proofs.Common.{◌≡◌, ℕ, ◌<◌, ◌≤◌, ◌+◌, ◌-◌, Bool, true, false, refl, sym, ap, arith, cond}
-use Rattle.std.proofs.Math.IntN.{ℤ, pos, ◌*ℤ◌}
-use Rattle.std.specs.Int.Signed.{◌<ℤ◌}
+use Rattle.std.proofs.Common.{◌≡◌, ℕ, ◌<◌, ◌≤◌, ◌+◌, ◌-◌, Bool, true, false, refl, sym, ap, arith, cond, ℤ, pos, ◌*ℤ◌, ◌<ℤ◌}
 use Rattle.simplex_law.specs.Terms.{dot, unit_vector, ColumnOf}
 use Rattle.key_law.specs.Keys.{key_part, left_column}
 use Rattle.key_law.specs.KeyRows.{full_kept, full_key, key_nums, key_dot}

@@ -1,6 +1,5 @@
 -- what a new key changes of products and values
-use Rattle.std.proofs.Common.{◌≡◌, ◌≢◌, ℕ, ◌<◌, ◌+◌, refl, sym, ap, ◌∙◌, arith}
-use Rattle.std.proofs.Math.IntN.{ℤ, pos, ◌-ℤ◌, ◌*ℤ◌}
+use Rattle.std.proofs.Common.{◌≡◌, ◌≢◌, ℕ, ◌<◌, ◌+◌, refl, sym, ap, ◌∙◌, arith, ℤ, pos, ◌-ℤ◌, ◌*ℤ◌}
 use Rattle.net_core.proofs.Library.{*ℤ-zero, ints}
 use Rattle.simplex_law.specs.Terms.{int_sum, dot, unit_vector, ColumnOf}
 use Rattle.simplex_law.proofs.Lemmas.{minus_left, moved_out, sum-same, sum-minus, sum-times, sum-one, dot-same, unit-other}

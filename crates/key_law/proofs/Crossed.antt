@@ -1,8 +1,6 @@
 -- cross products compare as those of numbers in proportion to theirs do
-use Rattle.std.proofs.Common.{◌≡◌, sym, ap, ◌∙◌, subst}
-use Rattle.std.proofs.Math.IntN.{ℤ, pos, ◌*ℤ◌}
+use Rattle.std.proofs.Common.{◌≡◌, sym, ap, ◌∙◌, subst, ℤ, pos, ◌*ℤ◌, ◌<ℤ◌}
 use Rattle.net_core.proofs.Library.{*ℤ_comm}
-use Rattle.std.specs.Int.Signed.{◌<ℤ◌}
 use Rattle.simplex_law.proofs.Lemmas.{moved_out, times_less, lt_cancel}
 use Rattle.checked_fraction.proofs.Products.{regroup, positive_product, cancelled}
 

@@ -1,9 +1,6 @@
 -- the start at the slacks, and the values at the end
-use Rattle.std.proofs.Common.{◌≡◌, ℕ, ◌<◌, ◌+◌, ◌-◌, refl, sym, ap, ◌∙◌, arith, cond, ltb, ⊎_elim, subst}
+use Rattle.std.proofs.Common.{◌≡◌, ℕ, ◌<◌, ◌+◌, ◌-◌, refl, sym, ap, ◌∙◌, arith, cond, ltb, ⊎_elim, subst, lt-ltb, le-ltb, ℤ, pos, ◌*ℤ◌, ◌<ℤ◌, ◌≤ℤ◌}
 use Rattle.net_core.proofs.Library.{cases_lt, cases_eq, ints, eq-one_of_dvd-one}
-use Rattle.std.proofs.lemmas.Bool.{lt-ltb, le-ltb}
-use Rattle.std.proofs.Math.IntN.{ℤ, pos, ◌*ℤ◌}
-use Rattle.std.specs.Int.Signed.{◌<ℤ◌, ◌≤ℤ◌}
 use Rattle.checked_fraction.specs.Terms.{IsInLowestTerms}
 use Rattle.simplex_law.specs.Terms.{dot, unit_vector, ColumnOf, slack_basis, Gains, IsOptimum, IsTableau}
 use Rattle.simplex_law.proofs.Lemmas.{swap_last, dot-same, unit-same, unit-other, started, optimum}

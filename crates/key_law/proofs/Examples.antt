@@ -1,7 +1,5 @@
 -- a triangle worked out by hand: links 0 and 1 from one end of a demand to the other over a third node, and link 2 straight
-use Rattle.std.proofs.Common.{◌≡◌, ◌≢◌, ℕ, zero, suc, ◌<◌, ◌+◌, refl, arith, inl, inr, cond, eqb}
-use Rattle.std.proofs.Math.IntN.{ℤ, pos, negsuc, ◌-ℤ◌, ◌*ℤ◌}
-use Rattle.std.specs.Int.Signed.{◌≤ℤ◌}
+use Rattle.std.proofs.Common.{◌≡◌, ◌≢◌, ℕ, zero, suc, ◌<◌, ◌+◌, refl, arith, inl, inr, cond, eqb, ℤ, pos, negsuc, ◌-ℤ◌, ◌*ℤ◌, ◌≤ℤ◌}
 use Rattle.net_core.proofs.Library.{ints, eq-one_of_dvd-one}
 use Rattle.checked_fraction.specs.Terms.{IsReduced}
 use Rattle.simplex_law.specs.Terms.{dot, unit_vector, put, ColumnOf, slack_basis}

@@ -1,9 +1,6 @@
 -- a key and a column of its demand change roles: the basis stays
-use Rattle.std.proofs.Common.{◌≡◌, ◌≢◌, ℕ, ◌<◌, ◌+◌, refl, sym, ap, ◌∙◌, arith, cond, eqb, ⊎_elim, subst, unsigned_abs}
+use Rattle.std.proofs.Common.{◌≡◌, ◌≢◌, ℕ, ◌<◌, ◌+◌, refl, sym, ap, ◌∙◌, arith, cond, eqb, ⊎_elim, subst, unsigned_abs, eq-eqb, ne_eqb, ℤ, pos, ◌<ℤ◌}
 use Rattle.net_core.proofs.Library.{cases_eq, ◌∣◌}
-use Rattle.std.proofs.lemmas.Bool.{eq-eqb, ne_eqb}
-use Rattle.std.proofs.Math.IntN.{ℤ, pos}
-use Rattle.std.specs.Int.Signed.{◌<ℤ◌}
 use Rattle.checked_fraction.specs.Terms.{IsInLowestTerms}
 use Rattle.simplex_law.specs.Terms.{unit_vector, ColumnOf, IsRow}
 use Rattle.simplex_law.proofs.Lemmas.{dot-same, multiple, reduced_row}

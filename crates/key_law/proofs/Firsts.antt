@@ -1,8 +1,6 @@
 -- of two roles, the one whose values, link entries and roles come first has the row that comes no later
-use Rattle.std.proofs.Common.{◌≡◌, ℕ, ◌<◌, ◌+◌, ◌-◌, sym, ap, ◌∙◌, arith, inl, ⊎_elim, subst}
+use Rattle.std.proofs.Common.{◌≡◌, ℕ, ◌<◌, ◌+◌, ◌-◌, sym, ap, ◌∙◌, arith, inl, ⊎_elim, subst, ℤ, pos, ◌*ℤ◌, ◌<ℤ◌, ◌≤ℤ◌}
 use Rattle.net_core.proofs.Library.{cases_lt, cases_eq, ints}
-use Rattle.std.proofs.Math.IntN.{ℤ, pos, ◌*ℤ◌}
-use Rattle.std.specs.Int.Signed.{◌<ℤ◌, ◌≤ℤ◌}
 use Rattle.simplex_law.specs.Terms.{dot, unit_vector, IsNoLater}
 use Rattle.simplex_law.proofs.Lemmas.{unit-same, unit-other, over}
 use Rattle.key_law.specs.Ties.{IsRoleFirst, ComesFirst, IsRoleRow}

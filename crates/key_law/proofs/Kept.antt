@@ -1,7 +1,6 @@
 -- the rows of the whole inverse, from those of the block
-use Rattle.std.proofs.Common.{◌≡◌, ◌≢◌, ℕ, ◌<◌, ◌+◌, sym, ap, ◌∙◌, arith, ⊎_elim, subst}
+use Rattle.std.proofs.Common.{◌≡◌, ◌≢◌, ℕ, ◌<◌, ◌+◌, sym, ap, ◌∙◌, arith, ⊎_elim, subst, ℤ, pos, ◌+ℤ◌, ◌-ℤ◌, ◌*ℤ◌}
 use Rattle.net_core.proofs.Library.{cases_eq, *ℤ_comm, *ℤ-zero, zero-*ℤ, ints}
-use Rattle.std.proofs.Math.IntN.{ℤ, pos, ◌+ℤ◌, ◌-ℤ◌, ◌*ℤ◌}
 use Rattle.simplex_law.specs.Terms.{int_sum, dot, unit_vector, ColumnOf, IsRow}
 use Rattle.simplex_law.proofs.Lemmas.{minus_left, distribute_minus, sum-same, sum-none, sum-unit, sum-one, sum-minus, unit-same, unit-other, priced}
 use Rattle.key_law.specs.Keys.{left_target, IsSpread, AreRoles, AreKeys, IsBlockRow, key, key_part, left_column, block}

@@ -1,6 +1,5 @@
 -- a key leaves that has other basic columns of its demand, and what the products are then
-use Rattle.std.proofs.Common.{◌≡◌, ◌≢◌, ℕ, ◌<◌, ◌+◌, refl, sym, ap, ◌∙◌, subst}
-use Rattle.std.proofs.Math.IntN.{ℤ, ◌-ℤ◌, ◌*ℤ◌}
+use Rattle.std.proofs.Common.{◌≡◌, ◌≢◌, ℕ, ◌<◌, ◌+◌, refl, sym, ap, ◌∙◌, subst, ℤ, ◌-ℤ◌, ◌*ℤ◌}
 use Rattle.simplex_law.specs.Terms.{dot, put, ColumnOf, IsPick}
 use Rattle.simplex_law.proofs.Lemmas.{pick_again, dot-same, row_unique}
 use Rattle.key_law.proofs.Kept.{prices_row}

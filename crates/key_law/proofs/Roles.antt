@@ -1,9 +1,6 @@
 -- rows by their roles make a tableau, and a pick over the roles is a pick over its rows
-use Rattle.std.proofs.Common.{◌≡◌, ℕ, ◌<◌, ◌≤◌, ◌+◌, ◌-◌, sym, ap, arith, cond, ltb, ⊎_elim, subst}
+use Rattle.std.proofs.Common.{◌≡◌, ℕ, ◌<◌, ◌≤◌, ◌+◌, ◌-◌, sym, ap, arith, cond, ltb, ⊎_elim, subst, lt-ltb, le-ltb, ℤ, pos, ◌*ℤ◌, ◌<ℤ◌}
 use Rattle.net_core.proofs.Library.{cases_lt}
-use Rattle.std.proofs.lemmas.Bool.{lt-ltb, le-ltb}
-use Rattle.std.proofs.Math.IntN.{ℤ, pos, ◌*ℤ◌}
-use Rattle.std.specs.Int.Signed.{◌<ℤ◌}
 use Rattle.simplex_law.specs.Terms.{unit_vector, ColumnOf, IsRow, IsTableau}
 use Rattle.simplex_law.proofs.Lemmas.{same_tableau, weights}
 use Rattle.key_law.specs.Kept.{IsKept}

@@ -1,6 +1,5 @@
 -- among rows of the block the kept rows decide: they are ordered by their values and link entries as whole rows are
-use Rattle.std.proofs.Common.{◌≡◌, ℕ, zero, suc, ◌<◌, ◌+◌, sym, ap, ◌∙◌, arith, subst}
-use Rattle.std.proofs.Math.IntN.{ℤ, pos, ◌-ℤ◌, ◌*ℤ◌}
+use Rattle.std.proofs.Common.{◌≡◌, ℕ, zero, suc, ◌<◌, ◌+◌, sym, ap, ◌∙◌, arith, subst, ℤ, pos, ◌-ℤ◌, ◌*ℤ◌}
 use Rattle.net_core.proofs.Library.{*ℤ-zero, ints}
 use Rattle.checked_fraction.specs.Terms.{combined}
 use Rattle.simplex_law.specs.Terms.{dot, ColumnOf, IsLexNonneg, valued, IsNoLater}

@@ -1,9 +1,7 @@
 -- the product of a spread row with a column, and its lowest terms
-use Rattle.std.proofs.Common.{◌≡◌, ℕ, ◌<◌, ◌+◌, ◌-◌, refl, sym, ap, ◌∙◌, arith, cond, subst, unsigned_abs}
+use Rattle.std.proofs.Common.{◌≡◌, ℕ, ◌<◌, ◌+◌, ◌-◌, refl, sym, ap, ◌∙◌, arith, cond, subst, unsigned_abs, lt-ltb, le-ltb, ℤ, ◌+ℤ◌, ◌-ℤ◌, ◌*ℤ◌}
 use Rattle.net_core.proofs.Library.{◌∣◌, *ℤ_comm, ints}
 use Rattle.checked_fraction.specs.Terms.{IsInLowestTerms}
-use Rattle.std.proofs.lemmas.Bool.{lt-ltb, le-ltb}
-use Rattle.std.proofs.Math.IntN.{ℤ, ◌+ℤ◌, ◌-ℤ◌, ◌*ℤ◌}
 use Rattle.simplex_law.specs.Terms.{int_sum, dot, unit_vector}
 use Rattle.simplex_law.proofs.Lemmas.{distribute_minus, minus_left, sum-split, sum-minus, sum-times, sum-same, dot-same, sum-unit, priced}
 use Rattle.key_law.specs.Keys.{difference, IsSpread, spread}

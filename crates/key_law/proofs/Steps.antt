@@ -1,6 +1,5 @@
 -- a turn is a step of the whole basis: the next one is reached, and less is left over
-use Rattle.std.proofs.Common.{ℕ, ◌<◌, ◌+◌}
-use Rattle.std.proofs.Math.IntN.{ℤ}
+use Rattle.std.proofs.Common.{ℕ, ◌<◌, ◌+◌, ℤ}
 use Rattle.checked_fraction.specs.Terms.{IsNarrow}
 use Rattle.simplex_law.specs.Terms.{put, ColumnOf, IsReached, AreNarrowDuals, left_over, IsPick}
 use Rattle.simplex_law.proofs.Lemmas.{left_over_falls, Rises, turn_reached, rises_to}

@@ -1,8 +1,6 @@
 -- the order of the ratio test by values, by link entries, and by what the keys take
-use Rattle.std.proofs.Common.{◌≡◌, ℕ, zero, suc, ◌<◌, ◌≤◌, ◌+◌, ◌-◌, sym, ap, ◌∙◌, arith, inr, ⊎_elim, subst}
+use Rattle.std.proofs.Common.{◌≡◌, ℕ, zero, suc, ◌<◌, ◌≤◌, ◌+◌, ◌-◌, sym, ap, ◌∙◌, arith, inr, ⊎_elim, subst, ℤ, pos, ◌-ℤ◌, ◌*ℤ◌, ◌<ℤ◌, ◌≤ℤ◌}
 use Rattle.net_core.proofs.Library.{cases_lt, *ℤ_comm, *ℤ-zero, ints}
-use Rattle.std.proofs.Math.IntN.{ℤ, pos, ◌-ℤ◌, ◌*ℤ◌}
-use Rattle.std.specs.Int.Signed.{◌<ℤ◌, ◌≤ℤ◌}
 use Rattle.checked_fraction.specs.Terms.{combined}
 use Rattle.simplex_law.specs.Terms.{dot, unit_vector, valued, IsNoLater}
 use Rattle.simplex_law.proofs.Lemmas.{distribute_minus, minus_left, times_nonneg, dot-none, unit-same, unit-other, dot-combined, lex_at, lex_rest, gone, over}

@@ -1,9 +1,6 @@
 -- turns keep what is kept
-use Rattle.std.proofs.Common.{◌≡◌, ◌≢◌, ℕ, ◌<◌, ◌+◌, ◌-◌, refl, sym, ap, ◌∙◌, arith, cond, ⊎_elim, subst}
+use Rattle.std.proofs.Common.{◌≡◌, ◌≢◌, ℕ, ◌<◌, ◌+◌, ◌-◌, refl, sym, ap, ◌∙◌, arith, cond, ⊎_elim, subst, lt-ltb, eq-eqb, ne_eqb, ℤ, pos, ◌-ℤ◌, ◌*ℤ◌, ◌<ℤ◌}
 use Rattle.net_core.proofs.Library.{cases_eq, zero-*ℤ}
-use Rattle.std.proofs.lemmas.Bool.{lt-ltb, eq-eqb, ne_eqb}
-use Rattle.std.proofs.Math.IntN.{ℤ, pos, ◌-ℤ◌, ◌*ℤ◌}
-use Rattle.std.specs.Int.Signed.{◌<ℤ◌}
 use Rattle.checked_fraction.specs.Terms.{IsInLowestTerms, combined}
 use Rattle.simplex_law.specs.Terms.{int_sum, dot, unit_vector, put, ColumnOf, IsRow, IsTableau, HasTableau, IsPick}
 use Rattle.simplex_law.proofs.Lemmas.{sum-same, dot-same, multiple, reduced_row, first_row, other_row, objective_row, turned_raw}

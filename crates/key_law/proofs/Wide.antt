@@ -1,9 +1,6 @@
 -- where a kept number is too wide, a kind holds of the whole basis
-use Rattle.std.proofs.Common.{◌≡◌, ◌≢◌, ℕ, ◌<◌, ◌≤◌, ◌+◌, ◌^◌, refl, sym, ap, ◌∙◌, arith, inl, inr, cond, ⊎_elim, subst, unsigned_abs}
-use Rattle.std.proofs.lemmas.Bool.{eq-eqb, ne_eqb}
+use Rattle.std.proofs.Common.{◌≡◌, ◌≢◌, ℕ, ◌<◌, ◌≤◌, ◌+◌, ◌^◌, refl, sym, ap, ◌∙◌, arith, inl, inr, cond, ⊎_elim, subst, unsigned_abs, eq-eqb, ne_eqb, ℤ, pos, ◌-ℤ◌, ◌*ℤ◌, ◌<ℤ◌}
 use Rattle.std.proofs.lemmas.Nat.Gcd.{le_of_dvd}
-use Rattle.std.proofs.Math.IntN.{ℤ, pos, ◌-ℤ◌, ◌*ℤ◌}
-use Rattle.std.specs.Int.Signed.{◌<ℤ◌}
 use Rattle.net_core.proofs.Library.{◌∣◌, ints}
 use Rattle.checked_fraction.specs.Terms.{IsInLowestTerms, IsNarrow, combined, IsTooWide, IsFirstWide}
 use Rattle.checked_fraction.specs.declared.wide.WideNumber.{WideNumber}

@@ -1,8 +1,6 @@
 -- a best basis with keys as an answer
-use Rattle.std.proofs.Common.{◌≡◌, ℕ, ℤ, List, Some, Result, Ok, Err, length, length-append, get_or, pos, unsigned_abs, ◌<◌, ◌+◌, ◌-◌, ◌^◌, refl, sym, ap, ◌∙◌, subst, arith, ⊎_elim}
-use Rattle.std.proofs.Math.IntN.{◌*ℤ◌}
+use Rattle.std.proofs.Common.{◌≡◌, ℕ, ℤ, List, Some, Result, Ok, Err, length, length-append, get_or, pos, unsigned_abs, ◌<◌, ◌+◌, ◌-◌, ◌^◌, refl, sym, ap, ◌∙◌, subst, arith, ⊎_elim, ◌*ℤ◌, ◌<ℤ◌, ◌≤ℤ◌}
 use Rattle.net_core.proofs.Library.{◌∣◌, cases_lt, get_or_append_left, get_or-append_right, slice_get-get_or}
-use Rattle.std.specs.Int.Signed.{◌<ℤ◌, ◌≤ℤ◌}
 use Rattle.checked_fraction.specs.Terms.{num}
 use Rattle.plan_terms.specs.Terms.{RouteColumn, LinkSlack, DemandSlack, WideKind, Number, Row as RowOf, Product, Sum, Common, Value, Length, Demand, Graph}
 use Rattle.simplex_law.specs.Terms.{ColumnOf, IsPacking, slack_basis, AreNames, IsReached, HoldsKind, IsReachedEvidence, IsOptimum}

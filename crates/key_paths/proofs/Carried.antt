@@ -1,7 +1,5 @@
 -- what paths cost, and paths that are collected demand by demand
-use Rattle.std.proofs.Common.{◌≡◌, ◌-◌, ℕ, None, Option, MatchOption, zero, suc, ◌<◌, ◌≤◌, ◌+◌, ◌++◌, List, [], ◌∷◌, All, Some, length, length-append, remove, slice_get, slice_index, inl, inr, ⊎_elim, refl, sym, ap, ◌∙◌, subst, arith}
-use Rattle.std.proofs.Math.IntN.{ℤ, pos, ◌+ℤ◌, ◌-ℤ◌}
-use Rattle.std.specs.Int.Signed.{◌<ℤ◌, ◌≤ℤ◌}
+use Rattle.std.proofs.Common.{◌≡◌, ◌-◌, ℕ, None, Option, MatchOption, zero, suc, ◌<◌, ◌≤◌, ◌+◌, ◌++◌, List, [], ◌∷◌, All, Some, length, length-append, remove, slice_get, slice_index, inl, inr, ⊎_elim, refl, sym, ap, ◌∙◌, subst, arith, ℤ, pos, ◌+ℤ◌, ◌-ℤ◌, ◌<ℤ◌, ◌≤ℤ◌}
 use Rattle.net_core.proofs.Library.{AllByRecursion, cases_eq, ints, get_or_from_slice_get, slice_get_within, All-push}
 use Rattle.checked_fraction.specs.Terms.{num}
 use Rattle.plan_terms.specs.Terms.{LinkSlack, DemandSlack, Carry, Demand, LinkId, AreDemands, IsDemand, Graph, Joins, IsNetwork, IsPath, length_of}

@@ -1,8 +1,6 @@
 -- what columns cost at the prices of a basis with keys
-use Rattle.std.proofs.Common.{◌≡◌, ℕ, List, [], length, ◌+◌, refl, sym, ap, ◌∙◌, arith}
-use Rattle.std.proofs.Math.IntN.{ℤ, pos, ◌+ℤ◌, ◌-ℤ◌, ◌*ℤ◌}
+use Rattle.std.proofs.Common.{◌≡◌, ℕ, List, [], length, ◌+◌, refl, sym, ap, ◌∙◌, arith, ℤ, pos, ◌+ℤ◌, ◌-ℤ◌, ◌*ℤ◌, ◌<ℤ◌, ◌≤ℤ◌}
 use Rattle.net_core.proofs.Library.{*ℤ-zero, ints}
-use Rattle.std.specs.Int.Signed.{◌<ℤ◌, ◌≤ℤ◌}
 use Rattle.checked_fraction.specs.Terms.{num}
 use Rattle.plan_terms.specs.Terms.{RouteColumn, LinkSlack, DemandSlack, Carry, Demand, Graph}
 use Rattle.simplex_law.specs.Terms.{int_sum, dot, unit_vector, ColumnOf, Gains}

@@ -1,9 +1,6 @@
 -- another column of its demand becomes key
-use Rattle.std.proofs.Common.{◌≡◌, ◌≢◌, ℕ, List, true, false, pos, length, get_or, slice_get, slice_set, cond, eqb, ◌<◌, ◌+◌, ◌^◌, refl, sym, ap, ◌∙◌, subst, arith, ⊎_elim, unsigned_abs, length-set}
-use Rattle.std.proofs.Math.IntN.{ℤ, ◌+ℤ◌, ◌-ℤ◌, ◌*ℤ◌}
-use Rattle.std.specs.Int.Signed.{◌≤ℤ◌}
+use Rattle.std.proofs.Common.{◌≡◌, ◌≢◌, ℕ, List, true, false, pos, length, get_or, slice_get, slice_set, cond, eqb, ◌<◌, ◌+◌, ◌^◌, refl, sym, ap, ◌∙◌, subst, arith, ⊎_elim, unsigned_abs, length-set, ℤ, ◌+ℤ◌, ◌-ℤ◌, ◌*ℤ◌, ◌≤ℤ◌, get_or-set_same, get_or-set_other}
 use Rattle.net_core.proofs.Library.{cases_eq, cases_lt, ints, get_or_past}
-use Rattle.std.proofs.lemmas.List.{get_or-set_same, get_or-set_other}
 use Rattle.checked_fraction.specs.Terms.{num, IsNarrow, IsReduced}
 use Rattle.plan_terms.specs.Terms.{RouteColumn}
 use Rattle.simplex_law.specs.Terms.{dot, unit_vector, ColumnOf, IsPick}

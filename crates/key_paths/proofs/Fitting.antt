@@ -1,9 +1,6 @@
 -- the values of a basis with keys, over a common denominator of its rows
-use Rattle.std.proofs.Common.{◌≡◌, ℕ, ℤ, List, length, get_or, slice_set, cond, ltb, pos, unsigned_abs, ◌<◌, ◌+◌, ◌-◌, ◌*◌, ◌/◌, ◌^◌, ◌-ℤ◌, ◌*ℤ◌, sym, ap, ◌∙◌, subst, arith, ⊎_elim}
-use Rattle.std.specs.Int.Signed.{◌<ℤ◌, ◌≤ℤ◌}
+use Rattle.std.proofs.Common.{◌≡◌, ℕ, ℤ, List, length, get_or, slice_set, cond, ltb, pos, unsigned_abs, ◌<◌, ◌+◌, ◌-◌, ◌*◌, ◌/◌, ◌^◌, ◌-ℤ◌, ◌*ℤ◌, sym, ap, ◌∙◌, subst, arith, ⊎_elim, ◌<ℤ◌, ◌≤ℤ◌, lt-ltb, le-ltb, get_or-set_same, get_or-set_other}
 use Rattle.net_core.proofs.Library.{cases_eq, cases_lt, ints}
-use Rattle.std.proofs.lemmas.Bool.{lt-ltb, le-ltb}
-use Rattle.std.proofs.lemmas.List.{get_or-set_same, get_or-set_other}
 use Rattle.checked_fraction.specs.Terms.{num}
 use Rattle.plan_terms.specs.Terms.{RouteColumn}
 use Rattle.simplex_law.specs.Terms.{dot, unit_vector, ColumnOf, IsPacking}

@@ -1,8 +1,6 @@
 -- what a held basis knows of its numbers
-use Rattle.std.proofs.Common.{◌≡◌, ℕ, Option, Some, None, zero, suc, pos, length, get_or, slice_get, ◌<◌, ◌≤◌, ◌+◌, ◌*◌, ◌^◌, refl, sym, ap, ◌∙◌, subst, arith, ⊎_elim, unsigned_abs}
-use Rattle.std.proofs.Math.IntN.{ℤ, ◌-ℤ◌, ◌*ℤ◌}
+use Rattle.std.proofs.Common.{◌≡◌, ℕ, Option, Some, None, zero, suc, pos, length, get_or, slice_get, ◌<◌, ◌≤◌, ◌+◌, ◌*◌, ◌^◌, refl, sym, ap, ◌∙◌, subst, arith, ⊎_elim, unsigned_abs, ℤ, ◌-ℤ◌, ◌*ℤ◌, ◌<ℤ◌, ◌≤ℤ◌}
 use Rattle.net_core.proofs.Library.{*ℤ-zero, cases_lt, ints, get_or_past}
-use Rattle.std.specs.Int.Signed.{◌<ℤ◌, ◌≤ℤ◌}
 use Rattle.checked_fraction.specs.Terms.{num, IsNarrow}
 use Rattle.checked_fraction.specs.declared.row.Row.{Row}
 use Rattle.plan_terms.specs.Terms.{RouteColumn}

@@ -1,6 +1,5 @@
 -- what is too wide of a key's row, as evidence of the whole basis
-use Rattle.std.proofs.Common.{◌≡◌, ℕ, List, true, false, pos, length, get_or, cond, eqb, ◌<◌, ◌≤◌, ◌+◌, ◌^◌, sym, ap, ◌∙◌, subst, arith, ⊎_elim, unsigned_abs}
-use Rattle.std.proofs.Math.IntN.{ℤ, ◌-ℤ◌, ◌*ℤ◌}
+use Rattle.std.proofs.Common.{◌≡◌, ℕ, List, true, false, pos, length, get_or, cond, eqb, ◌<◌, ◌≤◌, ◌+◌, ◌^◌, sym, ap, ◌∙◌, subst, arith, ⊎_elim, unsigned_abs, ℤ, ◌-ℤ◌, ◌*ℤ◌}
 use Rattle.net_core.proofs.Library.{one-dvd, ◌∣◌}
 use Rattle.checked_fraction.specs.Terms.{num, IsTooWide}
 use Rattle.plan_terms.specs.Terms.{RouteColumn}

@@ -1,9 +1,6 @@
 -- a key leaves
-use Rattle.std.proofs.Common.{◌≡◌, ℕ, Some, pos, length, cond, ◌<◌, ◌+◌, ◌-◌, refl, sym, ap, ◌∙◌, subst, arith, ⊎_elim}
-use Rattle.std.proofs.Math.IntN.{ℤ, ◌-ℤ◌, ◌*ℤ◌}
-use Rattle.std.specs.Int.Signed.{◌<ℤ◌}
+use Rattle.std.proofs.Common.{◌≡◌, ℕ, Some, pos, length, cond, ◌<◌, ◌+◌, ◌-◌, refl, sym, ap, ◌∙◌, subst, arith, ⊎_elim, ℤ, ◌-ℤ◌, ◌*ℤ◌, ◌<ℤ◌, le-ltb}
 use Rattle.net_core.proofs.Library.{cases_eq, ints}
-use Rattle.std.proofs.lemmas.Bool.{le-ltb}
 use Rattle.checked_fraction.specs.Terms.{num}
 use Rattle.plan_terms.specs.Terms.{RouteColumn, LinkSlack, DemandSlack, Carry}
 use Rattle.simplex_law.specs.Terms.{dot, unit_vector, ColumnOf, IsPick}

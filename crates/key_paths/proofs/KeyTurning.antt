@@ -1,9 +1,6 @@
 -- a column enters for the only basic column of its demand, the key
-use Rattle.std.proofs.Common.{◌≡◌, ◌≢◌, ℕ, List, Some, pos, length, get_or, slice_set, ◌<◌, ◌≤◌, ◌+◌, ◌*◌, ◌^◌, refl, sym, ap, ◌∙◌, subst, arith, ⊎_elim, unsigned_abs, length-set, slice_get}
-use Rattle.std.proofs.Math.IntN.{ℤ, ◌-ℤ◌, ◌*ℤ◌}
+use Rattle.std.proofs.Common.{◌≡◌, ◌≢◌, ℕ, List, Some, pos, length, get_or, slice_set, ◌<◌, ◌≤◌, ◌+◌, ◌*◌, ◌^◌, refl, sym, ap, ◌∙◌, subst, arith, ⊎_elim, unsigned_abs, length-set, slice_get, ℤ, ◌-ℤ◌, ◌*ℤ◌, ◌<ℤ◌, ◌≤ℤ◌, get_or-set_same, get_or-set_other}
 use Rattle.net_core.proofs.Library.{*ℤ_comm, cases_eq, ints, unsigned_abs-mul}
-use Rattle.std.specs.Int.Signed.{◌<ℤ◌, ◌≤ℤ◌}
-use Rattle.std.proofs.lemmas.List.{get_or-set_same, get_or-set_other}
 use Rattle.checked_fraction.specs.Terms.{num, IsNarrow}
 use Rattle.plan_terms.specs.Terms.{RouteColumn, DemandSlack}
 use Rattle.simplex_law.specs.Terms.{IsWide, dot, put, ColumnOf}

@@ -1,8 +1,6 @@
 -- the basis at each turn
-use Rattle.std.proofs.Common.{◌≡◌, ℕ, ℤ, zero, suc, List, Some, length, pos, ◌+◌, ◌-◌, ◌*◌, ◌<◌, ◌^◌, inl, inr, Bool, true, false, cond, ltb, unsigned_abs, sym, ap, ◌∙◌, subst, refl, arith, ⊎_elim}
-use Rattle.std.specs.Int.Signed.{◌<ℤ◌, ◌≤ℤ◌}
+use Rattle.std.proofs.Common.{◌≡◌, ℕ, ℤ, zero, suc, List, Some, length, pos, ◌+◌, ◌-◌, ◌*◌, ◌<◌, ◌^◌, inl, inr, Bool, true, false, cond, ltb, unsigned_abs, sym, ap, ◌∙◌, subst, refl, arith, ⊎_elim, ◌<ℤ◌, ◌≤ℤ◌, lt-ltb, le-ltb}
 use Rattle.net_core.proofs.Library.{cases_lt, by_lt_z, slice_get-get_or}
-use Rattle.std.proofs.lemmas.Bool.{lt-ltb, le-ltb}
 use Rattle.checked_fraction.specs.Terms.{num, IsNarrow}
 use Rattle.plan_terms.specs.Terms.{AreDemands, Graph, IsNetwork, names_link, Demand, Caps, RouteColumn, DemandSlack, WideKind, Number, Row as RowOf, Product, Sum, Common, Value, Length}
 use Rattle.route_law.specs.Terms.{route_rows, route_bound, route_slack, IsCarrying, IsRouteColumn}

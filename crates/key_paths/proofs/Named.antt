@@ -1,10 +1,6 @@
 -- columns by their names
-use Rattle.std.proofs.Common.{◌≡◌, ◌≢◌, ℕ, List, Some, pos, length, slice_set, ◌<◌, ◌+◌, ◌-◌, cond, refl, sym, ap, ◌∙◌, subst, arith, inl, inr, ⊎_elim}
-use Rattle.std.proofs.Math.IntN.{ℤ, ◌-ℤ◌, ◌*ℤ◌}
-use Rattle.std.specs.Int.Signed.{◌<ℤ◌, ◌≤ℤ◌}
+use Rattle.std.proofs.Common.{◌≡◌, ◌≢◌, ℕ, List, Some, pos, length, slice_set, ◌<◌, ◌+◌, ◌-◌, cond, refl, sym, ap, ◌∙◌, subst, arith, inl, inr, ⊎_elim, ℤ, ◌-ℤ◌, ◌*ℤ◌, ◌<ℤ◌, ◌≤ℤ◌, eq-eqb, ne_eqb, get_or-set_same, get_or-set_other}
 use Rattle.net_core.proofs.Library.{cases_eq, cases_lt, ints}
-use Rattle.std.proofs.lemmas.Bool.{eq-eqb, ne_eqb}
-use Rattle.std.proofs.lemmas.List.{get_or-set_same, get_or-set_other}
 use Rattle.checked_fraction.specs.Terms.{IsNarrow}
 use Rattle.plan_terms.specs.Terms.{RouteColumn, LinkSlack, DemandSlack, Carry}
 use Rattle.simplex_law.specs.Terms.{dot, unit_vector, put, ColumnOf, IsPacking}

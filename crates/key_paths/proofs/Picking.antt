@@ -1,6 +1,5 @@
 -- a column that gains enters for that of the first role
-use Rattle.std.proofs.Common.{◌≡◌, ℕ, ℤ, List, Some, None, length, pos, get_or, ◌+◌, ◌-ℤ◌, ◌*ℤ◌, ◌<◌, ◌≤◌, ◌^◌, inl, inr, unsigned_abs, sym, ap, ◌∙◌, subst, refl, arith}
-use Rattle.std.specs.Int.Signed.{◌<ℤ◌, ◌≤ℤ◌}
+use Rattle.std.proofs.Common.{◌≡◌, ℕ, ℤ, List, Some, None, length, pos, get_or, ◌+◌, ◌-ℤ◌, ◌*ℤ◌, ◌<◌, ◌≤◌, ◌^◌, inl, inr, unsigned_abs, sym, ap, ◌∙◌, subst, refl, arith, ◌<ℤ◌, ◌≤ℤ◌}
 use Rattle.checked_fraction.specs.Terms.{num}
 use Rattle.plan_terms.specs.Terms.{RouteColumn}
 use Rattle.simplex_law.specs.Terms.{IsInverseRow, HoldsProduct, HoldsRow, ColumnOf, dot}

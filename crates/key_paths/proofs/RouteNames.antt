@@ -1,8 +1,6 @@
 -- the columns of a routing program by their names
-use Rattle.std.proofs.Common.{◌≡◌, ℕ, List, [], ◌∷◌, length, cond, false, ◌+◌, ◌-◌, ◌<◌, ◌≤◌, inl, inr, ⊎_elim, refl, sym, ap, ◌∙◌, subst, arith}
-use Rattle.std.proofs.Math.IntN.{ℤ, pos, ◌+ℤ◌}
+use Rattle.std.proofs.Common.{◌≡◌, ℕ, List, [], ◌∷◌, length, cond, false, ◌+◌, ◌-◌, ◌<◌, ◌≤◌, inl, inr, ⊎_elim, refl, sym, ap, ◌∙◌, subst, arith, ℤ, pos, ◌+ℤ◌, eq-eqb, ne_eqb}
 use Rattle.net_core.proofs.Library.{ForSome, cases_eq, cases_lt, ints}
-use Rattle.std.proofs.lemmas.Bool.{eq-eqb, ne_eqb}
 use Rattle.plan_terms.specs.Terms.{RouteColumn, LinkSlack, DemandSlack, Carry, Demand, LinkId, AreDemands, Graph, IsNetwork, names_link}
 use Rattle.plan_terms.proofs.Lemmas.{DistinctLinks, path_links_differ}
 use Rattle.simplex_law.specs.Terms.{unit_vector, ColumnOf, IsSlack, slack_basis}

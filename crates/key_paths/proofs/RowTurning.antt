@@ -1,10 +1,6 @@
 -- a column enters for that of a row
-use Rattle.std.proofs.Common.{◌≡◌, ◌≢◌, ℕ, List, pos, length, get_or, slice_get, slice_set, cond, ◌<◌, ◌+◌, ◌^◌, refl, sym, ap, ◌∙◌, subst, arith, ◌⊎◌, ⊎_elim, unsigned_abs, length-set}
-use Rattle.std.proofs.Math.IntN.{ℤ, ◌-ℤ◌, ◌*ℤ◌}
+use Rattle.std.proofs.Common.{◌≡◌, ◌≢◌, ℕ, List, pos, length, get_or, slice_get, slice_set, cond, ◌<◌, ◌+◌, ◌^◌, refl, sym, ap, ◌∙◌, subst, arith, ◌⊎◌, ⊎_elim, unsigned_abs, length-set, ℤ, ◌-ℤ◌, ◌*ℤ◌, ◌<ℤ◌, ◌≤ℤ◌, ne_eqb, get_or-set_same, get_or-set_other}
 use Rattle.net_core.proofs.Library.{*ℤ_comm, dvd-mul_right, ◌∣◌, cases_eq, ints, unsigned_abs-mul}
-use Rattle.std.specs.Int.Signed.{◌<ℤ◌, ◌≤ℤ◌}
-use Rattle.std.proofs.lemmas.Bool.{ne_eqb}
-use Rattle.std.proofs.lemmas.List.{get_or-set_same, get_or-set_other}
 use Rattle.checked_fraction.specs.Terms.{num, IsNarrow, IsInLowestTerms, IsReduced, combined, IsTooWide}
 use Rattle.checked_fraction.specs.declared.wide.WideNumber.{WideNumber}
 use Rattle.plan_terms.specs.Terms.{RouteColumn, DemandSlack, Row as RowOf, Product}

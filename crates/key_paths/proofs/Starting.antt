@@ -1,7 +1,6 @@
 -- the slack basis, in which the slack of each demand is its key
-use Rattle.std.proofs.Common.{◌≡◌, ℕ, ℤ, length, pos, ◌+◌, ◌-◌, ◌<◌, ◌-ℤ◌, ◌*ℤ◌, sym, ap, ◌∙◌, subst, refl, arith, ⊎_elim}
+use Rattle.std.proofs.Common.{◌≡◌, ℕ, ℤ, length, pos, ◌+◌, ◌-◌, ◌<◌, ◌-ℤ◌, ◌*ℤ◌, sym, ap, ◌∙◌, subst, refl, arith, ⊎_elim, ◌≤ℤ◌}
 use Rattle.net_core.proofs.Library.{*ℤ-zero, cases_lt, ints}
-use Rattle.std.specs.Int.Signed.{◌≤ℤ◌}
 use Rattle.checked_fraction.specs.Terms.{num}
 use Rattle.plan_terms.specs.Terms.{Graph, RouteColumn, LinkSlack, DemandSlack}
 use Rattle.route_law.specs.Terms.{route_slack}

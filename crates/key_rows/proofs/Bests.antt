@@ -1,6 +1,5 @@
 -- the first row by the ratio test, row by row
-use Rattle.std.proofs.Common.{◌≡◌, ℕ, ℤ, List, Option, Some, None, pos, ◌+◌, ◌*ℤ◌, sym, ap, ◌∙◌, subst, arith, ⊎_elim, inl, inr, ◌⊎◌}
-use Rattle.std.specs.Int.Signed.{◌<ℤ◌}
+use Rattle.std.proofs.Common.{◌≡◌, ℕ, ℤ, List, Option, Some, None, pos, ◌+◌, ◌*ℤ◌, sym, ap, ◌∙◌, subst, arith, ⊎_elim, inl, inr, ◌⊎◌, ◌<ℤ◌}
 use Rattle.net_core.proofs.Library.{cases_lt, ints}
 use Rattle.checked_fraction.specs.Terms.{num, combined}
 use Rattle.checked_fraction.specs.declared.row.Row.{Row}

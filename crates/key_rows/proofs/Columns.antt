@@ -1,7 +1,6 @@
 -- what names and owners say of the columns of a basis with keys
-use Rattle.std.proofs.Common.{◌≡◌, ℕ, ℤ, List, Some, None, pos, ◌+◌, ◌<◌, ◌≤◌, ◌-ℤ◌, ◌*ℤ◌, get_or, sym, ap, ◌∙◌, subst, refl, arith, ⊎_elim}
+use Rattle.std.proofs.Common.{◌≡◌, ℕ, ℤ, List, Some, None, pos, ◌+◌, ◌<◌, ◌≤◌, ◌-ℤ◌, ◌*ℤ◌, get_or, sym, ap, ◌∙◌, subst, refl, arith, ⊎_elim, ◌≤ℤ◌}
 use Rattle.net_core.proofs.Library.{zero-*ℤ, cases_eq, ints}
-use Rattle.std.specs.Int.Signed.{◌≤ℤ◌}
 use Rattle.checked_fraction.specs.Terms.{num}
 use Rattle.net_core.specs.declared.columns.RouteColumn.{RouteColumn}
 use Rattle.net_core.specs.declared.columns.RouteColumn.TheVariants.{LinkSlack, DemandSlack, Carry}

@@ -1,6 +1,5 @@
 -- the ratio test over roles doesn't ask which rows of the inverse are taken for them
-use Rattle.std.proofs.Common.{◌≡◌, ℕ, ℤ, pos, ◌+◌, ◌<◌, ◌*ℤ◌, subst}
-use Rattle.std.specs.Int.Signed.{◌<ℤ◌}
+use Rattle.std.proofs.Common.{◌≡◌, ℕ, ℤ, pos, ◌+◌, ◌<◌, ◌*ℤ◌, subst, ◌<ℤ◌}
 use Rattle.net_core.specs.declared.columns.RouteColumn.{RouteColumn}
 use Rattle.simplex_law.specs.Terms.{IsInverseRow, ColumnOf, dot, unit_vector, IsRatioLe}
 use Rattle.simplex_law.proofs.Lemmas.{positive_cancel, first_scaled, second_scaled, dot_scaled, row_unique, valued_scaled}

@@ -1,7 +1,6 @@
 -- the order of two candidates by their rows in lowest terms is that of their rows of the whole inverse
-use Rattle.std.proofs.Common.{◌⊎◌, ◌≡◌, ℕ, ℤ, List, length, pos, ◌+◌, ◌-◌, ◌<◌, ◌-ℤ◌, ◌*ℤ◌, inl, inr, sym, ap, ◌∙◌, subst, arith, ⊎_elim}
+use Rattle.std.proofs.Common.{◌⊎◌, ◌≡◌, ℕ, ℤ, List, length, pos, ◌+◌, ◌-◌, ◌<◌, ◌-ℤ◌, ◌*ℤ◌, inl, inr, sym, ap, ◌∙◌, subst, arith, ⊎_elim, ◌<ℤ◌}
 use Rattle.net_core.proofs.Library.{*ℤ-zero, *ℤ_comm}
-use Rattle.std.specs.Int.Signed.{◌<ℤ◌}
 use Rattle.checked_fraction.specs.Terms.{num}
 use Rattle.net_core.specs.declared.columns.RouteColumn.{RouteColumn}
 use Rattle.net_core.specs.declared.ids.LinkId.{LinkId}

@@ -1,7 +1,6 @@
 -- products with what is left of a column
-use Rattle.std.proofs.Common.{◌≡◌, ℕ, ℤ, List, pos, ◌<◌, ◌+ℤ◌, ◌-ℤ◌, ◌*ℤ◌, sym, ap, ◌∙◌, subst, arith}
+use Rattle.std.proofs.Common.{◌≡◌, ℕ, ℤ, List, pos, ◌<◌, ◌+ℤ◌, ◌-ℤ◌, ◌*ℤ◌, sym, ap, ◌∙◌, subst, arith, ◌<ℤ◌}
 use Rattle.net_core.proofs.Library.{*ℤ_comm, ints}
-use Rattle.std.specs.Int.Signed.{◌<ℤ◌}
 use Rattle.checked_fraction.specs.Terms.{num, IsReduced}
 use Rattle.checked_fraction.specs.declared.row.Row.{Row}
 use Rattle.simplex_law.specs.Terms.{int_sum, dot}

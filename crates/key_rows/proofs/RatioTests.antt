@@ -1,7 +1,6 @@
 -- the first of the roles, found candidate by candidate
-use Rattle.std.proofs.Common.{◌≡◌, ℕ, ℤ, List, Option, Some, None, length, pos, ◌+◌, ◌-◌, ◌<◌, ◌-ℤ◌, ◌*ℤ◌, ◌⊎◌, inl, inr, get_or, sym, ap, ◌∙◌, subst, refl, arith, ⊎_elim}
+use Rattle.std.proofs.Common.{◌≡◌, ℕ, ℤ, List, Option, Some, None, length, pos, ◌+◌, ◌-◌, ◌<◌, ◌-ℤ◌, ◌*ℤ◌, ◌⊎◌, inl, inr, get_or, sym, ap, ◌∙◌, subst, refl, arith, ⊎_elim, ◌<ℤ◌, ◌≤ℤ◌}
 use Rattle.net_core.proofs.Library.{*ℤ-zero, zero-*ℤ, cases_eq, ints}
-use Rattle.std.specs.Int.Signed.{◌<ℤ◌, ◌≤ℤ◌}
 use Rattle.checked_fraction.specs.Terms.{num}
 use Rattle.net_core.specs.declared.columns.RouteColumn.{RouteColumn}
 use Rattle.net_core.specs.declared.ids.LinkId.{LinkId}

@@ -1,6 +1,5 @@
 -- rows that are taken away
-use Rattle.std.proofs.Common.{◌≡◌, ℕ, suc, ◌+◌, ◌<◌, List, Bool, true, false, Result, Ok, Err, Some, get_or, slice_get, sym, ap, ◌∙◌, subst, arith, OnOk, IfErr, is_ok}
-use Rattle.std.proofs.Math.IntN.{ℤ, pos, ◌+ℤ◌, ◌-ℤ◌, ◌*ℤ◌}
+use Rattle.std.proofs.Common.{◌≡◌, ℕ, suc, ◌+◌, ◌<◌, List, Bool, true, false, Result, Ok, Err, Some, get_or, slice_get, sym, ap, ◌∙◌, subst, arith, OnOk, IfErr, is_ok, ℤ, pos, ◌+ℤ◌, ◌-ℤ◌, ◌*ℤ◌}
 use Rattle.net_core.proofs.Library.{ints}
 use Rattle.checked_fraction.specs.Terms.{num, IsReduced, IsTooWide}
 use Rattle.checked_fraction.specs.declared.wide.WideNumber.{WideNumber}

@@ -1,6 +1,5 @@
 -- the product of a key's row in lowest terms
-use Rattle.std.proofs.Common.{◌≡◌, ℕ, ℤ, Bool, true, false, List, pos, length, subst, inr, refl}
-use Rattle.std.specs.Int.Signed.{◌<ℤ◌}
+use Rattle.std.proofs.Common.{◌≡◌, ℕ, ℤ, Bool, true, false, List, pos, length, subst, inr, refl, ◌<ℤ◌}
 use Rattle.checked_fraction.specs.Terms.{num}
 use Rattle.checked_fraction.specs.declared.row.Row.{Row}
 use Rattle.net_core.specs.declared.columns.RouteColumn.{RouteColumn}

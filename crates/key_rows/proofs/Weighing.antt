@@ -1,9 +1,6 @@
 -- what brings the rows of a demand over one denominator
-use Rattle.std.proofs.Common.{◌≡◌, ℕ, ℤ, List, pos, length, cond, eqb, get_or, slice_set, slice_get, Some, ◌+◌, ◌*◌, ◌/◌, ◌^◌, ◌<◌, ◌*ℤ◌, unsigned_abs, sym, ap, subst, ◌∙◌, arith, ⊎_elim}
+use Rattle.std.proofs.Common.{◌≡◌, ℕ, ℤ, List, pos, length, cond, eqb, get_or, slice_set, slice_get, Some, ◌+◌, ◌*◌, ◌/◌, ◌^◌, ◌<◌, ◌*ℤ◌, unsigned_abs, sym, ap, subst, ◌∙◌, arith, ⊎_elim, ◌<ℤ◌, eq-eqb, get_or-set_same, get_or-set_other}
 use Rattle.net_core.proofs.Library.{◌∣◌, one-dvd, mul-div_cancel', cases_eq, ints, dvd_refl}
-use Rattle.std.specs.Int.Signed.{◌<ℤ◌}
-use Rattle.std.proofs.lemmas.Bool.{eq-eqb}
-use Rattle.std.proofs.lemmas.List.{get_or-set_same, get_or-set_other}
 use Rattle.checked_fraction.specs.Terms.{num, IsNarrow}
 use Rattle.checked_fraction.specs.declared.row.Row.{Row}
 use Rattle.simplex_core.specs.Terms.{den_at, den_of, IsLeastMultiple, IsDenominator}

@@ -1,7 +1,6 @@
 -- the weights of a demand's rows over two denominators
-use Rattle.std.proofs.Common.{◌≡◌, ℕ, ℤ, zero, suc, List, pos, length, get_or, ◌+◌, ◌<◌, ◌≤◌, ◌-ℤ◌, ◌*ℤ◌, sym, ap, ◌∙◌, subst, arith, ⊎_elim}
+use Rattle.std.proofs.Common.{◌≡◌, ℕ, ℤ, zero, suc, List, pos, length, get_or, ◌+◌, ◌<◌, ◌≤◌, ◌-ℤ◌, ◌*ℤ◌, sym, ap, ◌∙◌, subst, arith, ⊎_elim, ◌<ℤ◌}
 use Rattle.net_core.proofs.Library.{*ℤ_comm, zero-*ℤ, cases_eq}
-use Rattle.std.specs.Int.Signed.{◌<ℤ◌}
 use Rattle.checked_fraction.specs.Terms.{num}
 use Rattle.checked_fraction.specs.declared.row.Row.{Row}
 use Rattle.simplex_law.specs.Terms.{unit_vector}

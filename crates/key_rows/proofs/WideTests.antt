@@ -1,6 +1,5 @@
 -- what is too wide of a key when it is decided which column leaves
-use Rattle.std.proofs.Common.{◌≡◌, ℕ, length, Err, ◌+◌, ◌-◌, ◌<◌, ◌≤◌, ◌⊎◌, ◌∙◌, pos, refl, arith, ⊎_elim}
-use Rattle.std.specs.Int.Signed.{◌<ℤ◌}
+use Rattle.std.proofs.Common.{◌≡◌, ℕ, length, Err, ◌+◌, ◌-◌, ◌<◌, ◌≤◌, ◌⊎◌, ◌∙◌, pos, refl, arith, ⊎_elim, ◌<ℤ◌}
 use Rattle.net_core.specs.declared.columns.RouteColumn.{RouteColumn}
 use Rattle.key_rows.specs.KeyTests.{IsWideSpread, IsWideTest}
 use Rattle.key_rows.specs.Names.{own_entry}

@@ -1,9 +1,6 @@
 -- rows of an inverse over lengths are rows of the inverse of the master program, up to positive numbers
-use Rattle.std.proofs.Common.{◌≡◌, ◌≢◌, ℕ, zero, suc, ◌*◌, ◌<◌, cond, eqb, mul-pos, refl, sym, ap, ◌∙◌, subst, ⊎_elim, arith}
+use Rattle.std.proofs.Common.{◌≡◌, ◌≢◌, ℕ, zero, suc, ◌*◌, ◌<◌, cond, eqb, mul-pos, refl, sym, ap, ◌∙◌, subst, ⊎_elim, arith, eq-eqb, ne_eqb, ℤ, pos, ◌*ℤ◌, ◌<ℤ◌, ◌≤ℤ◌}
 use Rattle.net_core.proofs.Library.{cases_eq, ints, *ℤ-zero, *ℤ_comm, pos-*ℤ-pos}
-use Rattle.std.proofs.lemmas.Bool.{eq-eqb, ne_eqb}
-use Rattle.std.proofs.Math.IntN.{ℤ, pos, ◌*ℤ◌}
-use Rattle.std.specs.Int.Signed.{◌<ℤ◌, ◌≤ℤ◌}
 use Rattle.checked_fraction.proofs.Products.{regroup}
 use Rattle.simplex_law.specs.Terms.{dot, int_sum, unit_vector}
 use Rattle.simplex_law.proofs.Duality.{equal_value}

@@ -1,7 +1,5 @@
 -- weights by kinds, and how much is used of each kind
-use Rattle.std.proofs.Common.{◌≡◌, ℕ, zero, suc, ◌+◌, ◌*◌, ◌<◌, ◌≤◌, ⊎_elim, true, false, eq-eqb, ne_eqb, List, [], ◌∷◌, length, map, min, slice_index, zip, refl, ap, subst, sym, ◌∙◌, arith}
-use Rattle.std.specs.Prelude.{if◌then◌else◌, nat_eq}
-use Rattle.std.proofs.lemmas.Bool.{eqb-true}
+use Rattle.std.proofs.Common.{◌≡◌, ℕ, zero, suc, ◌+◌, ◌*◌, ◌<◌, ◌≤◌, ⊎_elim, true, false, eq-eqb, ne_eqb, List, [], ◌∷◌, length, map, min, slice_index, zip, refl, ap, subst, sym, ◌∙◌, arith, if◌then◌else◌, nat_eq, eqb-true}
 use Rattle.net_core.proofs.Library.{cases_Bool, cases_lt, get_or-map-range_with_len, range_with_len, sum_by-cons}
 use Rattle.net_core.proofs.Sums.{below-le}
 use Rattle.cover_table.specs.CoverWeights.{total_of_kinds}

@@ -1,6 +1,5 @@
 -- lines of cuts, link by link
-use Rattle.std.proofs.Common.{◌≡◌, ℕ, ◌+◌, ◌*◌, ◌<◌, ◌≤◌, List, [], ◌∷◌, ◌++◌, get_or, length, map, take, zip, ap, ◌∙◌, arith}
-use Rattle.std.proofs.lemmas.List.{take_all}
+use Rattle.std.proofs.Common.{◌≡◌, ℕ, ◌+◌, ◌*◌, ◌<◌, ◌≤◌, List, [], ◌∷◌, ◌++◌, get_or, length, map, take, zip, ap, ◌∙◌, arith, take_all}
 use Rattle.net_core.proofs.Library.{map-append}
 use Rattle.module_choice.proofs.Pairs.{zip_more}
 use Rattle.plan_terms.specs.Terms.{Link}

@@ -1,7 +1,5 @@
 -- the modules that a state leaves
-use Rattle.std.proofs.Common.{◌≡◌, ℕ, zero, suc, ◌+◌, ◌<◌, ◌≤◌, ⊎_elim, false, List, [], ◌∷◌, length, map, slice_index, slice_index_or, refl, ap, sym, ◌∙◌, arith}
-use Rattle.std.specs.Prelude.{if◌then◌else◌}
-use Rattle.std.proofs.lemmas.List.{ext_get_or}
+use Rattle.std.proofs.Common.{◌≡◌, ℕ, zero, suc, ◌+◌, ◌<◌, ◌≤◌, ⊎_elim, false, List, [], ◌∷◌, length, map, slice_index, slice_index_or, refl, ap, sym, ◌∙◌, arith, if◌then◌else◌, ext_get_or}
 use Rattle.net_core.proofs.Library.{cases_lt, get_or-map-range_with_len, get_or_past, length-map-range_with_len, range_with_len}
 use Rattle.module_choice.proofs.Pairs.{counts_long}
 use Rattle.plan_terms.specs.Terms.{AreCounts, Case, Link, capacities, fails}

@@ -1,7 +1,6 @@
 -- the report of one plan command
-use Rattle.std.proofs.Common.{◌≡◌, ◌≢◌, ◌∙◌, ℕ, zero, suc, ◌≤◌, ◌==◌, ◌++◌, List, [], ◌∷◌, Some, cond, flat_map, if◌then◌else◌, length, refl, slice_get, take, sym, ap, subst, ⊎_elim, Bool, true, false}
+use Rattle.std.proofs.Common.{◌≡◌, ◌≢◌, ◌∙◌, ℕ, zero, suc, ◌≤◌, ◌==◌, ◌++◌, List, [], ◌∷◌, Some, cond, flat_map, if◌then◌else◌, length, refl, slice_get, take, sym, ap, subst, ⊎_elim, Bool, true, false, eq-eqb, ne_eqb}
 use Rattle.net_core.proofs.Library.{cases_eq}
-use Rattle.std.proofs.lemmas.Bool.{eq-eqb, ne_eqb}
 use Rattle.plan_terms.specs.Terms.{Demand, StateId, Entry, Edited, Pooled, Notes, Case, IsFirstSeparation}
 use Rattle.plan_types.specs.declared.plan.Plan.{Plan}
 use Rattle.plan_types.specs.declared.report.Outcome.{Outcome}

@@ -1,8 +1,6 @@
 -- what the plan of a transcript is known to be
-use Rattle.std.proofs.Common.{◌≡◌, ◌≢◌, ◌∙◌, ℕ, ◌*◌, ◌<◌, ◌==◌, Bool, cond, List, [], ◌∷◌, Some, get_or, slice_get, take, refl, ap, subst, arith, All}
-use Rattle.std.proofs.Math.Nat.{mul-pos}
+use Rattle.std.proofs.Common.{◌≡◌, ◌≢◌, ◌∙◌, ℕ, ◌*◌, ◌<◌, ◌==◌, Bool, cond, List, [], ◌∷◌, Some, get_or, slice_get, take, refl, ap, subst, arith, All, mul-pos, ne_eqb}
 use Rattle.net_core.proofs.Library.{∥∥₁_elim, ∥∥₁_map, props, All-head, All-tail, slice_get-get_or, sum_by-cons}
-use Rattle.std.proofs.lemmas.Bool.{ne_eqb}
 use Rattle.plan_terms.specs.Terms.{Demand, Notes, Flow, Routing, Case, graph_in, Joins, capacities, Carries, IsFlow, IsPath, IsSurvivable, Separates, sent}
 use Rattle.plan_types.specs.Terms.{IsCarryingPlan, IsCostedPlan}
 use Rattle.plan_types.specs.declared.plan.Plan.{Plan}

@@ -1,10 +1,7 @@
 -- the certificate of an optimum, and the share of its objective row
-use Rattle.std.proofs.Common.{◌≡◌, ◌≢◌, ℕ, zero, suc, ◌-◌, ◌*◌, ◌/◌, ◌^◌, ◌<◌, ◌≤◌, List, [], ◌∷◌, All, AllPairs, Contains, Some, get_or, length, map, mul-pos, refl, slice_get, slice_index, sym, ap, ◌∙◌, subst, ⊎_elim, arith}
+use Rattle.std.proofs.Common.{◌≡◌, ◌≢◌, ℕ, zero, suc, ◌-◌, ◌*◌, ◌/◌, ◌^◌, ◌<◌, ◌≤◌, List, [], ◌∷◌, All, AllPairs, Contains, Some, get_or, length, map, mul-pos, refl, slice_get, slice_index, sym, ap, ◌∙◌, subst, ⊎_elim, arith, mul-le-mul_left, pos, ◌<ℤ◌}
 use Rattle.net_core.proofs.Library.{◌∣◌, cases_eq, ints, All-contains, All-get_or, All-map, All-nil, All-weaker, dvd-zero, le_of_mul-le-mul_left}
 use Rattle.std.proofs.lemmas.Nat.Gcd.{le_of_dvd}
-use Rattle.std.proofs.Math.Nat.{mul-le-mul_left}
-use Rattle.std.proofs.Math.IntN.{pos}
-use Rattle.std.specs.Int.Signed.{◌<ℤ◌}
 use Rattle.checked_fraction.specs.Terms.{num}
 use Rattle.module_prices.specs.declared.cheapest.UnitPair.{UnitPair}
 use Rattle.plan_terms.specs.Terms.{MasterColumn, Link, CutLine, IsModule, IsBound, IsGreatestDivisor, IsLowest, CertificateLine, IsCut, asked, fixed_along, given, price, raw_value, IsOwnBound}

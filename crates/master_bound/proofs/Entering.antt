@@ -1,9 +1,6 @@
 -- the columns of cuts, and cuts that gain
-use Rattle.std.proofs.Common.{◌≡◌, ◌≢◌, ℕ, ◌+◌, ◌<◌, ◌≤◌, ◌^◌, ◌++◌, List, [], ◌∷◌, All, Bool, true, false, cond, eqb, nat_lt, Option, None, Some, get_or, length, map, refl, slice_get, ◌⊎◌, ⊎_elim, append-nil, sym, ap, ◌∙◌, subst, arith}
+use Rattle.std.proofs.Common.{◌≡◌, ◌≢◌, ℕ, ◌+◌, ◌<◌, ◌≤◌, ◌^◌, ◌++◌, List, [], ◌∷◌, All, Bool, true, false, cond, eqb, nat_lt, Option, None, Some, get_or, length, map, refl, slice_get, ◌⊎◌, ⊎_elim, append-nil, sym, ap, ◌∙◌, subst, arith, eq-eqb, le-ltb, lt-ltb, ne_eqb, ℤ, pos, ◌+ℤ◌, ◌-ℤ◌, ◌*ℤ◌, ◌<ℤ◌, ◌≤ℤ◌}
 use Rattle.net_core.proofs.Library.{AllByRecursion, cases_eq, cases_lt, ints, get_or-map, length-map, All-get_or, get_or_from_slice_get, slice_get-get_or, slice_get_within}
-use Rattle.std.proofs.lemmas.Bool.{eq-eqb, le-ltb, lt-ltb, ne_eqb}
-use Rattle.std.proofs.Math.IntN.{ℤ, pos, ◌+ℤ◌, ◌-ℤ◌, ◌*ℤ◌}
-use Rattle.std.specs.Int.Signed.{◌<ℤ◌, ◌≤ℤ◌}
 use Rattle.checked_fraction.specs.Terms.{num, IsNarrow}
 use Rattle.checked_fraction.specs.declared.row.Row.{Row}
 use Rattle.module_prices.specs.declared.cheapest.UnitPair.{UnitPair}

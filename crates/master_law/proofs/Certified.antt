@@ -1,9 +1,6 @@
 -- the cuts of an optimum are a valid certificate, whose raw value is the cost of the share of its objective row
-use Rattle.std.proofs.Common.{◌≡◌, ℕ, zero, suc, ◌*◌, ◌<◌, ◌≤◌, List, [], ◌∷◌, All, Some, true, false, cond, eqb, length, sum_by, zip, slice_get, slice_index, get_or, refl, sym, ap, ◌∙◌, arith, subst, ⊎_elim}
+use Rattle.std.proofs.Common.{◌≡◌, ℕ, zero, suc, ◌*◌, ◌<◌, ◌≤◌, List, [], ◌∷◌, All, Some, true, false, cond, eqb, length, sum_by, zip, slice_get, slice_index, get_or, refl, sym, ap, ◌∙◌, arith, subst, ⊎_elim, mul-le-mul_left, ℤ, pos, ◌+ℤ◌, ◌*ℤ◌, ◌≤ℤ◌}
 use Rattle.net_core.proofs.Library.{sum_by-cons, All-from_recursion, All-contains, All-from_get_or, All-get_or, slice_get_within, le_of_mul-le-mul_left, *ℤ-zero, pos-*ℤ-pos, ints}
-use Rattle.std.proofs.Math.Nat.{mul-le-mul_left}
-use Rattle.std.proofs.Math.IntN.{ℤ, pos, ◌+ℤ◌, ◌*ℤ◌}
-use Rattle.std.specs.Int.Signed.{◌≤ℤ◌}
 use Rattle.module_prices.specs.declared.cheapest.UnitPair.{UnitPair}
 use Rattle.plan_terms.specs.Terms.{MasterColumn, Link, Module, CutLine, IsModule, sum_below, CertificateLine, price, asked, fixed_along, given, raw_value}
 use Rattle.net_core.proofs.Sums.{below-same, below-first, below-none, below-times, below-swapped, sums-equal}

@@ -1,8 +1,6 @@
 -- the definitions on a network of one link, worked out by hand
-use Rattle.std.proofs.Common.{◌≡◌, ℕ, zero, suc, ◌*◌, ◌<◌, List, [], ◌∷◌, get_or, slice_index, refl, sym, ap, arith, subst, inl}
+use Rattle.std.proofs.Common.{◌≡◌, ℕ, zero, suc, ◌*◌, ◌<◌, List, [], ◌∷◌, get_or, slice_index, refl, sym, ap, arith, subst, inl, pos, ◌*ℤ◌, ◌<ℤ◌}
 use Rattle.net_core.proofs.Library.{eq-one_of_dvd-one, ints, Contains-get_or}
-use Rattle.std.proofs.Math.IntN.{pos, ◌*ℤ◌}
-use Rattle.std.specs.Int.Signed.{◌<ℤ◌}
 use Rattle.module_prices.specs.declared.cheapest.UnitPair.{UnitPair}
 use Rattle.plan_terms.specs.Terms.{MasterColumn, Link, CutLine, Violates}
 use Rattle.plan_types.specs.declared.quality.Share.{Share}

@@ -1,7 +1,5 @@
 -- what the best certificate of some cuts rests on
-use Rattle.std.proofs.Common.{ℕ, ◌-◌, ◌*◌, ◌≤◌, ◌<◌, refl, arith}
-use Rattle.std.proofs.Math.IntN.{pos}
-use Rattle.std.specs.Int.Signed.{◌<ℤ◌}
+use Rattle.std.proofs.Common.{ℕ, ◌-◌, ◌*◌, ◌≤◌, ◌<◌, refl, arith, pos, ◌<ℤ◌}
 use Rattle.net_core.proofs.Library.{ints}
 use Rattle.plan_terms.specs.Terms.{fixed_along, raw_value}
 use Rattle.master_law.specs.Laws.{BasisLinesCertify, BoundRises, LeastShareViolatesNone, NoCertificateIsGreater, RawValueIsShareCost}

@@ -1,7 +1,6 @@
 -- the lines of one basic column more, and lines in lowest terms
-use Rattle.std.proofs.Common.{◌≡◌, ℕ, suc, ◌-◌, ◌*◌, ◌<◌, ◌≤◌, List, [], ◌∷◌, ◌++◌, All, Some, map, sum_by, slice_get, slice_index, get_or, refl, sym, ap, ◌∙◌, arith}
+use Rattle.std.proofs.Common.{◌≡◌, ℕ, suc, ◌-◌, ◌*◌, ◌<◌, ◌≤◌, List, [], ◌∷◌, ◌++◌, All, Some, map, sum_by, slice_get, slice_index, get_or, refl, sym, ap, ◌∙◌, arith, pos, ◌+ℤ◌, ◌*ℤ◌}
 use Rattle.net_core.proofs.Library.{sum_by-cons, sum_by_push, le_of_mul-le-mul_left, mul-sub, zero-*ℤ, pos-*ℤ-pos, ints}
-use Rattle.std.proofs.Math.IntN.{pos, ◌+ℤ◌, ◌*ℤ◌}
 use Rattle.plan_terms.specs.Terms.{MasterColumn, Metric, Link, CutLine, CertificateLine, price, asked, fixed_along, given, raw_value}
 use Rattle.simplex_law.specs.Terms.{ColumnOf}
 use Rattle.master_law.specs.BasisLines.{AreLinesOf}

@@ -1,9 +1,7 @@
 -- the raw value of an optimum is at least that of each of its cuts alone, and so is the bound
-use Rattle.std.proofs.Common.{◌≡◌, ◌≢◌, ℕ, ◌-◌, ◌*◌, ◌<◌, ◌≤◌, ◌⊎◌, List, All, Contains, length, slice_index, ap, ◌∙◌, arith, subst, inl, inr, ⊎_elim}
+use Rattle.std.proofs.Common.{◌≡◌, ◌≢◌, ℕ, ◌-◌, ◌*◌, ◌<◌, ◌≤◌, ◌⊎◌, List, All, Contains, length, slice_index, ap, ◌∙◌, arith, subst, inl, inr, ⊎_elim, ℤ, pos, ◌-ℤ◌, ◌*ℤ◌, ◌<ℤ◌, ◌≤ℤ◌}
 use Rattle.net_core.proofs.Library.{◌∣◌, cases_eq, cases_lt, dvd_trans, le_of_mul-le-mul_left, mul-sub, pos-*ℤ-pos, ints}
 use Rattle.std.proofs.Math.Nat.{mul-le-mul_left, eq-zero_of_zero-dvd}
-use Rattle.std.proofs.Math.IntN.{ℤ, pos, ◌-ℤ◌, ◌*ℤ◌}
-use Rattle.std.specs.Int.Signed.{◌<ℤ◌, ◌≤ℤ◌}
 use Rattle.module_prices.specs.declared.cheapest.UnitPair.{UnitPair}
 use Rattle.plan_terms.specs.Terms.{MasterColumn, Link, CutLine, IsModule, IsBound, fixed_along, IsValid}
 use Rattle.simplex_law.specs.Terms.{int_sum, ColumnOf, IsOptimum, FitBounds}

@@ -1,9 +1,6 @@
 -- the master program is a packing program, where its numbers are narrow
-use Rattle.std.proofs.Common.{◌≡◌, ◌≢◌, ℕ, ◌*◌, ◌<◌, ◌≤◌, List, [], All, AllPairs, Any, Contains, Some, length, slice_get, slice_index, get_or, sym, ap, ◌∙◌, arith, subst, ⊎_elim}
+use Rattle.std.proofs.Common.{◌≡◌, ◌≢◌, ℕ, ◌*◌, ◌<◌, ◌≤◌, List, [], All, AllPairs, Any, Contains, Some, length, slice_get, slice_index, get_or, sym, ap, ◌∙◌, arith, subst, ⊎_elim, mul-le-mul_left, pos, ◌<ℤ◌, ◌≤ℤ◌}
 use Rattle.net_core.proofs.Library.{cases_eq, cases_lt, get_or_default, All-contains, ints}
-use Rattle.std.proofs.Math.Nat.{mul-le-mul_left}
-use Rattle.std.proofs.Math.IntN.{pos}
-use Rattle.std.specs.Int.Signed.{◌<ℤ◌, ◌≤ℤ◌}
 use Rattle.checked_fraction.specs.Terms.{IsNarrow}
 use Rattle.module_prices.specs.declared.cheapest.UnitPair.{UnitPair}
 use Rattle.plan_terms.specs.Terms.{Metric, LinkId, StateId, Link, CutLine, IsModule}

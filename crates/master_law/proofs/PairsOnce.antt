@@ -1,6 +1,5 @@
 -- a link has one unit pair
-use Rattle.std.proofs.Common.{◌≡◌, suc, inl, inr, List, [], ◌∷◌, All, length, sym, ap, ◌∙◌, arith}
-use Rattle.std.proofs.lemmas.List.{ext_get_or}
+use Rattle.std.proofs.Common.{◌≡◌, suc, inl, inr, List, [], ◌∷◌, All, length, sym, ap, ◌∙◌, arith, ext_get_or}
 use Rattle.net_core.proofs.Library.{slice_get-get_or}
 use Rattle.plan_terms.specs.Terms.{IsModule, Link, Module, IsUnitPair}
 use Rattle.module_prices.specs.declared.cheapest.UnitPair.{UnitPair}

@@ -1,6 +1,5 @@
 -- evidence of the slack basis, and evidence of the master program from that of a packing program
-use Rattle.std.proofs.Common.{ℕ, ◌≤◌, ◌<◌, ◌^◌, ◌⊎◌, List, Contains, length, refl, arith, inl, inr}
-use Rattle.std.proofs.Math.IntN.{pos}
+use Rattle.std.proofs.Common.{ℕ, ◌≤◌, ◌<◌, ◌^◌, ◌⊎◌, List, Contains, length, refl, arith, inl, inr, pos}
 use Rattle.net_core.proofs.Library.{ints}
 use Rattle.module_prices.specs.declared.cheapest.UnitPair.{UnitPair}
 use Rattle.plan_terms.specs.Terms.{MasterColumn, Metric, WideKind, Number, Link, CutLine}

@@ -1,8 +1,6 @@
 -- a certificate in lowest terms of which a number is too wide
-use Rattle.std.proofs.Common.{◌≡◌, ℕ, zero, suc, ◌*◌, ◌/◌, ◌<◌, ◌≤◌, ◌^◌, ◌⊎◌, List, length, sym, ap, ◌∙◌, arith, subst, inl, inr, ⊎_elim, unsigned_abs}
+use Rattle.std.proofs.Common.{◌≡◌, ℕ, zero, suc, ◌*◌, ◌/◌, ◌<◌, ◌≤◌, ◌^◌, ◌⊎◌, List, length, sym, ap, ◌∙◌, arith, subst, inl, inr, ⊎_elim, unsigned_abs, ℤ, pos, ◌+ℤ◌, ◌*ℤ◌, ◌<ℤ◌, ◌≤ℤ◌}
 use Rattle.net_core.proofs.Library.{◌∣◌, dvd-zero, mul-div_cancel', dvd-mul_left, *ℤ_comm, *ℤ-zero, pos-*ℤ-pos, ints, unsigned_abs-mul}
-use Rattle.std.proofs.Math.IntN.{ℤ, pos, ◌+ℤ◌, ◌*ℤ◌}
-use Rattle.std.specs.Int.Signed.{◌<ℤ◌, ◌≤ℤ◌}
 use Rattle.module_prices.specs.declared.cheapest.UnitPair.{UnitPair}
 use Rattle.plan_terms.specs.Terms.{MasterColumn, Link, CutLine, CertificateLine, asked, fixed_along, given}
 use Rattle.simplex_law.specs.Terms.{int_sum, dot, ColumnOf, IsSlack, IsOptimum}

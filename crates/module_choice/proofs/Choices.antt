@@ -1,9 +1,6 @@
 -- counts of one kind of module, and the best kind
-use Rattle.std.proofs.Common.{◌≡◌, ℕ, zero, suc, ◌+◌, ◌*◌, ◌^◌, ◌<◌, ◌≤◌, true, false, cond, nat_lt, List, [], ◌∷◌, All, Err, IfOk, Ok, Result, Some, get_or, set, replicate, length, refl, sym, ◌∙◌, ap, subst, arith, sum_by, count_by, zip, slice_get, ⊎_elim, inr, get_or-set_same, get_or-set_other}
+use Rattle.std.proofs.Common.{◌≡◌, ℕ, zero, suc, ◌+◌, ◌*◌, ◌^◌, ◌<◌, ◌≤◌, true, false, cond, nat_lt, List, [], ◌∷◌, All, Err, IfOk, Ok, Result, Some, get_or, set, replicate, length, refl, sym, ◌∙◌, ap, subst, arith, sum_by, count_by, zip, slice_get, ⊎_elim, inr, get_or-set_same, get_or-set_other, length-set, lt-ltb, mul-le-mul_left}
 use Rattle.net_core.proofs.Library.{sum_by-cons, get_or-replicate, length-replicate, cases_eq, cases_lt, slice_get_within}
-use Rattle.std.proofs.Math.ListN.{length-set}
-use Rattle.std.proofs.lemmas.Bool.{lt-ltb}
-use Rattle.std.proofs.Math.Nat.{mul-le-mul_left}
 use Rattle.plan_terms.specs.Terms.{Module, IsModule, modules_cost, AreOfOneKind, IsFewSteps, Reaches}
 use Rattle.module_choice.specs.inner.Cheapest.{AreCheapest}
 use Rattle.module_choice.specs.inner.Kinds.{IsBestKind}

@@ -1,7 +1,6 @@
 -- tables of least costs: one entry more, and counts that are read from a table
-use Rattle.std.proofs.Common.{◌≡◌, ℕ, zero, suc, ◌+◌, ◌-◌, ◌*◌, ◌^◌, ◌<◌, ◌≤◌, ◌⊎◌, List, [], ◌∷◌, ◌++◌, All, Some, get_or, set, replicate, length, length-append, refl, sym, ◌∙◌, ap, subst, arith, slice_get, ⊎_elim, get_or-set_same, get_or-set_other}
+use Rattle.std.proofs.Common.{◌≡◌, ℕ, zero, suc, ◌+◌, ◌-◌, ◌*◌, ◌^◌, ◌<◌, ◌≤◌, ◌⊎◌, List, [], ◌∷◌, ◌++◌, All, Some, get_or, set, replicate, length, length-append, refl, sym, ◌∙◌, ap, subst, arith, slice_get, ⊎_elim, get_or-set_same, get_or-set_other, length-set}
 use Rattle.net_core.proofs.Library.{get_or-replicate, length-replicate, cases_eq, slice_get_within, slice_get-get_or}
-use Rattle.std.proofs.Math.ListN.{length-set}
 use Rattle.plan_terms.specs.Terms.{Module, IsModule, modules_capacity, modules_cost, Reaches}
 use Rattle.module_choice.specs.declared.tables.Entry.{Entry}
 use Rattle.module_choice.specs.inner.Tables.{AreLeastCosts, AreTaken, IsLeastCost, IsNextEntry, IsOneMore}

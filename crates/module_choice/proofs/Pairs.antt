@@ -1,7 +1,6 @@
 -- two lists taken together, so far and with the next elements
-use Rattle.std.proofs.Common.{◌≡◌, ℕ, zero, suc, ◌+◌, ◌*◌, ◌<◌, ◌≤◌, List, [], ◌∷◌, ◌++◌, get_or, length, refl, ◌∙◌, ap, arith, take, map, sum_by, zip, add-one}
+use Rattle.std.proofs.Common.{◌≡◌, ℕ, zero, suc, ◌+◌, ◌*◌, ◌<◌, ◌≤◌, List, [], ◌∷◌, ◌++◌, get_or, length, refl, ◌∙◌, ap, arith, take, map, sum_by, zip, add-one, take_all}
 use Rattle.net_core.proofs.Library.{length-map, map-append, sum_by-append, length-zip}
-use Rattle.std.proofs.lemmas.List.{take_all}
 use Rattle.plan_terms.specs.Terms.{Module, Link, AreCounts, capacities, link_cost, modules_capacity, modules_cost, total_cost}
 
 zip_suc : {A B : Type 0} → (xs : List A) (ys : List B) (i : ℕ) (x : A) (y : B) → i < length xs → i < length ys → zip (take (suc i) xs) (take (suc i) ys) ≡ zip (take i xs) (take i ys) ++ (get_or xs i x, get_or ys i y) ∷ []

@@ -1,7 +1,6 @@
 -- one demand after another gets its flow
-use Rattle.std.proofs.Common.{◌≡◌, ℕ, ◌+◌, ◌<◌, ◌≤◌, List, [], ◌∷◌, ◌++◌, All, Any, Some, length, length-append, refl, sym, ◌∙◌, ap, subst, arith, slice_get, sum_by, take, ⊎_elim}
+use Rattle.std.proofs.Common.{◌≡◌, ℕ, ◌+◌, ◌<◌, ◌≤◌, List, [], ◌∷◌, ◌++◌, All, Any, Some, length, length-append, refl, sym, ◌∙◌, ap, subst, arith, slice_get, sum_by, take, ⊎_elim, take_all}
 use Rattle.net_core.proofs.Library.{get_or_append_left, sum_by-append, sum_by-cons, sum_by_more, All-push, Any-push, all_pairs_push, cases_eq, get_or_from_slice_get, slice_get_within}
-use Rattle.std.proofs.lemmas.List.{take_all}
 use Rattle.plan_terms.specs.Terms.{Demand, LinkId, Flow, IsLeastFlow, IsLeastRouting, IsLeastPath}
 use Rattle.module_choice.specs.inner.Routes.{AreLeastFlows, TakesDemand}
 

@@ -1,7 +1,6 @@
 -- what a link's setup adds to the cost of counts
-use Rattle.std.proofs.Common.{◌≡◌, ℕ, zero, suc, ◌+◌, ◌<◌, ◌≤◌, ◌||◌, Bool, true, false, if◌then◌else◌, List, [], ◌∷◌, All, refl, ap, arith, ⊎_elim}
+use Rattle.std.proofs.Common.{◌≡◌, ℕ, zero, suc, ◌+◌, ◌<◌, ◌≤◌, ◌||◌, Bool, true, false, if◌then◌else◌, List, [], ◌∷◌, All, refl, ap, arith, ⊎_elim, lt-ltb}
 use Rattle.net_core.proofs.Library.{cases_lt, All-head, All-tail}
-use Rattle.std.proofs.lemmas.Bool.{lt-ltb}
 use Rattle.plan_terms.specs.Terms.{Link, Module, installs, link_cost, modules_capacity, modules_cost, Covers, MayCover, Reaches}
 use Rattle.module_choice.specs.Coverings.{IsCovered, IsCovering}
 use Rattle.module_choice.specs.inner.Cheapest.{AreCheapest}

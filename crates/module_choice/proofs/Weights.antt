@@ -1,7 +1,6 @@
 -- what flows bring onto links
-use Rattle.std.proofs.Common.{◌≡◌, ◌≢◌, ℕ, ◌+◌, ◌*◌, ◌<◌, ◌==◌, cond, List, get_or, set, length, sym, ◌∙◌, ap, subst, arith, take, ⊎_elim, get_or-set_same, get_or-set_other}
+use Rattle.std.proofs.Common.{◌≡◌, ◌≢◌, ℕ, ◌+◌, ◌*◌, ◌<◌, ◌==◌, cond, List, get_or, set, length, sym, ◌∙◌, ap, subst, arith, take, ⊎_elim, get_or-set_same, get_or-set_other, eq-eqb, ne_eqb}
 use Rattle.net_core.proofs.Library.{sum_by_more, cases_eq}
-use Rattle.std.proofs.lemmas.Bool.{eq-eqb, ne_eqb}
 use Rattle.plan_terms.specs.Terms.{LinkId}
 use Rattle.module_choice.specs.inner.Routes.{times}
 use Rattle.module_choice.proofs.Numbers.{one_if}

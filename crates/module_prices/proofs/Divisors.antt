@@ -1,9 +1,7 @@
 -- common divisors of costs and setups, module by module and link by link, and quotients that are rounded up
-use Rattle.std.proofs.Common.{◌≡◌, ℕ, ◌+◌, ◌*◌, ◌≤◌, ◌<◌, List, [], ◌∷◌, ◌++◌, length, get_or, map, take, sym, ap, ◌∙◌, subst, arith, append-nil, add-one}
-use Rattle.std.proofs.Math.Seq.{take-suc}
+use Rattle.std.proofs.Common.{◌≡◌, ℕ, ◌+◌, ◌*◌, ◌≤◌, ◌<◌, List, [], ◌∷◌, ◌++◌, length, get_or, map, take, sym, ap, ◌∙◌, subst, arith, append-nil, add-one, take-suc, mul-le-mul_right}
 use Rattle.net_core.proofs.Library.{map-append, flat_map-append, IsGcd}
 use Rattle.std.proofs.lemmas.Grind.{div_ceil_times}
-use Rattle.std.proofs.Math.Nat.{mul-le-mul_right}
 use Rattle.std.specs.Int.{div_ceil}
 use Rattle.plan_terms.specs.Terms.{Link, Module, IsGreatestDivisor, with_setup, link_charges, charges}
 use Rattle.plan_terms.proofs.Lemmas.{divisor_none, divisor_both, divisor_one, divisor_limit, quotient_least}

@@ -1,7 +1,6 @@
 -- fractions in lowest terms, as rows of one number
-use Rattle.std.proofs.Common.{ℕ, zero, suc, pos, ◌≡◌, ◌*◌, ◌<◌, ◌≤◌, unsigned_abs, sym, ap, ◌∙◌, arith}
+use Rattle.std.proofs.Common.{ℕ, zero, suc, pos, ◌≡◌, ◌*◌, ◌<◌, ◌≤◌, unsigned_abs, sym, ap, ◌∙◌, arith, mul-le-mul_left}
 use Rattle.net_core.proofs.Library.{ints, unsigned_abs-mul}
-use Rattle.std.proofs.Math.Nat.{mul-le-mul_left}
 use Rattle.checked_fraction.specs.Terms.{IsReduced}
 use Rattle.checked_fraction.proofs.Once.{times_reduced}
 use Rattle.plan_terms.specs.Terms.{IsLowest}

@@ -1,7 +1,6 @@
 -- what is left of the legs with a test
-use Rattle.std.proofs.Common.{◌≡◌, ◌≢◌, ℕ, zero, suc, ◌+◌, ◌-◌, ◌<◌, ◌≤◌, Bool, true, false, cond, List, [], ◌∷◌, length, get_or, set, eqb, eqb-true, ⊎_elim, refl, ap, subst, arith}
+use Rattle.std.proofs.Common.{◌≡◌, ◌≢◌, ℕ, zero, suc, ◌+◌, ◌-◌, ◌<◌, ◌≤◌, Bool, true, false, cond, List, [], ◌∷◌, length, get_or, set, eqb, eqb-true, ⊎_elim, refl, ap, subst, arith, ne_eqb, eq-eqb}
 use Rattle.net_core.proofs.Library.{cases_Bool, cases_eq, sum_by-cons}
-use Rattle.std.proofs.lemmas.Bool.{ne_eqb, eq-eqb}
 use Rattle.path_split.specs.declared.leg.Leg.{Leg}
 use Rattle.path_split.specs.inner.Legs.{due, leaves, leg_at, leg_sum, nums, picked}
 

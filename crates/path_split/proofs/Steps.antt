@@ -1,6 +1,5 @@
 -- what is left when a path or a circle has been taken off
-use Rattle.std.proofs.Common.{◌≡◌, ◌≢◌, ℕ, ◌+◌, ◌<◌, ◌≤◌, inl, inr, Bool, cond, List, [], ◌∷◌, ◌++◌, length, get_or, drop, sum_by, ⊎_elim, refl, sym, ap, subst, ◌∙◌, arith, length-append, All, Any}
-use Rattle.std.proofs.lemmas.Bool.{eq-eqb}
+use Rattle.std.proofs.Common.{◌≡◌, ◌≢◌, ℕ, ◌+◌, ◌<◌, ◌≤◌, inl, inr, Bool, cond, List, [], ◌∷◌, ◌++◌, length, get_or, drop, sum_by, ⊎_elim, refl, sym, ap, subst, ◌∙◌, arith, length-append, All, Any, eq-eqb}
 use Rattle.net_core.proofs.Library.{All-push, sum_by_push}
 use Rattle.plan_terms.specs.Terms.{names_link, IsPath}
 use Rattle.path_split.specs.declared.arc.PathFlow.{PathFlow}

@@ -1,7 +1,6 @@
 -- lengths that a state keeps as they are, and their one right side
-use Rattle.std.proofs.Common.{◌≡◌, ◌≢◌, ℕ, ◌*◌, List, All, length, get_or, sym, ap, subst, arith, ⊎_elim}
+use Rattle.std.proofs.Common.{◌≡◌, ◌≢◌, ℕ, ◌*◌, List, All, length, get_or, sym, ap, subst, arith, ⊎_elim, ext_get_or}
 use Rattle.net_core.proofs.Library.{dvd-mul_right, cases_eq, get_or_default, dvd-zero, dvd_antisymm, ◌∣◌}
-use Rattle.std.proofs.lemmas.List.{ext_get_or}
 use Rattle.plan_terms.specs.Terms.{Graph, Survives, IsGreatestDivisor, AreKept, AreZero, Keeps}
 
 module _ (g : Graph) (lengths : List ℕ) (kept : AreKept g lengths) where

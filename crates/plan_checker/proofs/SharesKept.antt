@@ -1,7 +1,6 @@
 -- what a share gives and costs, link by link
-use Rattle.std.proofs.Common.{◌≡◌, ℕ, zero, suc, ◌+◌, ◌*◌, ◌<◌, ◌⊎◌, ◌↔◌, ◌++◌, Bool, IsTrue, inl, inr, List, [], ◌∷◌, Some, All, IfOk, Result, Ok, Err, length, length-append, get_or, refl, sym, ap, subst, ◌∙◌, arith, slice_get, sum_by, ⊎_elim}
+use Rattle.std.proofs.Common.{◌≡◌, ℕ, zero, suc, ◌+◌, ◌*◌, ◌<◌, ◌⊎◌, ◌↔◌, ◌++◌, Bool, IsTrue, inl, inr, List, [], ◌∷◌, Some, All, IfOk, Result, Ok, Err, length, length-append, get_or, refl, sym, ap, subst, ◌∙◌, arith, slice_get, sum_by, ⊎_elim, ext_get_or}
 use Rattle.net_core.proofs.Library.{cases_eq, sum_by_push, get_or_from_slice_get, slice_get_within}
-use Rattle.std.proofs.lemmas.List.{ext_get_or}
 use Rattle.plan_terms.specs.Terms.{Case, IsModule, NoMemory, Link, Module, IsUnitPair}
 use Rattle.plan_types.specs.declared.plan.Plan.{Plan}
 use Rattle.plan_types.specs.declared.quality.Fractional.{Fractional}

@@ -1,8 +1,7 @@
 -- raw values and bounds
-use Rattle.std.proofs.Common.{◌≡◌, ℕ, ◌*◌, ◌==◌, IsTrue, Ordering, nat_cmp, refl, sym, subst, ◌∙◌, arith, ⊎_elim}
+use Rattle.std.proofs.Common.{◌≡◌, ℕ, ◌*◌, ◌==◌, IsTrue, Ordering, nat_cmp, refl, sym, subst, ◌∙◌, arith, ⊎_elim, Less, Equal, Greater}
 use Rattle.net_core.proofs.Library.{eq-one_of_dvd-one, cases_lt, false≢true, nat_cmp_is, ◌∣◌, IsGcd}
 use Rattle.std.specs.Ordering.{ordering_index}
-use Rattle.std.specs.declared.cmp.Ordering.TheVariants.{Less, Equal, Greater}
 use Rattle.plan_terms.specs.Terms.{IsLowest}
 
 -- two numbers that compare as equal

@@ -1,8 +1,6 @@
 -- what a planning begins with, state by state
-use Rattle.std.proofs.Common.{◌≡◌, ◌==◌, ℕ, ◌+◌, ◌<◌, ◌≤◌, ◌⊎◌, List, [], ◌∷◌, ◌++◌, Bool, true, false, true≢false, ◌&&◌, cond, Option, None, Some, All, AllPairs, Contains, length, get_or, slice_index_or, inl, inr, refl, sym, ap, ◌∙◌, arith, subst, ⊎_elim}
+use Rattle.std.proofs.Common.{◌≡◌, ◌==◌, ℕ, ◌+◌, ◌<◌, ◌≤◌, ◌⊎◌, List, [], ◌∷◌, ◌++◌, Bool, true, false, true≢false, ◌&&◌, cond, Option, None, Some, All, AllPairs, Contains, length, get_or, slice_index_or, inl, inr, refl, sym, ap, ◌∙◌, arith, subst, ⊎_elim, eq-eqb, append_assoc, append-nil, length-append}
 use Rattle.net_core.proofs.Library.{pointwise, cases_eq, All-append, All-nil, All-push, All-weaker, Contains-append_left, Contains-get_or, Contains-push, Any-push, all_pairs_push}
-use Rattle.std.proofs.lemmas.Bool.{eq-eqb}
-use Rattle.std.proofs.lemmas.List.{append_assoc, append-nil, length-append}
 use Rattle.plan_terms.specs.Terms.{StateId, CutLine, Case, graph_in, Graph, IsCut, AreOpening, each_once}
 use Rattle.master_law.specs.Terms.{IsSameCut}
 use Rattle.plan_law.specs.WorkedLists.{AreDifferentCuts, HasCut, HasOpeningOf, IsBeginning, IsOpeningCut, Lacks, OpensBefore}

@@ -1,7 +1,6 @@
 -- no certificate has a greater raw value than a tight plan: its share is carried in each state, so it violates no cut
-use Rattle.std.proofs.Common.{◌≡◌, ℕ, ◌*◌, ◌<◌, ◌≤◌, List, [], ◌∷◌, length, get_or, refl, sym, ap, arith, subst}
+use Rattle.std.proofs.Common.{◌≡◌, ℕ, ◌*◌, ◌<◌, ◌≤◌, List, [], ◌∷◌, length, get_or, refl, sym, ap, arith, subst, mul-le-mul_left}
 use Rattle.net_core.proofs.Library.{slice_get-get_or, le_of_mul-le-mul_left}
-use Rattle.std.proofs.Math.Nat.{mul-le-mul_left}
 use Rattle.module_prices.specs.declared.cheapest.UnitPair.{UnitPair}
 use Rattle.plan_terms.specs.Terms.{Link, CutLine, Routing, Case, graph_in, IsCut, raw_value, Violates}
 use Rattle.plan_types.specs.declared.quality.Fractional.{Fractional}

@@ -1,7 +1,6 @@
 -- pairs of the items of two lists, one after the other
-use Rattle.std.proofs.Common.{◌≡◌, ℕ, ◌+◌, ◌-◌, ◌<◌, ◌≤◌, List, ◌++◌, AllPairs, Any, length, min, take, get_or, sym, ◌∙◌, arith, subst, ⊎_elim}
+use Rattle.std.proofs.Common.{◌≡◌, ℕ, ◌+◌, ◌-◌, ◌<◌, ◌≤◌, List, ◌++◌, AllPairs, Any, length, min, take, get_or, sym, ◌∙◌, arith, subst, ⊎_elim, get_or-append-add, get_or-take, length-append, length-take}
 use Rattle.net_core.proofs.Library.{cases_lt, get_or_append_left}
-use Rattle.std.proofs.lemmas.List.{get_or-append-add, get_or-take, length-append, length-take}
 
 -- the later part of a list
 append_right : {X : Type 0} (xs ys : List X) (j : ℕ) (d : X) → length xs ≤ j → get_or (xs ++ ys) j d ≡ get_or ys (j - length xs) d

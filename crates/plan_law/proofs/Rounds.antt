@@ -1,6 +1,5 @@
 -- a round after a worked list makes a worked list
-use Rattle.std.proofs.Common.{◌≡◌, ◌≢◌, ℕ, ◌+◌, ◌*◌, ◌<◌, ◌≤◌, List, [], ◌∷◌, ◌++◌, All, Contains, length, min, take, sum_by, zip, get_or, refl, sym, ap, ◌∙◌, arith, subst}
-use Rattle.std.proofs.lemmas.List.{append_assoc, length-append, length-take}
+use Rattle.std.proofs.Common.{◌≡◌, ◌≢◌, ℕ, ◌+◌, ◌*◌, ◌<◌, ◌≤◌, List, [], ◌∷◌, ◌++◌, All, Contains, length, min, take, sum_by, zip, get_or, refl, sym, ap, ◌∙◌, arith, subst, append_assoc, length-append, length-take}
 use Rattle.net_core.proofs.Library.{All-append, All-take, All-weaker, Contains-append_right, Contains-get_or}
 use Rattle.plan_terms.specs.Terms.{CutLine, Case, graph_in, Joins, IsCut, IsRight, Violates}
 use Rattle.module_prices.specs.declared.cheapest.UnitPair.{UnitPair}

@@ -1,7 +1,6 @@
 -- cuts as they are added to the list
-use Rattle.std.proofs.Common.{◌≡◌, ◌≢◌, ◌^◌, ◌<◌, ◌≤◌, inl, inr, ⊎_elim, List, [], ◌++◌, AllPairs, Some, get_or, length, map, take, drop, slice_get, sym, ap, subst, ◌∙◌, arith, option_map}
+use Rattle.std.proofs.Common.{◌≡◌, ◌≢◌, ◌^◌, ◌<◌, ◌≤◌, inl, inr, ⊎_elim, List, [], ◌++◌, AllPairs, Some, get_or, length, map, take, drop, slice_get, sym, ap, subst, ◌∙◌, arith, option_map, take-append-drop}
 use Rattle.net_core.proofs.Library.{get_or-map, length-map, All-push, all_pairs_push, slice_get-map, slice_get_within}
-use Rattle.std.proofs.lemmas.List.{take-append-drop}
 use Rattle.plan_terms.specs.Terms.{Demand, Entry, Network, CutLine, States, Case, graph_in, case, IsCut}
 use Rattle.plan_types.specs.declared.certificate.Spot.{Spot}
 use Rattle.plan_types.specs.declared.certificate.Spot.TheVariants.{Pool}

@@ -1,6 +1,5 @@
 -- opening cuts, taken one after another
-use Rattle.std.proofs.Common.{◌≡◌, ℕ, ◌+◌, ◌≤◌, ⊎_elim, List, [], ◌∷◌, ◌++◌, All, length, map, sym, ap, subst, ◌∙◌, arith}
-use Rattle.std.proofs.lemmas.List.{append_assoc, append-nil, length-append}
+use Rattle.std.proofs.Common.{◌≡◌, ℕ, ◌+◌, ◌≤◌, ⊎_elim, List, [], ◌∷◌, ◌++◌, All, length, map, sym, ap, subst, ◌∙◌, arith, append_assoc, append-nil, length-append}
 use Rattle.net_core.proofs.Library.{length-map, All-tail}
 use Rattle.plan_terms.specs.Terms.{Demand, CutLine, Case, graph_in, Graph, AreOpening, each_once}
 use Rattle.metric_cut.specs.Cuts.{IsCutOf}

@@ -1,7 +1,6 @@
 -- a separator that alone writes its history: what it pools is a worked list
-use Rattle.std.proofs.Common.{◌≡◌, ◌≢◌, ℕ, zero, suc, ◌+◌, ◌<◌, ◌≤◌, ◌⊎◌, inl, inr, ⊎_elim, List, [], ◌∷◌, ◌++◌, All, AllPairs, Contains, get_or, length, map, drop, refl, sym, ap, subst, ◌∙◌, arith}
+use Rattle.std.proofs.Common.{◌≡◌, ◌≢◌, ℕ, zero, suc, ◌+◌, ◌<◌, ◌≤◌, ◌⊎◌, inl, inr, ⊎_elim, List, [], ◌∷◌, ◌++◌, All, AllPairs, Contains, get_or, length, map, drop, refl, sym, ap, subst, ◌∙◌, arith, append-nil, get_or-append-add, length-append}
 use Rattle.net_core.proofs.Library.{take-length, get_or_append_left, get_or-map, length-map, map-append, nil_from_length, All-cons, All-head, All-nil, All-tail, All-weaker, get_or_from_slice_get, slice_get_within}
-use Rattle.std.proofs.lemmas.List.{append-nil, get_or-append-add, length-append}
 use Rattle.plan_terms.specs.Terms.{Demand, Entry, Edited, Pooled, Link, Network, Caps, CutLine, States, Case, case, IsCut, MasterColumn}
 use Rattle.module_prices.specs.declared.cheapest.UnitPair.{UnitPair}
 use Rattle.plan_types.specs.declared.quality.Share.{Share}

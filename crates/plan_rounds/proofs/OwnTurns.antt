@@ -1,7 +1,6 @@
 -- a turn of a separator that alone writes its history
-use Rattle.std.proofs.Common.{◌≡◌, ◌≢◌, ℕ, zero, suc, ◌+◌, ◌<◌, ◌≤◌, ◌⊎◌, inl, inr, ⊎_elim, Bool, true, false, List, [], ◌∷◌, ◌++◌, All, AllPairs, Contains, get_or, length, map, take, refl, sym, ap, subst, ◌∙◌, arith}
+use Rattle.std.proofs.Common.{◌≡◌, ◌≢◌, ℕ, zero, suc, ◌+◌, ◌<◌, ◌≤◌, ◌⊎◌, inl, inr, ⊎_elim, Bool, true, false, List, [], ◌∷◌, ◌++◌, All, AllPairs, Contains, get_or, length, map, take, refl, sym, ap, subst, ◌∙◌, arith, length-append, take_all}
 use Rattle.net_core.proofs.Library.{∥∥₁_elim, props, cases_eq, get_or-map, length-map, All-append, All-contains, All-map, All-nil, All-weaker, Contains-append_cases, Contains-append_left, Contains-append_right, Contains-get_or, get_or_from_slice_get, slice_get-get_or, slice_get_within}
-use Rattle.std.proofs.lemmas.List.{length-append, take_all}
 use Rattle.plan_terms.specs.Terms.{Caps, Entry, Network, CutLine, States, Case, graph_in, Joins, IsCut, IsRight}
 use Rattle.module_prices.specs.declared.cheapest.UnitPair.{UnitPair}
 use Rattle.plan_terms.proofs.Lemmas.{right_once}

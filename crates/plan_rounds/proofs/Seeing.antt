@@ -1,6 +1,5 @@
 -- histories that a separator has seen, as they grow, and the spots of cuts in them
-use Rattle.std.proofs.Common.{◌≡◌, ◌≢◌, ℕ, zero, suc, ◌<◌, ◌≤◌, ⊎_elim, List, [], ◌∷◌, ◌++◌, AllPairs, Some, length, take, slice_get, refl, sym, subst, ◌∙◌, arith}
-use Rattle.std.proofs.lemmas.List.{append_assoc, append-nil, length-append}
+use Rattle.std.proofs.Common.{◌≡◌, ◌≢◌, ℕ, zero, suc, ◌<◌, ◌≤◌, ⊎_elim, List, [], ◌∷◌, ◌++◌, AllPairs, Some, length, take, slice_get, refl, sym, subst, ◌∙◌, arith, append_assoc, append-nil, length-append}
 use Rattle.net_core.proofs.Library.{all_pairs_push}
 use Rattle.plan_terms.specs.Terms.{Entry, Edited, Pooled, CutLine, Case}
 use Rattle.plan_types.specs.declared.certificate.Spot.{Spot}

@@ -1,7 +1,6 @@
 -- turns of the rounds
-use Rattle.std.proofs.Common.{◌≡◌, ℕ, zero, suc, ◌+◌, ◌-◌, ◌*◌, ◌^◌, ◌<◌, ◌≤◌, ◌⊎◌, inl, inr, ⊎_elim, List, [], ◌∷◌, ◌++◌, All, AllPairs, Option, Some, None, get_or, length, min, take, slice_get, refl, sym, ap, subst, ◌∙◌, arith}
+use Rattle.std.proofs.Common.{◌≡◌, ℕ, zero, suc, ◌+◌, ◌-◌, ◌*◌, ◌^◌, ◌<◌, ◌≤◌, ◌⊎◌, inl, inr, ⊎_elim, List, [], ◌∷◌, ◌++◌, All, AllPairs, Option, Some, None, get_or, length, min, take, slice_get, refl, sym, ap, subst, ◌∙◌, arith, length-append, length-take}
 use Rattle.net_core.proofs.Library.{ints, All-append, All-take, All-weaker, Contains-get_or}
-use Rattle.std.proofs.lemmas.List.{length-append, length-take}
 use Rattle.plan_terms.specs.Terms.{Evidence, Route, Master, Entry, Caps, CutLine, Case, graph_in, AreDemands, Joins, IsModule, IsNetwork, IsCut, Carries, Violates, HasShortLengths}
 use Rattle.module_prices.specs.declared.cheapest.UnitPair.{UnitPair}
 use Rattle.plan_types.specs.declared.certificate.Spot.{Spot}

@@ -1,6 +1,5 @@
 -- counts of which those of one link change
-use Rattle.std.proofs.Common.{◌≡◌, ◌∙◌, ℕ, zero, suc, List, [], ◌∷◌, get_or, length}
-use Rattle.std.proofs.Math.ListN.{set}
+use Rattle.std.proofs.Common.{◌≡◌, ◌∙◌, ℕ, zero, suc, List, [], ◌∷◌, get_or, length, set}
 use Rattle.plan_terms.specs.Terms.{Link, AreCounts}
 
 pub shape_set : (links : List Link) (counts : List (List ℕ)) (e : ℕ) (c past : List ℕ) → length c ≡ length (get_or counts e past) → AreCounts links counts → AreCounts links (set counts e c)

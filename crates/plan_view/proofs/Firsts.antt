@@ -1,6 +1,5 @@
 -- the first of the greatest fractions, one fraction after another
-use Rattle.std.proofs.Common.{◌≡◌, ℕ, ◌+◌, ◌*◌, ◌<◌, ◌≤◌, sym, ap, subst, arith, ⊎_elim}
-use Rattle.std.proofs.Math.Nat.{mul-le-mul, mul-le-mul_right}
+use Rattle.std.proofs.Common.{◌≡◌, ℕ, ◌+◌, ◌*◌, ◌<◌, ◌≤◌, sym, ap, subst, arith, ⊎_elim, mul-le-mul, mul-le-mul_right}
 use Rattle.net_core.proofs.Library.{cases_lt}
 use Rattle.plan_view.specs.Loads.{IsFirstOfGreatest}
 

@@ -1,7 +1,5 @@
 -- what is known of the routings of a sound plan
-use Rattle.std.proofs.Common.{◌≡◌, ℕ, ◌+◌, ◌*◌, ◌^◌, ◌<◌, ◌≤◌, ◌==◌, ◌&&◌, Bool, true, false, if◌then◌else◌, List, [], All, None, zip, get_or, length, sym, ap, ◌∙◌, subst, arith, slice_index, ⊎_elim}
-use Rattle.std.proofs.Math.Nat.{mul-le-mul}
-use Rattle.std.proofs.lemmas.Bool.{eq-eqb, ne_eqb}
+use Rattle.std.proofs.Common.{◌≡◌, ℕ, ◌+◌, ◌*◌, ◌^◌, ◌<◌, ◌≤◌, ◌==◌, ◌&&◌, Bool, true, false, if◌then◌else◌, List, [], All, None, zip, get_or, length, sym, ap, ◌∙◌, subst, arith, slice_index, ⊎_elim, mul-le-mul, eq-eqb, ne_eqb}
 use Rattle.std.proofs.lemmas.List.Sums.{sum_by-le-sum_by}
 use Rattle.std.specs.Cmp.Lexicographic.{pointwise}
 use Rattle.net_core.proofs.Library.{cases_eq, cases_lt, get_or-map, get_or_default, get_or-zip, get_or_past, length-zip, props, slice_get-get_or, ∥∥₁_elim}

@@ -1,6 +1,5 @@
 -- fractions rounded to whole numbers
-use Rattle.std.proofs.Common.{◌≡◌, ℕ, ◌+◌, ◌-◌, ◌*◌, ◌<◌, ◌≤◌, ap, arith, ⊎_elim}
-use Rattle.std.proofs.Math.Nat.{mul-le-mul_right}
+use Rattle.std.proofs.Common.{◌≡◌, ℕ, ◌+◌, ◌-◌, ◌*◌, ◌<◌, ◌≤◌, ap, arith, ⊎_elim, mul-le-mul_right}
 use Rattle.net_core.proofs.Library.{cases_lt}
 use Rattle.plan_view.specs.Rounding.{IsCeiling}
 

@@ -1,8 +1,7 @@
 -- the bound of the best candidate is certified, and at least the own bound of each
-use Rattle.std.proofs.Common.{◌≡◌, ℕ, zero, suc, ◌-◌, ◌*◌, ◌^◌, ◌<◌, ◌≤◌, ⊎_elim, List, [], ◌∷◌, All, Some, get_or, length, slice_get, refl, sym, ap, subst, ◌∙◌, arith}
+use Rattle.std.proofs.Common.{◌≡◌, ℕ, zero, suc, ◌-◌, ◌*◌, ◌^◌, ◌<◌, ◌≤◌, ⊎_elim, List, [], ◌∷◌, All, Some, get_or, length, slice_get, refl, sym, ap, subst, ◌∙◌, arith, mul-le-mul_left}
 use Rattle.net_core.proofs.Library.{◌∣◌, ∥∥₁_elim, ∥∥₁_map, props, All-nil, All-get_or, dvd-zero, get_or_from_slice_get, slice_get_within, dvd-mul_left, eq-one_of_dvd-one, le_of_mul-le-mul_left}
 use Rattle.std.proofs.lemmas.Nat.Gcd.{le_of_dvd}
-use Rattle.std.proofs.Math.Nat.{mul-le-mul_left}
 use Rattle.plan_terms.specs.Terms.{Entry, Link, CutLine, Case, IsNetwork, IsBound, IsLowest, IsCertificate, fixed_along, IsOwnBound}
 use Rattle.plan_terms.proofs.Lemmas.{bound_same, lowest_positive, alone, certificate_alone, empty_certificate, empty_raw, own_bound_unique, product_below, raw_alone}
 use Rattle.plan_types.specs.declared.certificate.CertLine.{CertLine}

@@ -1,8 +1,6 @@
 -- the greater of two bounds, that of a best certificate and that of the best cut alone, is certified
-use Rattle.std.proofs.Common.{◌≡◌, ℕ, ◌*◌, ◌^◌, ◌<◌, ◌≤◌, ⊎_elim, List, [], ◌∷◌, ◌++◌, All, Some, get_or, length, map, slice_get, refl, sym, ap, subst, ◌∙◌, arith}
+use Rattle.std.proofs.Common.{◌≡◌, ℕ, ◌*◌, ◌^◌, ◌<◌, ◌≤◌, ⊎_elim, List, [], ◌∷◌, ◌++◌, All, Some, get_or, length, map, slice_get, refl, sym, ap, subst, ◌∙◌, arith, mul-le-mul_left, length-append}
 use Rattle.net_core.proofs.Library.{◌∣◌, le_of_mul-le-mul_left, get_or_append_left, length-map, All-cons, All-head, All-map, All-nil, All-tail, get_or_from_slice_get, slice_get-get_or, slice_get_within}
-use Rattle.std.proofs.Math.Nat.{mul-le-mul_left}
-use Rattle.std.proofs.lemmas.List.{length-append}
 use Rattle.plan_terms.specs.Terms.{Entry, Link, CutLine, Case, IsBound, IsLowest, CertificateLine, IsCertificate, IsCut, raw_value, HasShortLengths}
 use Rattle.plan_terms.proofs.Lemmas.{lowest_positive}
 use Rattle.plan_types.specs.declared.certificate.CertLine.{CertLine}

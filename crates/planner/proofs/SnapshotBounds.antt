@@ -1,7 +1,6 @@
 -- the bound of a plan of a snapshot: certified, and at least all own bounds
-use Rattle.std.proofs.Common.{◌≡◌, ℕ, ◌+◌, ◌*◌, ◌<◌, ◌≤◌, inl, inr, ⊎_elim, List, [], ◌∷◌, ◌++◌, All, Contains, ◌⊎◌, Option, Some, None, IfSome, get_or, length, map, slice_get, refl, sym, ap, subst, ◌∙◌, arith}
+use Rattle.std.proofs.Common.{◌≡◌, ℕ, ◌+◌, ◌*◌, ◌<◌, ◌≤◌, inl, inr, ⊎_elim, List, [], ◌∷◌, ◌++◌, All, Contains, ◌⊎◌, Option, Some, None, IfSome, get_or, length, map, slice_get, refl, sym, ap, subst, ◌∙◌, arith, append-nil, append_assoc}
 use Rattle.net_core.proofs.Library.{cases_eq, All-map, All-weaker, Contains-append_left, Contains-get_or, get_or_from_slice_get, slice_get-get_or, slice_get_within}
-use Rattle.std.proofs.lemmas.List.{append-nil, append_assoc}
 use Rattle.plan_terms.specs.Terms.{Entry, CutLine, Case, IsNetwork, IsBound, CertificateLine, IsCut, raw_value, HasShortLengths}
 use Rattle.plan_terms.proofs.Lemmas.{bound_same}
 use Rattle.plan_types.specs.Terms.{lines_of_certificate}

@@ -1,7 +1,6 @@
 -- what planning for a snapshot knows, from what it was given
-use Rattle.std.proofs.Common.{◌≡◌, ℕ, ◌≤◌, List, All, IfSome, get_or, length, take, drop, sym, ap, subst, ◌∙◌, arith}
+use Rattle.std.proofs.Common.{◌≡◌, ℕ, ◌≤◌, List, All, IfSome, get_or, length, take, drop, sym, ap, subst, ◌∙◌, arith, length-append, take-append-drop}
 use Rattle.net_core.proofs.Library.{∥∥₁_elim, ∥∥₁_map, take-length, props, length-map}
-use Rattle.std.proofs.lemmas.List.{length-append, take-append-drop}
 use Rattle.plan_terms.specs.Terms.{Entry, Network, CutLine, States, Case, graph_in, AreDemands, IsNetwork, case, AreWithinLimits, IsCut, IsFallback, HasShortLengths}
 use Rattle.plan_types.specs.declared.plan.Plan.{Plan}
 use Rattle.cut_pool.specs.Terms.{cut_of_line, cuts_of, IsSnapshotOf, opening_case}

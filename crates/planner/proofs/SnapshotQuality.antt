@@ -1,7 +1,6 @@
 -- the quality of a plan of a snapshot is right, and in form
-use Rattle.std.proofs.Common.{◌≡◌, ℕ, pos, ◌+◌, ◌*◌, ◌<◌, ◌≤◌, ◌<ℤ◌, inl, inr, ⊎_elim, List, [], ◌∷◌, ◌++◌, All, Option, Some, None, IfSome, get_or, length, refl, sym, subst, arith}
+use Rattle.std.proofs.Common.{◌≡◌, ℕ, pos, ◌+◌, ◌*◌, ◌<◌, ◌≤◌, ◌<ℤ◌, inl, inr, ⊎_elim, List, [], ◌∷◌, ◌++◌, All, Option, Some, None, IfSome, get_or, length, refl, sym, subst, arith, append-nil}
 use Rattle.net_core.proofs.Library.{ints, slice_get-get_or}
-use Rattle.std.proofs.lemmas.List.{append-nil}
 use Rattle.plan_terms.specs.Terms.{Evidence, Route, Master, RouteColumn, WideKind, StateId, Caps, CutLine, Routing, Case, graph_in, AreDemands, IsNetwork, IsCut, HasShortLengths}
 use Rattle.module_prices.specs.declared.cheapest.UnitPair.{UnitPair}
 use Rattle.plan_types.specs.declared.plan.Plan.{Plan}

@@ -1,9 +1,6 @@
 -- Reports of sessions are in form.
 use Rattle.std.proofs.Common.{List}
-use Rattle.net_core.specs.declared.demand.Demand.{Demand}
-use Rattle.net_core.specs.declared.network.Network.{Network}
-use Rattle.net_core.specs.declared.network.Notes.{Notes}
-use Rattle.net_core.specs.declared.states.States.{States}
+use Rattle.plan_terms.specs.Terms.{Demand, Network, Notes, States}
 use Rattle.net_core.specs.Terms.{case}
 use Rattle.plan_report.specs.Terms.{IsReportInForm, known_of}
 use Rattle.plan_types.specs.declared.report.Report.{Report}

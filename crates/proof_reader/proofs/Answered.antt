@@ -1,6 +1,5 @@
 -- what was answered of the comment lines of a network's tree
-use Rattle.std.proofs.Common.{◌≡◌, ◌≢◌, ℕ, ◌≤◌, List, length, Result, Ok, Err, AllPairs, IfErr, IfOk, ap, arith, subst, ⊎_elim}
-use Rattle.std.proofs.lemmas.List.{length-take}
+use Rattle.std.proofs.Common.{◌≡◌, ◌≢◌, ℕ, ◌≤◌, List, length, Result, Ok, Err, AllPairs, IfErr, IfOk, ap, arith, subst, ⊎_elim, length-take}
 use Rattle.net_core.proofs.Library.{∥∥₁_elim, cases_lt}
 use Rattle.plan_terms.specs.Terms.{Demand, IsNetwork, Link}
 use Rattle.plan_report.specs.Terms.{KnownNames}

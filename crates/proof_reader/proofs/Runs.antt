@@ -5,8 +5,7 @@ use Rattle.net_core.proofs.Checks.{same_is}
 use Rattle.snd_tokens.specs.declared.whole_number.WholeFault.{WholeFault}
 use Rattle.snd_tokens.specs.declared.whole_number.WholeFault.TheVariants.{NotANumber}
 use Rattle.snd_tokens.specs.Terms.{Text, WordAt, OpenAt, CloseAt, EndAt, size, whole_of}
-use Rattle.text_kit.specs.Items.{AreSpelled, ComeAfter, Item, Verbatim, Whole, Money, Opening, Closing, Begins}
-use Rattle.text_kit.specs.Places.{place}
+use Rattle.text_kit.specs.Terms.{AreSpelled, ComeAfter, Item, Verbatim, Whole, Money, Opening, Closing, Begins, place}
 use Rattle.text_kit.specs.Reading.{Read, Reading, after, ended_or, placed, sound}
 use Rattle.text_kit.proofs.Beginnings.{AnyText, IsEnd, begins_both, begins_parts, begins_size, sound_ok}
 use Rattle.text_kit.proofs.Lemmas.{TakesSome, SpelledAfter, after_parts, law_spelled, parts_after, spelled_as, spelled_law, Spelled}

@@ -1,6 +1,5 @@
 -- The reading of all comment lines of a tree takes exactly the texts that spell it.
-use Rattle.std.proofs.Common.{◌≡◌, ℕ, ◌+◌, ◌≤◌, ◌==◌, Bool, true, false, cond, List, [], ◌∷◌, ◌++◌, length, All, Result, Ok, Err, refl, sym, ap, subst, ◌∙◌, arith, append-nil, append_assoc, length-append, map, zip, IfOk}
-use Rattle.std.proofs.lemmas.Bool.{eqb-true, eq-eqb}
+use Rattle.std.proofs.Common.{◌≡◌, ℕ, ◌+◌, ◌≤◌, ◌==◌, Bool, true, false, cond, List, [], ◌∷◌, ◌++◌, length, All, Result, Ok, Err, refl, sym, ap, subst, ◌∙◌, arith, append-nil, append_assoc, length-append, map, zip, IfOk, eqb-true, eq-eqb}
 use Rattle.net_core.proofs.Library.{All-cons, All-head, All-nil, All-tail, false≢true, range_with_len}
 use Rattle.plan_terms.specs.Terms.{CutLine, Demand}
 use Rattle.plan_report.specs.Terms.{KnownNames}

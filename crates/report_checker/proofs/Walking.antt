@@ -1,8 +1,6 @@
 -- a walk with one entry more
-use Rattle.std.proofs.Common.{◌≡◌, ◌∙◌, ℕ, ◌+◌, ◌-◌, ◌^◌, ◌<◌, ◌≤◌, suc, Bool, List, [], ◌∷◌, ◌++◌, IsTrue, ◌↔◌, length, get_or, take, take-suc, nat_eq, sym, ap, subst, arith, IfOk, OnOk, Result, Ok, Err}
-use Rattle.std.proofs.lemmas.Bool.{eq-eqb, eqb-true}
+use Rattle.std.proofs.Common.{◌≡◌, ◌∙◌, ℕ, ◌+◌, ◌-◌, ◌^◌, ◌<◌, ◌≤◌, suc, Bool, List, [], ◌∷◌, ◌++◌, IsTrue, ◌↔◌, length, get_or, take, take-suc, nat_eq, sym, ap, subst, arith, IfOk, OnOk, Result, Ok, Err, eq-eqb, eqb-true, append-nil, length-append, length-take-le}
 use Rattle.net_core.proofs.Library.{flat_map-append}
-use Rattle.std.proofs.lemmas.List.{append-nil, length-append, length-take-le}
 use Rattle.plan_terms.specs.Terms.{Edit, Entry, Edited, Pooled, Reply, StateId, NoMemory, Case, edit_reply, version_after}
 use Rattle.cut_pool.specs.Terms.{Dated, cuts_of, demands_left, left_by, left_by_entry, pooled_by, version_left}
 use Rattle.cut_pool.proofs.Growing.{left_more}

@@ -1,7 +1,5 @@
 -- The capacity of a link grows module by module.
-use Rattle.std.proofs.Common.{◌≡◌, ℕ, suc, ◌+◌, ◌*◌, ◌<◌, ◌≤◌, min, nat_lt, List, [], ◌∷◌, ◌++◌, length, length-take, take, get_or, true, false, Some, refl, sym, ap, subst, ◌∙◌, arith, zip, slice_get}
-use Rattle.std.proofs.Math.Seq.{take-suc}
-use Rattle.std.proofs.lemmas.Bool.{lt-ltb, le-ltb, ltb-true, ltb-false}
+use Rattle.std.proofs.Common.{◌≡◌, ℕ, suc, ◌+◌, ◌*◌, ◌<◌, ◌≤◌, min, nat_lt, List, [], ◌∷◌, ◌++◌, length, length-take, take, get_or, true, false, Some, refl, sym, ap, subst, ◌∙◌, arith, zip, slice_get, take-suc, lt-ltb, le-ltb, ltb-true, ltb-false}
 use Rattle.net_core.proofs.Library.{sum_by-cons}
 use Rattle.plan_terms.specs.Terms.{Module, modules_capacity}
 

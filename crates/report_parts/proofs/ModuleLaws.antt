@@ -1,6 +1,5 @@
 -- The readings of modules take exactly their texts.
-use Rattle.std.proofs.Common.{◌≡◌, ℕ, suc, ◌+◌, ◌*◌, ◌^◌, ◌<◌, ◌≤◌, ◌&&◌, nat_lt, List, [], ◌∷◌, ◌++◌, length, All, Option, None, Some, Result, Ok, Err, refl, sym, ap, subst, ◌∙◌, arith, append-nil, append_assoc, length-append, codes, flat_map, slice_get, zip}
-use Rattle.std.proofs.lemmas.Bool.{lt-ltb, ltb-true}
+use Rattle.std.proofs.Common.{◌≡◌, ℕ, suc, ◌+◌, ◌*◌, ◌^◌, ◌<◌, ◌≤◌, ◌&&◌, nat_lt, List, [], ◌∷◌, ◌++◌, length, All, Option, None, Some, Result, Ok, Err, refl, sym, ap, subst, ◌∙◌, arith, append-nil, append_assoc, length-append, codes, flat_map, slice_get, zip, lt-ltb, ltb-true}
 use Rattle.net_core.proofs.Library.{and_parts, All-cons, All-nil, All-head, All-tail, sum_by-cons}
 use Rattle.plan_terms.specs.Terms.{Link, Module, AreCounts, AreWithinLimits, capacities, modules_capacity}
 use Rattle.snd_tokens.specs.Terms.{Text, WordAt, OpenAt, CloseAt, EndAt}

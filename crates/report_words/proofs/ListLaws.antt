@@ -1,6 +1,5 @@
 -- Lists between parentheses: of a length, of few elements, and of elements with their numbers.
-use Rattle.std.proofs.Common.{◌≡◌, ℕ, ◌+◌, ◌≤◌, ◌<◌, ◌==◌, true, false, cond, List, [], ◌∷◌, ◌++◌, length, All, Option, None, Some, refl, sym, ap, subst, ◌∙◌, arith, length-append, flat_map}
-use Rattle.std.proofs.lemmas.Bool.{eqb-true, eq-eqb}
+use Rattle.std.proofs.Common.{◌≡◌, ℕ, ◌+◌, ◌≤◌, ◌<◌, ◌==◌, true, false, cond, List, [], ◌∷◌, ◌++◌, length, All, Option, None, Some, refl, sym, ap, subst, ◌∙◌, arith, length-append, flat_map, eqb-true, eq-eqb}
 use Rattle.text_kit.specs.Terms.{ComeAfter, Item, Closing, Reading, ◌>>=◌, list_at, no_fault, of_length, Parenthesis, enclosed}
 use Rattle.text_kit.proofs.Beginnings.{AnyText, Starts}
 use Rattle.text_kit.proofs.Lemmas.{all_after, after_all, after_as, after_few, few_after, lawful_as, lawful_list, SpelledAfter, law_spelled, spelled_as, spelled_law, spelled_list}

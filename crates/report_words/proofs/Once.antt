@@ -1,8 +1,6 @@
 -- Names that are all different are new, one after another.
-use Rattle.std.proofs.Common.{◌≡◌, ◌≢◌, ℕ, suc, ◌<◌, Bool, true, false, List, ◌∷◌, ◌++◌, length, map, take, drop, get_or, AllPairs, sym, ap, subst, ◌∙◌}
+use Rattle.std.proofs.Common.{◌≡◌, ◌≢◌, ℕ, suc, ◌<◌, Bool, true, false, List, ◌∷◌, ◌++◌, length, map, take, drop, get_or, AllPairs, sym, ap, subst, ◌∙◌, drop-cons, take-append-drop}
 use Rattle.net_core.proofs.Library.{∥∥₁_elim, props}
-use Rattle.std.proofs.Math.Seq.{drop-cons}
-use Rattle.std.proofs.lemmas.List.{take-append-drop}
 use Rattle.net_core.specs.Terms.{IsNetwork, are_same, is_named}
 use Rattle.net_core.specs.declared.network.Link.{Link}
 use Rattle.net_core.proofs.Accepted.{new_name}

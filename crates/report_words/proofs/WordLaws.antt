@@ -1,7 +1,6 @@
 -- Which words say a number, an amount or a name of a report.
-use Rattle.std.proofs.Common.{◌≡◌, ◌≢◌, ℕ, ◌+◌, ◌^◌, ◌<◌, ◌≤◌, ◌&&◌, Bool, true, false, cond, nat_le, nat_lt, List, [], ◌∷◌, length, get_or, AllPairs, Result, Ok, Err, refl, sym, ap, subst, ◌∙◌, arith, position}
+use Rattle.std.proofs.Common.{◌≡◌, ◌≢◌, ℕ, ◌+◌, ◌^◌, ◌<◌, ◌≤◌, ◌&&◌, Bool, true, false, cond, nat_le, nat_lt, List, [], ◌∷◌, length, get_or, AllPairs, Result, Ok, Err, refl, sym, ap, subst, ◌∙◌, arith, position, leb-true, le-leb, ltb-true, ltb-false, lt-ltb, le-ltb}
 use Rattle.net_core.proofs.Library.{position_or_len, and_parts, position-Some, position_or_len_is, slice_get-get_or}
-use Rattle.std.proofs.lemmas.Bool.{leb-true, le-leb, ltb-true, ltb-false, lt-ltb, le-ltb}
 use Rattle.net_core.specs.Terms.{are_same, is_named}
 use Rattle.net_core.specs.declared.demand.Demand.{Demand}
 use Rattle.net_core.specs.declared.ids.LinkId.{LinkId}

@@ -1,9 +1,6 @@
 -- where an optimum meets all needs, the flows of its basis carry the demands
-use Rattle.std.proofs.Common.{◌≡◌, ℕ, zero, suc, ◌+◌, ◌*◌, ◌<◌, ◌≤◌, List, [], ◌∷◌, All, Bool, true, false, ◌||◌, cond, eqb, length, slice_index, refl, sym, ap, ◌∙◌, arith, subst, ⊎_elim}
+use Rattle.std.proofs.Common.{◌≡◌, ℕ, zero, suc, ◌+◌, ◌*◌, ◌<◌, ◌≤◌, List, [], ◌∷◌, All, Bool, true, false, ◌||◌, cond, eqb, length, slice_index, refl, sym, ap, ◌∙◌, arith, subst, ⊎_elim, ne_eqb, ℤ, pos, ◌+ℤ◌, ◌*ℤ◌, ◌<ℤ◌, ◌≤ℤ◌}
 use Rattle.net_core.proofs.Library.{AllByRecursion, cases_lt, slice_get_within, get_or_from_slice_get, get_or-map, *ℤ-zero, pos-*ℤ-pos, ints}
-use Rattle.std.proofs.lemmas.Bool.{ne_eqb}
-use Rattle.std.proofs.Math.IntN.{ℤ, pos, ◌+ℤ◌, ◌*ℤ◌}
-use Rattle.std.specs.Int.Signed.{◌<ℤ◌, ◌≤ℤ◌}
 use Rattle.plan_terms.specs.Terms.{RouteColumn, LinkSlack, DemandSlack, Demand, LinkId, Caps, Routing, Graph, Joins, names_link, sum_below, sent, load, IsFlow, Carries}
 use Rattle.net_core.proofs.Sums.{below-same, below-none, below-one, below-times, below-le}
 use Rattle.plan_terms.proofs.Lemmas.{path_links_inside}

@@ -1,7 +1,5 @@
 -- what holds of a state's program at capacities holds of it at their multiple
-use Rattle.std.proofs.Common.{◌≡◌, ℕ, zero, suc, ◌-◌, ◌*◌, ◌<◌, List, [], ◌∷◌, length, map, slice_index, refl, sym, ap, ◌∙◌, arith, subst, ⊎_elim}
-use Rattle.std.proofs.Math.IntN.{ℤ, pos, ◌*ℤ◌}
-use Rattle.std.specs.Int.Signed.{◌<ℤ◌}
+use Rattle.std.proofs.Common.{◌≡◌, ℕ, zero, suc, ◌-◌, ◌*◌, ◌<◌, List, [], ◌∷◌, length, map, slice_index, refl, sym, ap, ◌∙◌, arith, subst, ⊎_elim, ℤ, pos, ◌*ℤ◌, ◌<ℤ◌}
 use Rattle.net_core.proofs.Library.{cases_lt}
 use Rattle.plan_terms.specs.Terms.{RouteColumn, WideKind, Number, Row, Product, Sum, Common, Value, Length, Demand, Caps, Graph, sum_below}
 use Rattle.simplex_law.specs.Terms.{dot, ColumnOf, slack_basis}

@@ -1,8 +1,6 @@
 -- what the amounts of a basis leave of the needs
-use Rattle.std.proofs.Common.{◌≡◌, ℕ, zero, suc, ◌+◌, ◌-◌, ◌*◌, ◌<◌, ◌≤◌, List, cond, length, slice_index, refl, sym, ap, ◌∙◌, arith, subst, ⊎_elim}
+use Rattle.std.proofs.Common.{◌≡◌, ℕ, zero, suc, ◌+◌, ◌-◌, ◌*◌, ◌<◌, ◌≤◌, List, cond, length, slice_index, refl, sym, ap, ◌∙◌, arith, subst, ⊎_elim, ℤ, pos, ◌+ℤ◌, ◌*ℤ◌, ◌<ℤ◌, ◌≤ℤ◌}
 use Rattle.net_core.proofs.Library.{cases_lt, slice_get_within, pos-*ℤ-pos, ints}
-use Rattle.std.proofs.Math.IntN.{ℤ, pos, ◌+ℤ◌, ◌*ℤ◌}
-use Rattle.std.specs.Int.Signed.{◌<ℤ◌, ◌≤ℤ◌}
 use Rattle.plan_terms.specs.Terms.{RouteColumn, LinkSlack, DemandSlack, Carry, Demand, Caps, Graph, names_link, sum_below}
 use Rattle.net_core.proofs.Sums.{below-same, below-none}
 use Rattle.simplex_law.specs.Terms.{int_sum, unit_vector, ColumnOf, IsSlack, IsOptimum}

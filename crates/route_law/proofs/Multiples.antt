@@ -1,7 +1,6 @@
 -- cuts and routings over a multiple of the scale
-use Rattle.std.proofs.Common.{◌≡◌, ℕ, ◌+◌, ◌*◌, ◌<◌, ◌≤◌, List, [], ◌∷◌, All, map, sum_by, zip, slice_index, ap, ◌∙◌, arith, ⊎_elim}
+use Rattle.std.proofs.Common.{◌≡◌, ℕ, ◌+◌, ◌*◌, ◌<◌, ◌≤◌, List, [], ◌∷◌, All, map, sum_by, zip, slice_index, ap, ◌∙◌, arith, ⊎_elim, mul-le-mul_left}
 use Rattle.net_core.proofs.Library.{cases_lt, sum_by-cons, recursion_from_All, All-from_recursion, AllByRecursion}
-use Rattle.std.proofs.Math.Nat.{mul-le-mul_left}
 use Rattle.plan_terms.specs.Terms.{Demand, Flow, Joins, load, IsFlow}
 use Rattle.route_law.specs.Divisions.{DividedAreCarried, DividedAreViolated}
 use Rattle.route_law.specs.Routings.{flow_times}

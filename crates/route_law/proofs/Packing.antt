@@ -1,8 +1,6 @@
 -- the routing program is a packing program, where its bounds are narrow
-use Rattle.std.proofs.Common.{◌≡◌, ℕ, ◌+◌, ◌-◌, ◌<◌, ◌≤◌, List, true, false, cond, eqb, length, slice_index, sym, ap, ◌∙◌, arith, subst, ⊎_elim}
+use Rattle.std.proofs.Common.{◌≡◌, ℕ, ◌+◌, ◌-◌, ◌<◌, ◌≤◌, List, true, false, cond, eqb, length, slice_index, sym, ap, ◌∙◌, arith, subst, ⊎_elim, ℤ, pos, ◌<ℤ◌, ◌≤ℤ◌}
 use Rattle.net_core.proofs.Library.{cases_lt, slice_get_within, ints}
-use Rattle.std.proofs.Math.IntN.{ℤ, pos}
-use Rattle.std.specs.Int.Signed.{◌<ℤ◌, ◌≤ℤ◌}
 use Rattle.checked_fraction.specs.Terms.{IsNarrow}
 use Rattle.plan_terms.specs.Terms.{RouteColumn, LinkSlack, DemandSlack, Carry, Demand, LinkId, Caps, Graph, names_link}
 use Rattle.simplex_law.specs.Terms.{unit_vector, ColumnOf, IsSlack, IsProgramColumn, IsPacking}

@@ -1,6 +1,5 @@
 -- what a path costs at prices of the rows
-use Rattle.std.proofs.Common.{◌≡◌, ℕ, Bool, true, false, ◌+◌, ◌*◌, ◌<◌, List, cond, length, slice_index, ap, ◌∙◌, arith}
-use Rattle.std.proofs.Math.IntN.{ℤ, pos, ◌+ℤ◌, ◌*ℤ◌}
+use Rattle.std.proofs.Common.{◌≡◌, ℕ, Bool, true, false, ◌+◌, ◌*◌, ◌<◌, List, cond, length, slice_index, ap, ◌∙◌, arith, ℤ, pos, ◌+ℤ◌, ◌*ℤ◌}
 use Rattle.net_core.proofs.Library.{*ℤ-zero, ints}
 use Rattle.plan_terms.specs.Terms.{LinkId, Graph, Joins, names_link, IsPath, length_of}
 use Rattle.net_core.proofs.Sums.{below-times}

@@ -1,8 +1,6 @@
 -- rows put beside each other, and sums over them
-use Rattle.std.proofs.Common.{◌≡◌, ℕ, zero, suc, ◌+◌, ◌-◌, ◌<◌, ◌≤◌, cond, sym, ap, ◌∙◌, arith, subst, refl, ⊎_elim}
-use Rattle.std.proofs.Math.IntN.{pos}
+use Rattle.std.proofs.Common.{◌≡◌, ℕ, zero, suc, ◌+◌, ◌-◌, ◌<◌, ◌≤◌, cond, sym, ap, ◌∙◌, arith, subst, refl, ⊎_elim, pos, lt-ltb, le-ltb}
 use Rattle.net_core.proofs.Library.{ints, cases_lt}
-use Rattle.std.proofs.lemmas.Bool.{lt-ltb, le-ltb}
 use Rattle.plan_terms.specs.Terms.{sum_below}
 use Rattle.net_core.proofs.Sums.{below-none, below-plus}
 use Rattle.simplex_law.specs.Terms.{int_sum}

@@ -1,9 +1,6 @@
 -- bases, steps and evidence of a packing program whose bounds are all multiplied by one number
-use Rattle.std.proofs.Common.{◌≡◌, ℕ, zero, suc, ◌*◌, ◌<◌, ◌≤◌, inl, inr, sym, ap, ◌∙◌, arith, subst, ⊎_elim, unsigned_abs}
-use Rattle.std.proofs.Math.Nat.{mul-le-mul_left}
-use Rattle.std.proofs.Math.IntN.{ℤ, pos, ◌+ℤ◌, ◌*ℤ◌}
+use Rattle.std.proofs.Common.{◌≡◌, ℕ, zero, suc, ◌*◌, ◌<◌, ◌≤◌, inl, inr, sym, ap, ◌∙◌, arith, subst, ⊎_elim, unsigned_abs, mul-le-mul_left, ℤ, pos, ◌+ℤ◌, ◌*ℤ◌, ◌<ℤ◌, ◌≤ℤ◌}
 use Rattle.net_core.proofs.Library.{*ℤ-zero, ints}
-use Rattle.std.specs.Int.Signed.{◌<ℤ◌, ◌≤ℤ◌}
 use Rattle.plan_terms.specs.Terms.{sum_below}
 use Rattle.simplex_law.specs.Terms.{dot, ColumnOf, IsFeasible, IsBest, AreGainingSteps, IsReached, IsWide, HoldsNumber, HoldsSum}
 use Rattle.simplex_law.proofs.Lemmas.{distribute_left, le_times, moved_out, times_nonneg, le_cancel, sum-same, sum-times}

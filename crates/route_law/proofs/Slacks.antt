@@ -1,6 +1,5 @@
 -- evidence of the slack basis, and evidence of the routing program from that of a packing program
-use Rattle.std.proofs.Common.{ℕ, ◌<◌, List, refl, inl}
-use Rattle.std.proofs.Math.IntN.{pos}
+use Rattle.std.proofs.Common.{ℕ, ◌<◌, List, refl, inl, pos}
 use Rattle.plan_terms.specs.Terms.{RouteColumn, WideKind, Number, Row, Product, Sum, Common, Value, Length, Demand, Caps, Graph}
 use Rattle.simplex_law.specs.Terms.{unit_vector, ColumnOf, slack_basis, AreNames, HoldsKind, IsWide}
 use Rattle.simplex_law.proofs.Lemmas.{start_reached, started}

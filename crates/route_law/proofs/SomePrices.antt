@@ -1,8 +1,6 @@
 -- where not all needs can be met, a surviving link has a price
-use Rattle.std.proofs.Common.{◌≡◌, ℕ, ◌+◌, ◌*◌, ◌<◌, List, [], ◌∷◌, Some, length, slice_get, slice_index, get_or, refl, sym, ap, ◌∙◌, arith, subst, inl, ⊎_elim}
+use Rattle.std.proofs.Common.{◌≡◌, ℕ, ◌+◌, ◌*◌, ◌<◌, List, [], ◌∷◌, Some, length, slice_get, slice_index, get_or, refl, sym, ap, ◌∙◌, arith, subst, inl, ⊎_elim, ℤ, pos, ◌+ℤ◌, ◌*ℤ◌, ◌<ℤ◌, ◌≤ℤ◌}
 use Rattle.net_core.proofs.Library.{cases_eq, get_or-map, slice_get-get_or, slice_get_within, *ℤ-zero, *ℤ_comm, pos-*ℤ-pos, ints, by_lt_z}
-use Rattle.std.proofs.Math.IntN.{ℤ, pos, ◌+ℤ◌, ◌*ℤ◌}
-use Rattle.std.specs.Int.Signed.{◌<ℤ◌, ◌≤ℤ◌}
 use Rattle.plan_terms.specs.Terms.{RouteColumn, Carry, Demand, LinkId, Caps, Graph, Joins, AreZero, Leads, length_of}
 use Rattle.simplex_law.specs.Terms.{int_sum, dot, ColumnOf, IsBest}
 use Rattle.simplex_law.proofs.Lemmas.{le_times, sum-le, sum-none, sum-times, sum-split}

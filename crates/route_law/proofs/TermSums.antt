@@ -1,9 +1,6 @@
 -- sums of pairs of units, differences of rows, and bounds of sums by their terms
-use Rattle.std.proofs.Common.{◌≡◌, ℕ, zero, suc, ◌<◌, cond, sym, subst, arith, ◌∙◌, ⊎_elim}
-use Rattle.std.proofs.Math.IntN.{ℤ, pos, ◌+ℤ◌, ◌-ℤ◌, ◌*ℤ◌}
-use Rattle.std.specs.Int.Signed.{◌≤ℤ◌}
+use Rattle.std.proofs.Common.{◌≡◌, ℕ, zero, suc, ◌<◌, cond, sym, subst, arith, ◌∙◌, ⊎_elim, ℤ, pos, ◌+ℤ◌, ◌-ℤ◌, ◌*ℤ◌, ◌≤ℤ◌, eq-eqb, ne_eqb}
 use Rattle.net_core.proofs.Library.{ints, cases_eq}
-use Rattle.std.proofs.lemmas.Bool.{eq-eqb, ne_eqb}
 use Rattle.simplex_law.specs.Terms.{int_sum, dot, unit_vector, put}
 use Rattle.simplex_law.proofs.Lemmas.{distribute_left, distribute_minus, sum-same, sum-plus, sum-minus, sum-le, sum-none, sum-put, sum-unit}
 

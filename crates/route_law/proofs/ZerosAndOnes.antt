@@ -1,9 +1,6 @@
 -- each vector of zeros and ones with a one is priced: two nodes, a link for each number, and one demand
-use Rattle.std.proofs.Common.{◌≡◌, ◌≢◌, ℕ, zero, suc, ◌+◌, ◌-◌, ◌*◌, ◌<◌, ◌≤◌, ◌^◌, List, [], ◌∷◌, All, Some, true, false, ◌||◌, cond, eqb, length, map, get_or, slice_get, slice_index, refl, sym, ap, ◌∙◌, arith, subst, inl, inr, ⊎_elim}
+use Rattle.std.proofs.Common.{◌≡◌, ◌≢◌, ℕ, zero, suc, ◌+◌, ◌-◌, ◌*◌, ◌<◌, ◌≤◌, ◌^◌, List, [], ◌∷◌, All, Some, true, false, ◌||◌, cond, eqb, length, map, get_or, slice_get, slice_index, refl, sym, ap, ◌∙◌, arith, subst, inl, inr, ⊎_elim, ℤ, pos, ◌+ℤ◌, ◌-ℤ◌, ◌*ℤ◌, ◌<ℤ◌, ◌≤ℤ◌, eq-eqb, ne_eqb}
 use Rattle.net_core.proofs.Library.{range_with_len, zero-*ℤ, eq-one_of_dvd-one, ◌∣◌, ints, cases_eq, cases_lt, get_or_past, All-get_or, All-from_get_or, All-from_recursion, length-map-range_with_len, get_or-map-range_with_len, sum_by-cons, slice_get_within, slice_get-get_or, get_or_from_slice_get}
-use Rattle.std.proofs.Math.IntN.{ℤ, pos, ◌+ℤ◌, ◌-ℤ◌, ◌*ℤ◌}
-use Rattle.std.specs.Int.Signed.{◌<ℤ◌, ◌≤ℤ◌}
-use Rattle.std.proofs.lemmas.Bool.{eq-eqb, ne_eqb}
 use Rattle.std.proofs.lemmas.List.Kept.{AllPairs-cons}
 use Rattle.plan_terms.specs.Terms.{RouteColumn, Carry, Demand, LinkId, Link, Module, Caps, AreDemands, IsDemand, Graph, Joins, IsNetwork, IsLink, IsModule, names_link, IsPath, Leads, last_node}
 use Rattle.net_core.proofs.Checks.{no_pairs}

@@ -1,8 +1,6 @@
 -- the exchanged basis is best where bounds are what its columns take together, and its prices are the row
-use Rattle.std.proofs.Common.{◌≡◌, ℕ, ◌+◌, ◌-◌, ◌<◌, List, Some, length, refl, sym, ap, ◌∙◌, arith, subst, inl, inr, ⊎_elim, slice_get}
+use Rattle.std.proofs.Common.{◌≡◌, ℕ, ◌+◌, ◌-◌, ◌<◌, List, Some, length, refl, sym, ap, ◌∙◌, arith, subst, inl, inr, ⊎_elim, slice_get, ℤ, pos, ◌-ℤ◌, ◌*ℤ◌, ◌<ℤ◌, ◌≤ℤ◌}
 use Rattle.net_core.proofs.Library.{ints, cases_lt, *ℤ-zero, slice_get_within}
-use Rattle.std.proofs.Math.IntN.{ℤ, pos, ◌-ℤ◌, ◌*ℤ◌}
-use Rattle.std.specs.Int.Signed.{◌<ℤ◌, ◌≤ℤ◌}
 use Rattle.plan_terms.specs.Terms.{RouteColumn, LinkSlack, DemandSlack, Carry, LinkId, Demand, Graph, Caps}
 use Rattle.simplex_law.specs.Terms.{dot, int_sum, unit_vector, ColumnOf, IsRow, IsBest, IsFeasible}
 use Rattle.simplex_law.proofs.Lemmas.{minus_left, none_gains, dot-same, sum-same, sum-times, sum-swapped, unit-other, sum-unit, weights}
@@ -11,8 +9,7 @@ use Rattle.key_law.specs.KeyRows.{full_kept, full_prices, full_key, key_nums}
 use Rattle.key_law.proofs.Kept.{inverse_full, prices_full, key_full, price_product}
 use Rattle.key_law.proofs.Owned.{owned_product, owned_target}
 use Rattle.key_law.proofs.Lemmas.{is_spread}
-use Rattle.route_law.specs.Terms.{IsCarrying, IsRouteColumn, AreLinkPrices, route_rows, route_bound, route_slack}
-use Rattle.route_law.specs.PricedLengths.{ArePricedLengths}
+use Rattle.route_law.specs.Terms.{IsCarrying, IsRouteColumn, AreLinkPrices, route_rows, route_bound, route_slack, ArePricedLengths}
 use Rattle.route_law.proofs.Lemmas.{beside_first, beside_after}
 use Rattle.row_prices.specs.KeyPaths.{on_path, row_along, beyond_key, IsBesideKeys, IsPathBasis, IsPathOf, HasShortestKeys}
 use Rattle.row_prices.proofs.Columns.{named, name_entry, name_gain, left_gain, path_link, path_demand, left_gain_is}

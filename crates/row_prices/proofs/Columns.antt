@@ -1,7 +1,6 @@
 -- the columns of the routing program by their names, and what keys leave of them
-use Rattle.std.proofs.Common.{◌≡◌, ℕ, ◌+◌, ◌<◌, List, cond, length, sym, ap, ◌∙◌, arith, subst, ⊎_elim}
+use Rattle.std.proofs.Common.{◌≡◌, ℕ, ◌+◌, ◌<◌, List, cond, length, sym, ap, ◌∙◌, arith, subst, ⊎_elim, ℤ, pos, ◌-ℤ◌}
 use Rattle.net_core.proofs.Library.{ints, cases_eq}
-use Rattle.std.proofs.Math.IntN.{ℤ, pos, ◌-ℤ◌}
 use Rattle.plan_terms.specs.Terms.{RouteColumn, LinkSlack, DemandSlack, Carry, LinkId, Graph, names_link}
 use Rattle.simplex_law.specs.Terms.{unit_vector, ColumnOf}
 use Rattle.simplex_law.proofs.Lemmas.{unit-other, unit-same}

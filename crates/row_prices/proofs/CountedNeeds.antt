@@ -1,7 +1,6 @@
 -- the network with as many thousandths of each demand, and as much of each link, as columns of the exchanged basis take
-use Rattle.std.proofs.Common.{◌≡◌, ℕ, ◌+◌, ◌-◌, ◌*◌, ◌<◌, ◌≤◌, ◌^◌, List, [], Some, All, length, map, get_or, slice_get, slice_index, sym, ap, ◌∙◌, arith, subst}
+use Rattle.std.proofs.Common.{◌≡◌, ℕ, ◌+◌, ◌-◌, ◌*◌, ◌<◌, ◌≤◌, ◌^◌, List, [], Some, All, length, map, get_or, slice_get, slice_index, sym, ap, ◌∙◌, arith, subst, ℤ, pos}
 use Rattle.net_core.proofs.Library.{range_with_len, All-get_or, All-from_get_or, length-map-range_with_len, get_or-map-range_with_len, get_or-map, get_or_from_slice_get, slice_get-get_or, slice_get_within}
-use Rattle.std.proofs.Math.IntN.{ℤ, pos}
 use Rattle.std.proofs.lemmas.List.Sums.{sum_by-le}
 use Rattle.plan_terms.specs.Terms.{RouteColumn, LinkSlack, DemandSlack, Carry, Demand, LinkId, Caps, AreDemands, IsDemand, Graph, Joins, IsPath}
 use Rattle.simplex_law.specs.Terms.{int_sum, put}

@@ -1,9 +1,6 @@
 -- how many columns of a basis are in each row
-use Rattle.std.proofs.Common.{◌≡◌, ℕ, zero, suc, ◌+◌, ◌-◌, ◌<◌, ◌≤◌, List, Bool, true, false, cond, eqb, length, nat_lt, refl, sym, ap, ◌∙◌, arith, ⊎_elim}
+use Rattle.std.proofs.Common.{◌≡◌, ℕ, zero, suc, ◌+◌, ◌-◌, ◌<◌, ◌≤◌, List, Bool, true, false, cond, eqb, length, nat_lt, refl, sym, ap, ◌∙◌, arith, ⊎_elim, eq-eqb, ℤ, pos, ◌≤ℤ◌}
 use Rattle.net_core.proofs.Library.{cases_lt, ints, by_lt_z}
-use Rattle.std.proofs.lemmas.Bool.{eq-eqb}
-use Rattle.std.proofs.Math.IntN.{ℤ, pos}
-use Rattle.std.specs.Int.Signed.{◌≤ℤ◌}
 use Rattle.plan_terms.specs.Terms.{RouteColumn, LinkSlack, DemandSlack, Carry, LinkId, Graph, names_link, sum_below}
 use Rattle.simplex_law.specs.Terms.{int_sum}
 use Rattle.simplex_law.proofs.Lemmas.{sum-same}

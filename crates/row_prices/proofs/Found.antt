@@ -1,6 +1,5 @@
 -- numbers that were found, for an equal count
-use Rattle.std.proofs.Common.{◌≡◌, ℕ, List, Option, Some, IfSome, subst}
-use Rattle.std.proofs.Math.IntN.{ℤ}
+use Rattle.std.proofs.Common.{◌≡◌, ℕ, List, Option, Some, IfSome, subst, ℤ}
 use Rattle.row_prices.specs.inner.Tests.{AreLowestNumbers}
 
 pub lowest_some : (n m : ℕ) (nums : List ℤ) (o : Option (List ℕ)) (lengths : List ℕ) → n ≡ m → IfSome o (AreLowestNumbers n nums) → o ≡ Some lengths → AreLowestNumbers m nums lengths

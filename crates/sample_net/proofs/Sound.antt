@@ -1,8 +1,7 @@
 -- samples are networks, and their demands belong to them
-use Rattle.std.proofs.Common.{◌≡◌, ◌≢◌, ℕ, zero, suc, ◌+◌, ◌-◌, ◌*◌, ◌/◌, ◌%◌, ◌≤◌, ◌<◌, ◌==◌, not, false, ◌⊎◌, inl, inr, ⊎_elim, List, [], ◌∷◌, map, length, get_or, All, arith, ap, refl, sym, subst, ◌∙◌, length-append}
+use Rattle.std.proofs.Common.{◌≡◌, ◌≢◌, ℕ, zero, suc, ◌+◌, ◌-◌, ◌*◌, ◌/◌, ◌%◌, ◌≤◌, ◌<◌, ◌==◌, not, false, ◌⊎◌, inl, inr, ⊎_elim, List, [], ◌∷◌, map, length, get_or, All, arith, ap, refl, sym, subst, ◌∙◌, length-append, div-add-mod'}
 use Rattle.net_core.proofs.Library.{list_any, range_with_len, All-append, All-cons, All-nil, list_any_none, length-map-range_with_len, mod_below}
 use Rattle.std.proofs.lemmas.List.Sums.{sum_by-le}
-use Rattle.std.proofs.lemmas.Nat.{div-add-mod'}
 use Rattle.plan_terms.specs.Terms.{AreDemands, IsDemand, IsLink, IsModule, IsNetwork, Demand, Link, Module}
 use Rattle.sample_net.specs.Draws.{nth_draw, nth_number}
 use Rattle.sample_net.specs.Samples.{chord_count, chord_ends, demands_between, link_count, links_between, numbered, ring_ends, sample_demand, sample_ends, sample_link, sample_links, sample_modules, sample_nodes, sample_pairs}

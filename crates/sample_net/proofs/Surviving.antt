@@ -1,7 +1,6 @@
 -- samples are survivable: a ring without one of its links leads from each node to each other
-use Rattle.std.proofs.Common.{◌≡◌, ◌≢◌, ℕ, zero, suc, ◌+◌, ◌*◌, ◌%◌, ◌<◌, List, [], ◌∷◌, map, length, get_or, All, Some, false, slice_get, inl, arith, ap, refl, subst, ◌∙◌}
+use Rattle.std.proofs.Common.{◌≡◌, ◌≢◌, ℕ, zero, suc, ◌+◌, ◌*◌, ◌%◌, ◌<◌, List, [], ◌∷◌, map, length, get_or, All, Some, false, slice_get, inl, arith, ap, refl, subst, ◌∙◌, ne_eqb}
 use Rattle.net_core.proofs.Library.{range_with_len, get_or_append_left, get_or-map-range_with_len, length-map-range_with_len, get_or_from_slice_get, slice_get-get_or, slice_get_within}
-use Rattle.std.proofs.lemmas.Bool.{ne_eqb}
 use Rattle.plan_terms.specs.Terms.{graph_in, Joins, fails, Demand, Link, IsSurvivable}
 use Rattle.plan_terms.proofs.Lemmas.{joins_turned}
 use Rattle.model_reader.specs.Failures.{single_states, singles_from}

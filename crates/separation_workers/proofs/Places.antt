@@ -1,7 +1,6 @@
 -- the items at places of a history
-use Rattle.std.proofs.Common.{◌≡◌, ◌∙◌, ℕ, zero, suc, ◌+◌, ◌<◌, ◌≤◌, List, [], ◌∷◌, ◌++◌, drop, take, length, true, inl, inr, refl, sym, ap, subst, arith}
+use Rattle.std.proofs.Common.{◌≡◌, ◌∙◌, ℕ, zero, suc, ◌+◌, ◌<◌, ◌≤◌, List, [], ◌∷◌, ◌++◌, drop, take, length, true, inl, inr, refl, sym, ap, subst, arith, append_assoc, length-append}
 use Rattle.net_core.proofs.Library.{range_with_len, drop-append-le, front_rest}
-use Rattle.std.proofs.lemmas.List.{append_assoc, length-append}
 use Rattle.std.proofs.lemmas.List.Concat.{flat_map-append}
 use Rattle.turn_lock.specs.Histories.{are_places}
 use Rattle.separator.specs.Separators.{IsPartOf}

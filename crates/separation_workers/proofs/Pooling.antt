@@ -1,7 +1,6 @@
 -- what a turn does in which a cut is put into the pool
-use Rattle.std.proofs.Common.{◌≡◌, ◌∙◌, ℕ, ◌-◌, inl, inr, ⊎_elim, IfOk, List, Result, [], ◌∷◌, ◌++◌, length, sym, ap, subst, arith}
+use Rattle.std.proofs.Common.{◌≡◌, ◌∙◌, ℕ, ◌-◌, inl, inr, ⊎_elim, IfOk, List, Result, [], ◌∷◌, ◌++◌, length, sym, ap, subst, arith, append_assoc, length-append}
 use Rattle.net_core.proofs.Library.{range_with_len, front_rest}
-use Rattle.std.proofs.lemmas.List.{append_assoc, length-append}
 use Rattle.plan_terms.specs.Terms.{Entry, NoMemory}
 use Rattle.metric_cut.specs.declared.cut.Cut.{Cut}
 use Rattle.plan_types.specs.declared.certificate.Spot.{Spot}

@@ -1,7 +1,6 @@
 -- what a caller pools and answers while it goes through the states
-use Rattle.std.proofs.Common.{◌≡◌, ◌∙◌, ℕ, ◌+◌, ◌≤◌, ⊎_elim, List, [], ◌∷◌, ◌++◌, All, Contains, length, refl, sym, ap, arith, subst}
+use Rattle.std.proofs.Common.{◌≡◌, ◌∙◌, ℕ, ◌+◌, ◌≤◌, ⊎_elim, List, [], ◌∷◌, ◌++◌, All, Contains, length, refl, sym, ap, arith, subst, append-nil, append_assoc, length-append}
 use Rattle.net_core.proofs.Library.{∥∥₁_elim, props, front_rest}
-use Rattle.std.proofs.lemmas.List.{append-nil, append_assoc, length-append}
 use Rattle.plan_terms.specs.Terms.{Entry, Caps, Case}
 use Rattle.plan_types.specs.declared.certificate.Spot.{Spot}
 use Rattle.board_desk.specs.declared.caller.Caller.{Caller}

@@ -1,7 +1,6 @@
 -- boards whose pool grows, and the spots of its cuts
-use Rattle.std.proofs.Common.{◌≡◌, ◌∙◌, ℕ, ◌<◌, ⊎_elim, List, [], ◌∷◌, ◌++◌, Some, length, slice_get, refl, sym, ap, subst, arith}
+use Rattle.std.proofs.Common.{◌≡◌, ◌∙◌, ℕ, ◌<◌, ⊎_elim, List, [], ◌∷◌, ◌++◌, Some, length, slice_get, refl, sym, ap, subst, arith, append-nil, append_assoc}
 use Rattle.net_core.proofs.Library.{flat_map-append, All-append, All-nil, All-push, front_rest}
-use Rattle.std.proofs.lemmas.List.{append-nil, append_assoc}
 use Rattle.plan_terms.specs.Terms.{Entry, Pooled}
 use Rattle.metric_cut.specs.declared.cut.Cut.{Cut}
 use Rattle.plan_types.specs.declared.certificate.Spot.{Spot}

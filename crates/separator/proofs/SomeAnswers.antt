@@ -1,6 +1,5 @@
 -- answers of some states: cuts, or the answers of all where none is found
-use Rattle.std.proofs.Common.{◌≡◌, ◌≢◌, ◌∙◌, ℕ, zero, suc, ◌+◌, ◌<◌, ◌≤◌, ◌⊎◌, inl, inr, ⊎_elim, List, [], ◌∷◌, ◌++◌, All, Contains, None, Some, get_or, length, slice_get, refl, sym, ap, subst, arith}
-use Rattle.std.proofs.lemmas.List.{length-append}
+use Rattle.std.proofs.Common.{◌≡◌, ◌≢◌, ◌∙◌, ℕ, zero, suc, ◌+◌, ◌<◌, ◌≤◌, ◌⊎◌, inl, inr, ⊎_elim, List, [], ◌∷◌, ◌++◌, All, Contains, None, Some, get_or, length, slice_get, refl, sym, ap, subst, arith, length-append}
 use Rattle.net_core.proofs.Library.{All-append, All-nil, All-push, All-weaker, Contains-append_left, Contains-append_right, all_pairs_push, flat_map-append}
 use Rattle.net_core.proofs.Lists.{none_within}
 use Rattle.plan_terms.specs.Terms.{Entry, Caps, Case}

@@ -1,6 +1,5 @@
 -- boards while some states are asked
-use Rattle.std.proofs.Common.{◌≡◌, ◌∙◌, ℕ, ◌+◌, ◌<◌, ◌≤◌, ⊎_elim, List, [], ◌∷◌, ◌++◌, All, Contains, length, sym, ap, subst, arith}
-use Rattle.std.proofs.lemmas.List.{append-nil}
+use Rattle.std.proofs.Common.{◌≡◌, ◌∙◌, ℕ, ◌+◌, ◌<◌, ◌≤◌, ⊎_elim, List, [], ◌∷◌, ◌++◌, All, Contains, length, sym, ap, subst, arith, append-nil}
 use Rattle.net_core.proofs.Library.{All-nil}
 use Rattle.plan_terms.specs.Terms.{Caps, Case}
 use Rattle.cut_pool.specs.declared.board.Board.{Board}

@@ -1,6 +1,5 @@
 -- what a caller's next command ends with
-use Rattle.std.proofs.Common.{◌≡◌, ◌∙◌, ℕ, ◌+◌, [], ap, length, subst, sym, Result, Ok, Err}
-use Rattle.std.proofs.lemmas.List.{append-nil}
+use Rattle.std.proofs.Common.{◌≡◌, ◌∙◌, ℕ, ◌+◌, [], ap, length, subst, sym, Result, Ok, Err, append-nil}
 use Rattle.net_core.proofs.Library.{All-nil}
 use Rattle.plan_terms.specs.Terms.{Edit, Entry, NoMemory, Case}
 use Rattle.plan_types.specs.declared.report.Outcome.{Outcome}

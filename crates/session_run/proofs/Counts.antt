@@ -1,7 +1,6 @@
 -- how many entries the journal of a transcript has: no more than there are commands and lines of the pool
-use Rattle.std.proofs.Common.{◌≡◌, ◌≢◌, ◌∙◌, ℕ, zero, suc, ◌+◌, ◌<◌, ◌≤◌, ◌==◌, ◌++◌, Bool, true, false, List, [], ◌∷◌, flat_map, if◌then◌else◌, length, refl, sym, ap, arith, ⊎_elim}
+use Rattle.std.proofs.Common.{◌≡◌, ◌≢◌, ◌∙◌, ℕ, zero, suc, ◌+◌, ◌<◌, ◌≤◌, ◌==◌, ◌++◌, Bool, true, false, List, [], ◌∷◌, flat_map, if◌then◌else◌, length, refl, sym, ap, arith, ⊎_elim, eq-eqb, ne_eqb}
 use Rattle.net_core.proofs.Library.{∥∥₁_elim, props, cases_eq, length-map}
-use Rattle.std.proofs.lemmas.Bool.{eq-eqb, ne_eqb}
 use Rattle.plan_terms.specs.Terms.{Edit, Entry, Edited, Pooled, Notes, Case}
 use Rattle.plan_types.specs.declared.report.Report.{Report}
 use Rattle.cut_pool.specs.Terms.{cut_of_line, cuts_of}

@@ -1,9 +1,6 @@
 -- commands dealt to two groups of callers
-use Rattle.std.proofs.Common.{◌≡◌, ◌∙◌, ℕ, zero, suc, ◌+◌, ◌<◌, ◌≤◌, ◌==◌, ◌&&◌, ◌||◌, ◌⊎◌, inl, inr, ⊎_elim, Bool, true, false, cond, List, [], ◌∷◌, ◌++◌, All, filter, if◌then◌else◌, length, leb, ltb, get_or, take, add-one, refl, sym, ap, subst, arith, count_by}
+use Rattle.std.proofs.Common.{◌≡◌, ◌∙◌, ℕ, zero, suc, ◌+◌, ◌<◌, ◌≤◌, ◌==◌, ◌&&◌, ◌||◌, ◌⊎◌, inl, inr, ⊎_elim, Bool, true, false, cond, List, [], ◌∷◌, ◌++◌, All, filter, if◌then◌else◌, length, leb, ltb, get_or, take, add-one, refl, sym, ap, subst, arith, count_by, le-leb, le-ltb, lt-ltb, length-append, take-suc}
 use Rattle.net_core.proofs.Library.{list_any, cases_lt, cond_both, lt-leb, or_parts, All-head, All-tail, filter-append, sum_by-append}
-use Rattle.std.proofs.lemmas.Bool.{le-leb, le-ltb, lt-ltb}
-use Rattle.std.proofs.lemmas.List.{length-append}
-use Rattle.std.proofs.Math.Seq.{take-suc}
 use Rattle.session_script.specs.declared.script.Command.{Command}
 use Rattle.session_script.specs.Terms.{IsCommandInForm, is_plan}
 use Rattle.session_run.specs.Transcripts.{acts_of}

@@ -1,7 +1,6 @@
 -- entries of a legal journal, and the lines of its pool, are in form
-use Rattle.std.proofs.Common.{◌≡◌, ℕ, zero, suc, ◌^◌, ◌<◌, ◌≤◌, List, [], ◌∷◌, ◌++◌, All, Some, drop, length, map, slice_get, take, sym, ap, subst, ◌∙◌, arith}
+use Rattle.std.proofs.Common.{◌≡◌, ℕ, zero, suc, ◌^◌, ◌<◌, ◌≤◌, List, [], ◌∷◌, ◌++◌, All, Some, drop, length, map, slice_get, take, sym, ap, subst, ◌∙◌, arith, length-take-le}
 use Rattle.net_core.proofs.Library.{length-map, All-take, All-head, All-tail, slice_get-get_or, slice_get_within}
-use Rattle.std.proofs.lemmas.List.{length-take-le}
 use Rattle.plan_terms.specs.Terms.{Edit, Set, Add, Drop, Entry, Edited, Pooled, Reply, Accepted, UnknownDemand, KnownDemand, UnknownNode, SelfDemand, TooMany, TooMuch, StateId, CutLine, Case, AreDemands, IsCut, edit_need, edit_reply, version_after, HasShortLengths}
 use Rattle.plan_report.specs.Terms.{HasPoolLine, IsCutInForm, IsEntryInForm, IsReplyInForm}
 use Rattle.cut_pool.specs.Terms.{Dated, IsLegalHistory, cut_of_line, cuts_of, demands_left, left_by, left_by_entry, version_left}

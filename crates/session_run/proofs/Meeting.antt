@@ -1,6 +1,5 @@
 -- two groups of callers that have met
-use Rattle.std.proofs.Common.{◌≡◌, ◌∙◌, ℕ, ◌<◌, ◌≤◌, ◌==◌, ⊎_elim, List, [], ◌∷◌, ◌++◌, flat_map, length, true, ap, refl, sym, subst, arith, Result, Ok, Err, Vec}
-use Rattle.std.proofs.lemmas.List.{append-nil, length-append}
+use Rattle.std.proofs.Common.{◌≡◌, ◌∙◌, ℕ, ◌<◌, ◌≤◌, ◌==◌, ⊎_elim, List, [], ◌∷◌, ◌++◌, flat_map, length, true, ap, refl, sym, subst, arith, Result, Ok, Err, Vec, append-nil, length-append}
 use Rattle.net_core.proofs.Library.{filter-append, list_any}
 use Rattle.plan_terms.specs.Terms.{Entry, Case}
 use Rattle.plan_types.specs.declared.report.Outcome.{Outcome}

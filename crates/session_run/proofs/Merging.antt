@@ -1,8 +1,6 @@
 -- the own entries of two passes that have met
-use Rattle.std.proofs.Common.{◌≡◌, ◌∙◌, ℕ, ◌+◌, ◌<◌, ◌⊎◌, inl, inr, ⊎_elim, List, [], ◌∷◌, ◌++◌, All, drop, flat_map, length, ltb, take, true, refl, sym, ap, arith}
+use Rattle.std.proofs.Common.{◌≡◌, ◌∙◌, ℕ, ◌+◌, ◌<◌, ◌⊎◌, inl, inr, ⊎_elim, List, [], ◌∷◌, ◌++◌, All, drop, flat_map, length, ltb, take, true, refl, sym, ap, arith, ltb-false, length-append}
 use Rattle.net_core.proofs.Library.{cond_both, All-append, All-tail, flat_map-append}
-use Rattle.std.proofs.lemmas.Bool.{ltb-false}
-use Rattle.std.proofs.lemmas.List.{length-append}
 use Rattle.turn_lock.specs.Histories.{are_places, merged, with_place}
 use Rattle.net_core.proofs.Lists.{front_all}
 use Rattle.turn_lock.proofs.Places.{first_place}

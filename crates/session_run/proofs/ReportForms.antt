@@ -1,7 +1,6 @@
 -- the report of a board and of the outcomes of commands that have run
-use Rattle.std.proofs.Common.{◌≡◌, ℕ, ◌^◌, ◌<◌, ◌≤◌, ◌==◌, List, All, get_or, length, refl, sym, subst, arith, AllPairs}
+use Rattle.std.proofs.Common.{◌≡◌, ℕ, ◌^◌, ◌<◌, ◌≤◌, ◌==◌, List, All, get_or, length, refl, sym, subst, arith, AllPairs, eq-eqb}
 use Rattle.net_core.proofs.Library.{∥∥₁_elim, props, All-filter}
-use Rattle.std.proofs.lemmas.Bool.{eq-eqb}
 use Rattle.plan_terms.specs.Terms.{Entry, Notes, CutLine, AreDemands, IsCut, HasShortLengths}
 use Rattle.plan_types.specs.declared.report.Outcome.{Outcome}
 use Rattle.plan_types.specs.declared.report.Report.{Report}

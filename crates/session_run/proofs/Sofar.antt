@@ -1,6 +1,5 @@
 -- a caller's commands, one after another
-use Rattle.std.proofs.Common.{◌≡◌, ◌∙◌, ℕ, ◌+◌, ◌<◌, ◌≤◌, List, [], ◌∷◌, ◌++◌, All, ap, get_or, length, refl, subst, sym, take, arith}
-use Rattle.std.proofs.lemmas.List.{length-append}
+use Rattle.std.proofs.Common.{◌≡◌, ◌∙◌, ℕ, ◌+◌, ◌<◌, ◌≤◌, List, [], ◌∷◌, ◌++◌, All, ap, get_or, length, refl, subst, sym, take, arith, length-append}
 use Rattle.plan_terms.specs.Terms.{Entry, Case}
 use Rattle.plan_types.specs.declared.report.Outcome.{Outcome}
 use Rattle.cut_pool.specs.Terms.{opening_case, cuts_of}

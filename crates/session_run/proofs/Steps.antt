@@ -1,5 +1,5 @@
 -- one command more
-use Rattle.std.proofs.Common.{◌≡◌, ◌≢◌, ℕ, suc, ◌+◌, ◌==◌, true, false, cond, List, [], ◌∷◌, ◌++◌, All, flat_map, if◌then◌else◌, length, length-append, ⊎_elim, refl, sym, ap, subst, ◌∙◌, arith, Ok, count_by}
+use Rattle.std.proofs.Common.{◌≡◌, ◌≢◌, ℕ, suc, ◌+◌, ◌==◌, true, false, cond, List, [], ◌∷◌, ◌++◌, All, flat_map, if◌then◌else◌, length, length-append, ⊎_elim, refl, sym, ap, subst, ◌∙◌, arith, Ok, count_by, eq-eqb, ne_eqb, append-nil}
 use Rattle.net_core.proofs.Library.{∥∥₁_elim, props, All-append, All-head, All-push, All-tail, All-weaker, filter-append, sum_by-append, cases_eq, nil_from_length, flat_map-append}
 use Rattle.plan_terms.specs.Terms.{Edit, Entry, Edited, Pooled, Reply, Case}
 use Rattle.plan_types.specs.declared.report.Outcome.{Outcome}
@@ -20,9 +20,7 @@ use Rattle.session_run.specs.inner.Turns.{HasActed, PlansAt, Progress}
 use Rattle.session_run.specs.declared.plans.Asked.{Asked}
 use Rattle.turn_lock.specs.Passes.{Seen}
 use Rattle.session_script.specs.Terms.{IsActInForm, IsCommandInForm, asks_plan, is_plan}
-use Rattle.std.proofs.lemmas.Bool.{eq-eqb, ne_eqb}
 use Rattle.session_run.proofs.Runs.{run_edit, run_later, run_plan}
-use Rattle.std.proofs.lemmas.List.{append-nil}
 
 -- ---- lists taken apart
 

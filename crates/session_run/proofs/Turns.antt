@@ -1,7 +1,6 @@
 -- callers at their desk, and what a caller's turn leaves of its own entries
-use Rattle.std.proofs.Common.{◌≡◌, ◌∙◌, ◌-◌, ◌≤◌, ◌++◌, [], ◌∷◌, List, length, sym, ap, subst, arith, Result}
+use Rattle.std.proofs.Common.{◌≡◌, ◌∙◌, ◌-◌, ◌≤◌, ◌++◌, [], ◌∷◌, List, length, sym, ap, subst, arith, Result, append-nil, length-append}
 use Rattle.net_core.proofs.Library.{range_with_len}
-use Rattle.std.proofs.lemmas.List.{append-nil, length-append}
 use Rattle.plan_terms.specs.Terms.{Edit, Entry, Edited}
 use Rattle.cut_pool.specs.declared.answers.EditAnswer.{EditAnswer}
 use Rattle.cut_pool.specs.declared.answers.EditAnswer.TheVariants.{At, Full, NoMemory}

@@ -1,6 +1,5 @@
 -- What a word of a script says, and which words say it.
-use Rattle.std.proofs.Common.{◌≡◌, ℕ, ◌<◌, ◌≤◌, ◌&&◌, Bool, true, false, cond, nat_lt, List, length, Result, Ok, Err, refl, ap, subst, ◌∙◌, arith, count_by, codes}
-use Rattle.std.proofs.lemmas.Bool.{ltb-true, lt-ltb}
+use Rattle.std.proofs.Common.{◌≡◌, ℕ, ◌<◌, ◌≤◌, ◌&&◌, Bool, true, false, cond, nat_lt, List, length, Result, Ok, Err, refl, ap, subst, ◌∙◌, arith, count_by, codes, ltb-true, lt-ltb}
 use Rattle.net_core.proofs.Library.{and_parts}
 use Rattle.net_core.specs.Terms.{are_same}
 use Rattle.snd_tokens.specs.declared.whole_number.WholeFault.{WholeFault}

@@ -1,7 +1,6 @@
 -- that a routing carries demands follows from what is known to hold without a witness: a path's nodes are told by its links
-use Rattle.std.proofs.Common.{◌≡◌, ◌≢◌, ◌∙◌, ℕ, ◌==◌, Bool, cond, if◌then◌else◌, List, [], ◌∷◌, Option, None, Some, inl, inr, ⊎_elim, slice_get, sym, ap, subst, refl}
+use Rattle.std.proofs.Common.{◌≡◌, ◌≢◌, ◌∙◌, ℕ, ◌==◌, Bool, cond, if◌then◌else◌, List, [], ◌∷◌, Option, None, Some, inl, inr, ⊎_elim, slice_get, sym, ap, subst, refl, eq-eqb, ne_eqb}
 use Rattle.net_core.proofs.Library.{∥∥₁_elim, ∥∥₁_map, props, cases_eq, AllByRecursion, option_map_or}
-use Rattle.std.proofs.lemmas.Bool.{eq-eqb, ne_eqb}
 use Rattle.plan_terms.specs.Terms.{Demand, LinkId, Link, Flow, Routing, Graph, HasEnds, Joins, Carries, IsFlow, IsPath, Leads, AreDifferent, last_node}
 
 -- ---- links

@@ -1,6 +1,5 @@
 -- the fallback plan, or the covers of a share
-use Rattle.std.proofs.Common.{◌≡◌, ℕ, ◌*◌, ◌≤◌, ◌<◌, Bool, true, false, if◌then◌else◌, nat_lt, inl, inr, List, [], All, Some, get_or, length, refl, subst, arith, slice_get}
-use Rattle.std.proofs.lemmas.Bool.{ltb-false, ltb-true}
+use Rattle.std.proofs.Common.{◌≡◌, ℕ, ◌*◌, ◌≤◌, ◌<◌, Bool, true, false, if◌then◌else◌, nat_lt, inl, inr, List, [], All, Some, get_or, length, refl, subst, arith, slice_get, ltb-false, ltb-true}
 use Rattle.net_core.proofs.Library.{slice_get-get_or, ∥∥₁_elim, eq-one_of_dvd-one, props, ◌∣◌}
 use Rattle.module_choice.specs.declared.fallback.Fallback.{Fallback}
 use Rattle.module_choice.proofs.Carrying.{few_flows, flows_small}

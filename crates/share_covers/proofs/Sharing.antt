@@ -1,7 +1,5 @@
 -- the routings of a share, as those of counts that cover it
-use Rattle.std.proofs.Common.{◌≡◌, ℕ, zero, suc, ◌+◌, ◌*◌, ◌/◌, ◌^◌, ◌<◌, ◌≤◌, ◌∙◌, cond, eqb, List, [], ◌∷◌, ◌++◌, All, Option, None, Some, get_or, length, map, slice_get, slice_index, take, refl, sym, ap, subst, arith}
-use Rattle.std.proofs.lemmas.Bool.{eq-eqb}
-use Rattle.std.proofs.Math.Nat.{mul-le-mul_left}
+use Rattle.std.proofs.Common.{◌≡◌, ℕ, zero, suc, ◌+◌, ◌*◌, ◌/◌, ◌^◌, ◌<◌, ◌≤◌, ◌∙◌, cond, eqb, List, [], ◌∷◌, ◌++◌, All, Option, None, Some, get_or, length, map, slice_get, slice_index, take, refl, sym, ap, subst, arith, eq-eqb, mul-le-mul_left}
 use Rattle.net_core.proofs.Library.{IsGcd, ◌∣◌, ∥∥₁_elim, ∥∥₁_map, props, All-map, All-more, dvd_trans, dvd-mul_right, dvd_of_mul-dvd-mul_left, eq-one_of_dvd-one, get_or-le-sum_by, get_or_from_slice_get, le_of_dvd, le_of_mul-le-mul_left, length-map, map-append, mul-div_cancel', mul-dvd-mul_left, slice_get-get_or, slice_get_within, take_more}
 use Rattle.net_core.proofs.Lists.{front_all}
 use Rattle.net_core.proofs.Numbers.{positive_divisor}

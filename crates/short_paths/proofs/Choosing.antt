@@ -1,7 +1,6 @@
 -- the arc of least link number, among those that lead on along a shortest path
-use Rattle.std.proofs.Common.{◌≡◌, ℕ, ◌+◌, ◌<◌, ◌≤◌, List, length, get_or, take, Option, None, Some, Bool, true, false, ⊎_elim, refl, subst, arith, MatchOption, IsTrue, ◌↔◌, All, Contains}
+use Rattle.std.proofs.Common.{◌≡◌, ℕ, ◌+◌, ◌<◌, ◌≤◌, List, length, get_or, take, Option, None, Some, Bool, true, false, ⊎_elim, refl, subst, arith, MatchOption, IsTrue, ◌↔◌, All, Contains, take_all}
 use Rattle.net_core.proofs.Library.{cases_lt, All-more, All-weaker, All-contains, Contains-get_or}
-use Rattle.std.proofs.lemmas.List.{take_all}
 use Rattle.short_paths.specs.declared.forward_star.Arc.{Arc}
 use Rattle.short_paths.specs.inner.TightLinks.{IsFirstTight, IsTightLink}
 use Rattle.short_paths.specs.inner.ForwardStars.{HasArc}

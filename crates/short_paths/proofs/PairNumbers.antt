@@ -1,8 +1,6 @@
 -- the numbers of each two nodes, gathered row by row
-use Rattle.std.proofs.Common.{◌≡◌, ◌≢◌, ℕ, map, zero, suc, ◌+◌, ◌-◌, ◌*◌, ◌^◌, ◌<◌, ◌≤◌, List, ◌++◌, length, get_or, take, Some, cond, eqb, min, max, ⊎_elim, refl, sym, subst, ap, ◌∙◌, arith, add-one, le_refl, length-append}
+use Rattle.std.proofs.Common.{◌≡◌, ◌≢◌, ℕ, map, zero, suc, ◌+◌, ◌-◌, ◌*◌, ◌^◌, ◌<◌, ◌≤◌, List, ◌++◌, length, get_or, take, Some, cond, eqb, min, max, ⊎_elim, refl, sym, subst, ap, ◌∙◌, arith, add-one, le_refl, length-append, eq-eqb, ne_eqb, get_or-append-add, get_or-take, length-take-le}
 use Rattle.net_core.proofs.Library.{cases_lt, cases_eq, get_or_append_left, get_or-map, length-map, All-append, All-map, All-take, All-same, All-from_get_or}
-use Rattle.std.proofs.lemmas.Bool.{eq-eqb, ne_eqb}
-use Rattle.std.proofs.lemmas.List.{get_or-append-add, get_or-take, length-take-le}
 use Rattle.plan_terms.specs.Terms.{IsDistance}
 use Rattle.plan_terms.proofs.Lemmas.{distance_none, distance_back}
 use Rattle.short_paths.specs.declared.dijkstra.TheConstants.{FAR}

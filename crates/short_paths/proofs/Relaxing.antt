@@ -1,8 +1,7 @@
 -- the arcs of a node that are tried one after another
-use Rattle.std.proofs.Common.{◌≡◌, ℕ, ◌+◌, ◌<◌, ◌≤◌, List, length, get_or, take, min, ◌⊎◌, inl, inr, ⊎_elim, refl, sym, subst, arith, All, Contains, slice_set}
+use Rattle.std.proofs.Common.{◌≡◌, ℕ, ◌+◌, ◌<◌, ◌≤◌, List, length, get_or, take, min, ◌⊎◌, inl, inr, ⊎_elim, refl, sym, subst, arith, All, Contains, slice_set, take_all}
 use Rattle.net_core.proofs.Library.{cases_eq, cases_lt, All-more, All-weaker, All-contains, Contains-get_or}
 use Rattle.std.proofs.lemmas.Grind.{common_steps}
-use Rattle.std.proofs.lemmas.List.{take_all}
 use Rattle.short_paths.specs.declared.forward_star.Arc.{Arc}
 use Rattle.short_paths.specs.inner.ForwardStars.{HasArc}
 

@@ -1,6 +1,5 @@
 -- from the table of a search to distances
-use Rattle.std.proofs.Common.{◌≡◌, ℕ, ◌+◌, ◌-◌, ◌^◌, ◌<◌, ◌≤◌, List, [], ◌∷◌, length, get_or, Option, None, Some, cond, eqb, true, false, map, ap, refl, sym, subst, ◌∙◌, arith}
-use Rattle.std.proofs.lemmas.Bool.{eqb-true}
+use Rattle.std.proofs.Common.{◌≡◌, ℕ, ◌+◌, ◌-◌, ◌^◌, ◌<◌, ◌≤◌, List, [], ◌∷◌, length, get_or, Option, None, Some, cond, eqb, true, false, map, ap, refl, sym, subst, ◌∙◌, arith, eqb-true}
 use Rattle.net_core.proofs.Library.{eqb-false, length-map, get_or-map}
 use Rattle.plan_terms.specs.Terms.{LinkId, Leads, last_node, length_of, IsPath, IsDistance}
 use Rattle.plan_terms.proofs.Lemmas.{distance_alike, shortcut}

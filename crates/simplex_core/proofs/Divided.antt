@@ -1,7 +1,5 @@
 -- rows combined by factors that have a common divisor, and without it
-use Rattle.std.proofs.Common.{◌≡◌, ℕ, ◌<◌, ◌^◌, List, length, None, pos, sym, ◌∙◌, subst, arith}
-use Rattle.std.proofs.Math.IntN.{ℤ, ◌*ℤ◌}
-use Rattle.std.specs.Int.Signed.{◌<ℤ◌}
+use Rattle.std.proofs.Common.{◌≡◌, ℕ, ◌<◌, ◌^◌, List, length, None, pos, sym, ◌∙◌, subst, arith, ℤ, ◌*ℤ◌, ◌<ℤ◌}
 use Rattle.checked_fraction.specs.Terms.{num, IsReduced, combined}
 use Rattle.checked_fraction.proofs.Products.{mixed_times, moved, regroup}
 use Rattle.checked_fraction.proofs.Reduced.{scaled}

@@ -1,8 +1,6 @@
 -- the end: values over one denominator, and programs that stay the same
-use Rattle.std.proofs.Common.{◌≡◌, ℕ, ◌<◌, ◌*◌, ◌/◌, ◌^◌, List, length, get_or, refl, sym, ap, subst, ◌∙◌, arith, inl, inr, ⊎_elim, unsigned_abs, Result, Ok, Err}
-use Rattle.std.proofs.Math.IntN.{ℤ, pos, negsuc, ◌*ℤ◌, ◌-ℤ◌}
+use Rattle.std.proofs.Common.{◌≡◌, ℕ, ◌<◌, ◌*◌, ◌/◌, ◌^◌, List, length, get_or, refl, sym, ap, subst, ◌∙◌, arith, inl, inr, ⊎_elim, unsigned_abs, Result, Ok, Err, ℤ, pos, negsuc, ◌*ℤ◌, ◌-ℤ◌, ◌<ℤ◌, ◌≤ℤ◌}
 use Rattle.net_core.proofs.Library.{◌∣◌, ints, get_or_from_slice_get}
-use Rattle.std.specs.Int.Signed.{◌<ℤ◌, ◌≤ℤ◌}
 use Rattle.checked_fraction.specs.Terms.{num, IsInLowestTerms}
 use Rattle.simplex_law.specs.Terms.{dot, ColumnOf, IsProgramColumn, IsPacking, IsSlack, IsOptimum, AreNames}
 use Rattle.simplex_law.proofs.Lemmas.{dot-same, limited, optimum, greatest, none_gains, value_nonneg, value_low}

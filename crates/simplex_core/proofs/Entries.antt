@@ -1,6 +1,5 @@
 -- the products of a row with entries, one after another
-use Rattle.std.proofs.Common.{◌≡◌, ℕ, zero, suc, ◌<◌, ◌≤◌, ◌+◌, List, [], ◌∷◌, length, drop, get_or, refl, subst, arith}
-use Rattle.std.proofs.Math.IntN.{ℤ, pos, ◌+ℤ◌, ◌*ℤ◌}
+use Rattle.std.proofs.Common.{◌≡◌, ℕ, zero, suc, ◌<◌, ◌≤◌, ◌+◌, List, [], ◌∷◌, length, drop, get_or, refl, subst, arith, ℤ, pos, ◌+ℤ◌, ◌*ℤ◌}
 use Rattle.net_core.proofs.Library.{AllByRecursion}
 use Rattle.simplex_law.proofs.Lemmas.{entry_dot}
 use Rattle.simplex_core.specs.Columns.{IsEntry}

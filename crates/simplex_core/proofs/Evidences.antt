@@ -1,6 +1,5 @@
 -- what is too wide is evidence
-use Rattle.std.proofs.Common.{◌≡◌, ℕ, ◌<◌, ◌≤◌, ◌^◌, List, length, slice_set, sym, subst, arith, ⊎_elim}
-use Rattle.std.proofs.Math.IntN.{ℤ}
+use Rattle.std.proofs.Common.{◌≡◌, ℕ, ◌<◌, ◌≤◌, ◌^◌, List, length, slice_set, sym, subst, arith, ⊎_elim, ℤ}
 use Rattle.checked_fraction.specs.Terms.{num, IsInLowestTerms}
 use Rattle.net_core.specs.declared.columns.WideKind.{WideKind}
 use Rattle.net_core.specs.declared.columns.WideKind.TheVariants.{Number, Row as RowOf, Product, Sum, Common, Value, Length}

@@ -1,6 +1,5 @@
 -- the values of rows as fractions
-use Rattle.std.proofs.Common.{◌≡◌, ℕ, ◌+◌, ◌*◌, ◌++◌, List, [], ◌∷◌, length, length-append, Some, slice_get, sym, ap, subst, arith, unsigned_abs}
-use Rattle.std.proofs.Math.IntN.{ℤ}
+use Rattle.std.proofs.Common.{◌≡◌, ℕ, ◌+◌, ◌*◌, ◌++◌, List, [], ◌∷◌, length, length-append, Some, slice_get, sym, ap, subst, arith, unsigned_abs, ℤ}
 use Rattle.net_core.proofs.Library.{◌∣◌}
 use Rattle.checked_fraction.specs.Terms.{num}
 use Rattle.checked_fraction.specs.declared.row.Row.{Row}

@@ -1,7 +1,5 @@
 -- what the code reads of a table's rows
-use Rattle.std.proofs.Common.{◌≡◌, ◌≢◌, ℕ, ◌<◌, ◌+◌, ◌^◌, List, length, Option, slice_get, slice_set, get_or, get_or-set_same, get_or-set_other, below_more, sym, ap, subst, ◌∙◌, arith, unsigned_abs}
-use Rattle.std.proofs.Math.IntN.{ℤ, ◌*ℤ◌}
-use Rattle.std.specs.declared.cmp.Ordering.{Ordering}
+use Rattle.std.proofs.Common.{◌≡◌, ◌≢◌, ℕ, ◌<◌, ◌+◌, ◌^◌, List, length, Option, slice_get, slice_set, get_or, get_or-set_same, get_or-set_other, below_more, sym, ap, subst, ◌∙◌, arith, unsigned_abs, ℤ, ◌*ℤ◌, Ordering}
 use Rattle.checked_fraction.specs.Terms.{num}
 use Rattle.checked_fraction.specs.declared.row.Row.{Row}
 use Rattle.simplex_law.specs.Terms.{dot}

@@ -1,9 +1,6 @@
 -- what holds of the basis at each turn
-use Rattle.std.proofs.Common.{◌≡◌, ℕ, ◌<◌, ◌^◌, List, length, Some, slice_get, slice_set, length-set, cond, refl, sym, ap, subst, ◌∙◌, arith, ⊎_elim, unsigned_abs}
-use Rattle.std.proofs.Math.IntN.{ℤ, pos}
-use Rattle.std.specs.Int.Signed.{◌≤ℤ◌}
+use Rattle.std.proofs.Common.{◌≡◌, ℕ, ◌<◌, ◌^◌, List, length, Some, slice_get, slice_set, length-set, cond, refl, sym, ap, subst, ◌∙◌, arith, ⊎_elim, unsigned_abs, ℤ, pos, ◌≤ℤ◌, eq-eqb, ne_eqb}
 use Rattle.net_core.proofs.Library.{ints, cases_eq}
-use Rattle.std.proofs.lemmas.Bool.{eq-eqb, ne_eqb}
 use Rattle.checked_fraction.specs.Terms.{num, IsInLowestTerms}
 use Rattle.checked_fraction.specs.declared.row.Row.{Row}
 use Rattle.simplex_law.specs.Terms.{dot, put, ColumnOf, IsProgramColumn, IsPacking, slack_basis, IsPick, AreNames, IsReached}

@@ -1,9 +1,6 @@
 -- the ring laws and the order of whole numbers
-use Rattle.std.proofs.Common.{◌≡◌, zero, suc, ◌≤◌, ◌+◌, ◌*◌, sym, ap, ◌∙◌, arith, subst}
-use Rattle.std.proofs.Math.IntN.{ℤ, pos, negsuc, ◌+ℤ◌, ◌-ℤ◌, ◌*ℤ◌}
+use Rattle.std.proofs.Common.{◌≡◌, zero, suc, ◌≤◌, ◌+◌, ◌*◌, sym, ap, ◌∙◌, arith, subst, ℤ, pos, negsuc, ◌+ℤ◌, ◌-ℤ◌, ◌*ℤ◌, mul-le-mul_left, ◌<ℤ◌, ◌≤ℤ◌}
 use Rattle.net_core.proofs.Library.{*ℤ_comm, *ℤ-zero, ints, by_lt_z}
-use Rattle.std.proofs.Math.Nat.{mul-le-mul_left}
-use Rattle.std.specs.Int.Signed.{◌<ℤ◌, ◌≤ℤ◌}
 use borrow.Author.Differences.{up, down, sum_is_lem}
 use Rattle.checked_fraction.proofs.Products.{regroup, positive_product, cancelled}
 

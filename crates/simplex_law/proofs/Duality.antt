@@ -1,6 +1,5 @@
 -- weak duality, and columns that fill the rows
-use Rattle.std.proofs.Common.{◌≡◌, ℕ, ◌<◌, sym, ap, ◌∙◌, arith}
-use Rattle.std.proofs.Math.IntN.{ℤ, ◌*ℤ◌}
+use Rattle.std.proofs.Common.{◌≡◌, ℕ, ◌<◌, sym, ap, ◌∙◌, arith, ℤ, ◌*ℤ◌}
 use Rattle.net_core.proofs.Library.{ints}
 use Rattle.simplex_law.specs.Sums.{int_sum, dot}
 use Rattle.simplex_law.specs.Optima.{PackingDuality}

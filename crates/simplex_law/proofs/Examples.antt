@@ -1,7 +1,5 @@
 -- the definitions on small programs, worked out by hand
-use Rattle.std.proofs.Common.{◌≡◌, ℕ, zero, suc, ◌+◌, ◌<◌, ◌^◌, ◌⊎◌, refl, sym, arith, inl, inr, ⊎_elim, cond, eqb, subst}
-use Rattle.std.proofs.Math.IntN.{ℤ, pos, negsuc, ◌*ℤ◌}
-use Rattle.std.specs.Int.Signed.{◌<ℤ◌}
+use Rattle.std.proofs.Common.{◌≡◌, ℕ, zero, suc, ◌+◌, ◌<◌, ◌^◌, ◌⊎◌, refl, sym, arith, inl, inr, ⊎_elim, cond, eqb, subst, ℤ, pos, negsuc, ◌*ℤ◌, ◌<ℤ◌}
 use Rattle.net_core.proofs.Library.{ints, eq-one_of_dvd-one}
 use Rattle.simplex_law.specs.Sums.{dot, unit_vector, put}
 use Rattle.simplex_law.specs.Programs.{ColumnOf, IsProgramColumn, slack_basis}

@@ -1,9 +1,6 @@
 -- the inverse from the other side: the columns times the rows
-use Rattle.std.proofs.Common.{◌≡◌, ℕ, ◌<◌, refl, sym, ap, ◌∙◌, arith, ⊎_elim, subst, cond, eqb, Bool, true, false}
-use Rattle.std.proofs.Math.IntN.{ℤ, pos, ◌+ℤ◌, ◌-ℤ◌, ◌*ℤ◌}
+use Rattle.std.proofs.Common.{◌≡◌, ℕ, ◌<◌, refl, sym, ap, ◌∙◌, arith, ⊎_elim, subst, cond, eqb, Bool, true, false, ℤ, pos, ◌+ℤ◌, ◌-ℤ◌, ◌*ℤ◌, ◌<ℤ◌, eq-eqb, ne_eqb}
 use Rattle.net_core.proofs.Library.{*ℤ_comm, *ℤ-zero, zero-*ℤ, ints, cases_eq}
-use Rattle.std.specs.Int.Signed.{◌<ℤ◌}
-use Rattle.std.proofs.lemmas.Bool.{eq-eqb, ne_eqb}
 use Rattle.checked_fraction.specs.Terms.{combined}
 use Rattle.simplex_law.specs.Sums.{int_sum, dot, unit_vector, put}
 use Rattle.simplex_law.specs.inner.Tableaux.{IsFilling}

@@ -1,7 +1,5 @@
 -- each row has lowest terms
-use Rattle.std.proofs.Common.{◌≡◌, ℕ, zero, suc, ◌<◌, ◌+◌, ◌*◌, ◌/◌, ◌%◌, refl, sym, ap, ◌∙◌, arith, subst, unsigned_abs}
-use Rattle.std.proofs.Math.IntN.{ℤ, pos, negsuc, ◌-ℤ◌, ◌*ℤ◌}
-use Rattle.std.specs.Int.Signed.{◌<ℤ◌}
+use Rattle.std.proofs.Common.{◌≡◌, ℕ, zero, suc, ◌<◌, ◌+◌, ◌*◌, ◌/◌, ◌%◌, refl, sym, ap, ◌∙◌, arith, subst, unsigned_abs, ℤ, pos, negsuc, ◌-ℤ◌, ◌*ℤ◌, ◌<ℤ◌}
 use Rattle.net_core.proofs.Library.{◌∣◌, IsGcd, ints, unsigned_abs-mul, IsGcd-from_zero, IsGcd-from_mod, mul-div_cancel', mul-dvd-mul_left, dvd_of_mul-dvd-mul_left}
 use Rattle.std.proofs.Math.Nat.{dvd-one}
 use Rattle.checked_fraction.specs.Terms.{IsInLowestTerms, IsRowGcd}

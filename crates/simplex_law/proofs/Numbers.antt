@@ -1,9 +1,7 @@
 -- the number of a vector of fractions rises with the vector
-use Rattle.std.proofs.Common.{◌≡◌, ℕ, zero, suc, ◌<◌, ◌≤◌, ◌+◌, ◌*◌, ◌-◌, ◌^◌, ◌/◌, refl, sym, ap, arith, ⊎_elim, subst, unsigned_abs}
-use Rattle.std.proofs.Math.IntN.{ℤ, pos, ◌+ℤ◌, ◌*ℤ◌}
+use Rattle.std.proofs.Common.{◌≡◌, ℕ, zero, suc, ◌<◌, ◌≤◌, ◌+◌, ◌*◌, ◌-◌, ◌^◌, ◌/◌, refl, sym, ap, arith, ⊎_elim, subst, unsigned_abs, ℤ, pos, ◌+ℤ◌, ◌*ℤ◌, ◌<ℤ◌}
 use Rattle.std.proofs.Math.Nat.{mul-le-mul_right, div-mul-le_self, le-div_iff_mul-le, div-lt_iff_lt-mul, pow-zero, pow-succ'}
 use Rattle.net_core.proofs.Library.{le_of_mul-le-mul_left, ints, unsigned_abs-mul, mul-le}
-use Rattle.std.specs.Int.Signed.{◌<ℤ◌}
 use borrow.Author.Differences.{up, down}
 use Rattle.simplex_law.specs.inner.Lexicographic.{valued}
 use Rattle.simplex_law.specs.inner.Measures.{AreNarrowDuals, digit, lex_number, left_below, left_over}

@@ -1,8 +1,6 @@
 -- a state's basis is feasible, a turn is a step, and the start is the slack basis
-use Rattle.std.proofs.Common.{◌≡◌, ℕ, suc, ◌<◌, refl, sym, ap, ◌∙◌, arith, inl, inr, ⊎_elim, cond, eqb, Bool, true, false, subst}
-use Rattle.std.proofs.Math.IntN.{ℤ, pos, ◌-ℤ◌, ◌*ℤ◌}
+use Rattle.std.proofs.Common.{◌≡◌, ℕ, suc, ◌<◌, refl, sym, ap, ◌∙◌, arith, inl, inr, ⊎_elim, cond, eqb, Bool, true, false, subst, ℤ, pos, ◌-ℤ◌, ◌*ℤ◌, ◌<ℤ◌, ◌≤ℤ◌}
 use Rattle.net_core.proofs.Library.{*ℤ-zero, ints, by_lt_z}
-use Rattle.std.specs.Int.Signed.{◌<ℤ◌, ◌≤ℤ◌}
 use Rattle.simplex_law.specs.Sums.{dot, put, unit_vector}
 use Rattle.simplex_law.specs.Programs.{ColumnOf, IsSlack, slack_basis, IsProgramColumn}
 use Rattle.simplex_law.specs.Bases.{IsFeasible, GainingStep, IsReached}

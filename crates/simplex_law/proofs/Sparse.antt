@@ -1,8 +1,6 @@
 -- the product with a column's entries alone is the product with the column
-use Rattle.std.proofs.Common.{◌≡◌, ℕ, ◌<◌, List, [], ◌∷◌, sym, ap, ◌∙◌, arith, cond, eqb}
-use Rattle.std.proofs.Math.IntN.{ℤ, pos, ◌+ℤ◌, ◌*ℤ◌}
+use Rattle.std.proofs.Common.{◌≡◌, ℕ, ◌<◌, List, [], ◌∷◌, sym, ap, ◌∙◌, arith, cond, eqb, ℤ, pos, ◌+ℤ◌, ◌*ℤ◌, eq-eqb, ne_eqb}
 use Rattle.net_core.proofs.Library.{*ℤ-zero, ints, AllByRecursion}
-use Rattle.std.proofs.lemmas.Bool.{eq-eqb, ne_eqb}
 use Rattle.simplex_law.specs.Sums.{dot}
 use Rattle.simplex_law.specs.Programs.{entry_at}
 use Rattle.simplex_law.proofs.Arithmetic.{distribute_left}

@@ -1,9 +1,6 @@
 -- one turn of the simplex method
-use Rattle.std.proofs.Common.{◌≡◌, ◌≢◌, ℕ, suc, ◌<◌, refl, sym, ap, ◌∙◌, arith, ◌⊎◌, ⊎_elim, cond, eqb, Bool, true, false, subst}
+use Rattle.std.proofs.Common.{◌≡◌, ◌≢◌, ℕ, suc, ◌<◌, refl, sym, ap, ◌∙◌, arith, ◌⊎◌, ⊎_elim, cond, eqb, Bool, true, false, subst, eq-eqb, ne_eqb, ℤ, pos, ◌-ℤ◌, ◌*ℤ◌, ◌<ℤ◌}
 use Rattle.net_core.proofs.Library.{cases_eq, ints, by_lt_z}
-use Rattle.std.proofs.lemmas.Bool.{eq-eqb, ne_eqb}
-use Rattle.std.proofs.Math.IntN.{ℤ, pos, ◌-ℤ◌, ◌*ℤ◌}
-use Rattle.std.specs.Int.Signed.{◌<ℤ◌}
 use Rattle.checked_fraction.specs.Terms.{combined}
 use Rattle.simplex_law.specs.Sums.{dot, unit_vector, put}
 use Rattle.simplex_law.specs.Programs.{ColumnOf}

@@ -1,9 +1,6 @@
 -- the rows of a basis are unique but for a factor, so any of them make a tableau
-use Rattle.std.proofs.Common.{◌≡◌, ℕ, zero, suc, ◌<◌, sym, ap, ◌∙◌, arith, ⊎_elim, cond, subst}
+use Rattle.std.proofs.Common.{◌≡◌, ℕ, zero, suc, ◌<◌, sym, ap, ◌∙◌, arith, ⊎_elim, cond, subst, eq-eqb, ne_eqb, ℤ, pos, ◌*ℤ◌, ◌<ℤ◌}
 use Rattle.net_core.proofs.Library.{cases_eq, *ℤ_comm, *ℤ-zero, ints}
-use Rattle.std.proofs.lemmas.Bool.{eq-eqb, ne_eqb}
-use Rattle.std.proofs.Math.IntN.{ℤ, pos, ◌*ℤ◌}
-use Rattle.std.specs.Int.Signed.{◌<ℤ◌}
 use Rattle.simplex_law.specs.Sums.{int_sum, dot, unit_vector, put}
 use Rattle.simplex_law.specs.Programs.{ColumnOf}
 use Rattle.simplex_law.specs.Bases.{IsRow}

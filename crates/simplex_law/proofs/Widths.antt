@@ -1,9 +1,6 @@
 -- where a number is too wide, its kind holds of the basis
-use Rattle.std.proofs.Common.{◌≡◌, ◌≢◌, ℕ, ◌<◌, ◌≤◌, ◌-◌, ◌*◌, ◌^◌, refl, sym, ap, ◌∙◌, arith, inl, inr, ⊎_elim, cond, subst, unsigned_abs}
+use Rattle.std.proofs.Common.{◌≡◌, ◌≢◌, ℕ, ◌<◌, ◌≤◌, ◌-◌, ◌*◌, ◌^◌, refl, sym, ap, ◌∙◌, arith, inl, inr, ⊎_elim, cond, subst, unsigned_abs, eq-eqb, ne_eqb, ℤ, pos, ◌-ℤ◌, ◌*ℤ◌, ◌<ℤ◌}
 use Rattle.net_core.proofs.Library.{cases_lt, ◌∣◌, ints, unsigned_abs-mul, mul-le}
-use Rattle.std.proofs.lemmas.Bool.{eq-eqb, ne_eqb}
-use Rattle.std.proofs.Math.IntN.{ℤ, pos, ◌-ℤ◌, ◌*ℤ◌}
-use Rattle.std.specs.Int.Signed.{◌<ℤ◌}
 use Rattle.std.proofs.lemmas.Nat.Gcd.{le_of_dvd}
 use Rattle.checked_fraction.specs.Terms.{IsInLowestTerms, IsNarrow, combined, IsTooWide, IsFirstWide}
 use Rattle.checked_fraction.specs.declared.wide.WideNumber.{WideNumber}

@@ -1,7 +1,6 @@
 -- numbers, digit by digit
-use Rattle.std.proofs.Common.{◌≡◌, ℕ, true, zero, suc, ◌+◌, ◌-◌, ◌*◌, ◌^◌, ◌<◌, ◌≤◌, min, List, [], ◌∷◌, ◌++◌, length, get_or, take, drop, replicate, ap, ◌∙◌, subst, refl, sym, arith, drop-cons, add-one, length-append, length-take, pow-add}
+use Rattle.std.proofs.Common.{◌≡◌, ℕ, true, zero, suc, ◌+◌, ◌-◌, ◌*◌, ◌^◌, ◌<◌, ◌≤◌, min, List, [], ◌∷◌, ◌++◌, length, get_or, take, drop, replicate, ap, ◌∙◌, subst, refl, sym, arith, drop-cons, add-one, length-append, length-take, pow-add, pow-suc, mul-le-mul_left}
 use Rattle.net_core.proofs.Library.{list_all, and_from, and_parts, length-replicate, pow-le-pow_right}
-use Rattle.std.proofs.Math.Nat.{pow-suc, mul-le-mul_left}
 use Rattle.snd_tokens.specs.Digits.{is_digit, number_of, number_after}
 use Rattle.snd_tokens.specs.Amounts.{first_places}
 

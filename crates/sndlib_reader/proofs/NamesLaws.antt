@@ -1,7 +1,6 @@
 -- Names, and what is looked up among them.
-use Rattle.std.proofs.Common.{◌≡◌, ℕ, ◌==◌, false, List, [], ◌∷◌, ◌++◌, map, refl, sym, subst, ◌∙◌, ⊎_elim, Bor, position}
+use Rattle.std.proofs.Common.{◌≡◌, ℕ, ◌==◌, false, List, [], ◌∷◌, ◌++◌, map, refl, sym, subst, ◌∙◌, ⊎_elim, Bor, position, ne_eqb}
 use Rattle.net_core.proofs.Library.{list_any, position_or_len, pointwise, cases_eq, length-map, map_push}
-use Rattle.std.proofs.lemmas.Bool.{ne_eqb}
 use Rattle.indexmap.specs.IndexSet.{insert_key}
 use Rattle.net_core.specs.Terms.{are_same, is_named}
 

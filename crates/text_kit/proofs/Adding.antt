@@ -1,7 +1,6 @@
 -- Items that are added to a text one after another.
-use Rattle.std.proofs.Common.{◌≡◌, ℕ, ◌+◌, ◌<◌, ◌≤◌, ◌^◌, ◌/◌, List, [], ◌∷◌, ◌++◌, length, get_or, take, sym, ap, subst, ◌∙◌, arith, append_assoc, append-nil, length-append, flat_map, Result, Ok, Err, OnOk, decimal}
+use Rattle.std.proofs.Common.{◌≡◌, ℕ, ◌+◌, ◌<◌, ◌≤◌, ◌^◌, ◌/◌, List, [], ◌∷◌, ◌++◌, length, get_or, take, sym, ap, subst, ◌∙◌, arith, append_assoc, append-nil, length-append, flat_map, Result, Ok, Err, OnOk, decimal, take_all}
 use Rattle.net_core.proofs.Library.{AllByRecursion, length-decimal-le, flat_map-append, take_more}
-use Rattle.std.proofs.lemmas.List.{take_all}
 use Rattle.net_core.specs.declared.places.Places.{Places}
 use Rattle.net_core.specs.Terms.{IsName, digits_after_point}
 use Rattle.text_kit.specs.Edits.{enclosed, section}

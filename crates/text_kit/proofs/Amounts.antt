@@ -1,6 +1,5 @@
 -- Words of amounts are those of money below 2^40 units of the network.
-use Rattle.std.proofs.Common.{◌≡◌, ℕ, ◌^◌, ◌<◌, true, cond, not, nat_lt, List, [], ◌∷◌, Result, Ok, Err, ap, subst, arith, refl}
-use Rattle.std.proofs.lemmas.Bool.{ltb-true, lt-ltb}
+use Rattle.std.proofs.Common.{◌≡◌, ℕ, ◌^◌, ◌<◌, true, cond, not, nat_lt, List, [], ◌∷◌, Result, Ok, Err, ap, subst, arith, refl, ltb-true, lt-ltb}
 use Rattle.net_core.specs.declared.places.Places.{Places}
 use Rattle.net_core.specs.Terms.{digits_after_point}
 use Rattle.snd_tokens.specs.declared.amounts.NumberFault.{NumberFault}

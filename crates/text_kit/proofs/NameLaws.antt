@@ -1,7 +1,6 @@
 -- Which words are names: any, new ones, and those that name something.
-use Rattle.std.proofs.Common.{◌≡◌, ◌≢◌, ℕ, ◌<◌, ◌≤◌, Bool, true, false, cond, nat_lt, List, [], ◌∷◌, length, get_or, All, AllPairs, Option, None, Some, Ok, refl, sym, ap, subst, ◌∙◌, arith, position}
+use Rattle.std.proofs.Common.{◌≡◌, ◌≢◌, ℕ, ◌<◌, ◌≤◌, Bool, true, false, cond, nat_lt, List, [], ◌∷◌, length, get_or, All, AllPairs, Option, None, Some, Ok, refl, sym, ap, subst, ◌∙◌, arith, position, ltb-true, ltb-false, le-ltb, lt-ltb}
 use Rattle.net_core.proofs.Library.{position_or_len, position-Some, position_or_len_is}
-use Rattle.std.proofs.lemmas.Bool.{ltb-true, ltb-false, le-ltb, lt-ltb}
 use Rattle.net_core.specs.Terms.{are_same, is_named}
 use Rattle.net_core.proofs.Accepted.{differ}
 use Rattle.text_kit.specs.Items.{ComeAfter, Verbatim}

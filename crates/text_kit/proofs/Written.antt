@@ -1,7 +1,6 @@
 -- A text that was written begins with its items.
-use Rattle.std.proofs.Common.{◌≡◌, ℕ, ◌+◌, ◌-◌, ◌≤◌, ◌<◌, ◌==◌, ◌||◌, Bool, true, false, not, List, [], ◌∷◌, ◌++◌, length, get_or, take, drop, refl, sym, ap, subst, ◌∙◌, arith, length-drop, drop-cons, add-one, append_assoc, decimal}
+use Rattle.std.proofs.Common.{◌≡◌, ℕ, ◌+◌, ◌-◌, ◌≤◌, ◌<◌, ◌==◌, ◌||◌, Bool, true, false, not, List, [], ◌∷◌, ◌++◌, length, get_or, take, drop, refl, sym, ap, subst, ◌∙◌, arith, length-drop, drop-cons, add-one, append_assoc, decimal, drop-drop}
 use Rattle.net_core.proofs.Library.{AllByRecursion, list_all, and_parts}
-use Rattle.std.proofs.lemmas.List.{drop-drop}
 use Rattle.snd_tokens.specs.declared.token.TokenKind.TheVariants as kinds
 use Rattle.net_core.specs.Terms.{is_plain, is_space, is_word_byte}
 use Rattle.snd_tokens.specs.Terms.{run_length, starts_token, token_of, token_bytes, tokens_from, Text, WordAt, OpenAt, CloseAt, EndAt, text_of, text_from}

@@ -1,6 +1,5 @@
 -- no counts of an emptied box meet the line that empties it
-use Rattle.std.proofs.Common.{◌≡◌, ◌≢◌, ℕ, ◌*◌, ◌≤◌, Option, None, Some, IfSome, IsSome, unwrap_or, ⊎_elim, arith}
-use Rattle.std.proofs.Math.Nat.{mul-le-mul_left}
+use Rattle.std.proofs.Common.{◌≡◌, ◌≢◌, ℕ, ◌*◌, ◌≤◌, Option, None, Some, IfSome, IsSome, unwrap_or, ⊎_elim, arith, mul-le-mul_left}
 use Rattle.net_core.proofs.Library.{cases_eq}
 use Rattle.tree_check.specs.Boxes.{span_at}
 use Rattle.tree_check.specs.Laws.{EmptiedHasNone}

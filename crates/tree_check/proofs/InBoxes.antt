@@ -1,6 +1,5 @@
 -- the counts of a box, module by module
-use Rattle.std.proofs.Common.{◌≡◌, ℕ, zero, suc, ◌≤◌, ◌<◌, ◌+◌, List, [], ◌∷◌, ◌⊎◌, inl, inr, ⊎_elim, length, get_or, replicate, slice_index, refl, ap, arith}
-use Rattle.std.proofs.Math.ListN.{set}
+use Rattle.std.proofs.Common.{◌≡◌, ℕ, zero, suc, ◌≤◌, ◌<◌, ◌+◌, List, [], ◌∷◌, ◌⊎◌, inl, inr, ⊎_elim, length, get_or, replicate, slice_index, refl, ap, arith, set}
 use Rattle.std.specs.List.{AllZip}
 use Rattle.net_core.proofs.Library.{cases_lt}
 use Rattle.plan_terms.specs.Terms.{AreCounts, Link}

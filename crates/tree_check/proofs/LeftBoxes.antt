@@ -1,6 +1,5 @@
 -- the boxes that are left, node by node
-use Rattle.std.proofs.Common.{◌≡◌, ℕ, zero, suc, ◌+◌, List, [], ◌∷◌, ◌++◌, Some, length, replicate, take, slice_get, add-one, arith}
-use Rattle.std.proofs.Math.ListN.{set, length-set}
+use Rattle.std.proofs.Common.{◌≡◌, ℕ, zero, suc, ◌+◌, List, [], ◌∷◌, ◌++◌, Some, length, replicate, take, slice_get, add-one, arith, set, length-set}
 use Rattle.net_core.proofs.Library.{length-map, length-replicate}
 use Rattle.plan_terms.specs.Terms.{AreCounts, Link}
 use Rattle.tree_check.specs.Boxes.{any_count, least_counts, spans_of, whole_box}

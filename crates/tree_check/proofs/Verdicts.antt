@@ -7,11 +7,9 @@ use Rattle.master_bound.specs.declared.answer.Multiplier.{Multiplier}
 use Rattle.tree_check.specs.Boxes.{AreInBox}
 use Rattle.tree_check.specs.BoxValues.{HasBoxValue}
 use Rattle.tree_check.specs.Laws.{CheapestHolds, IsSplitIfAny, OpenLeavesHold}
-use Rattle.line_check.specs.Inequalities.{AreNamedBy, MeetsLine, WeightedLine}
-use Rattle.line_check.specs.Lines.{sources_of}
+use Rattle.line_check.specs.Terms.{AreNamedBy, MeetsLine, WeightedLine, sources_of, Inequality}
 use Rattle.tree_check.specs.Proofs.{HoldsNode, IsAcceptedProof, IsOpenAt, VerdictFollows, names_of}
 use Rattle.tree_check.specs.Trees.{IsNodeOf, TreeBox, sides_of}
-use Rattle.line_check.specs.declared.inequality.Inequality.{Inequality}
 use Rattle.tree_check.specs.declared.proof.BoxCert.{BoxCert}
 use Rattle.tree_check.specs.declared.proof.Node.{Node}
 use Rattle.tree_check.specs.declared.proof.Node.TheVariants.{Split, Closed, Empty, Spent, Stuck}

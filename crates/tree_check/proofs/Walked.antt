@@ -1,15 +1,12 @@
 -- a walk, node by node, and what it ends with
-use Rattle.std.proofs.Common.{◌≡◌, ℕ, ◌+◌, ◌<◌, ◌≤◌, true, false, List, [], ◌∷◌, Option, None, Some, inl, inr, ⊎_elim, length, min, slice_get, take, refl, ap, subst, sym, ◌∙◌, arith}
-use Rattle.std.proofs.lemmas.List.{take_all}
+use Rattle.std.proofs.Common.{◌≡◌, ℕ, ◌+◌, ◌<◌, ◌≤◌, true, false, List, [], ◌∷◌, Option, None, Some, inl, inr, ⊎_elim, length, min, slice_get, take, refl, ap, subst, sym, ◌∙◌, arith, take_all}
 use Rattle.net_core.proofs.Library.{All-append, All-cons, All-nil, All-tail, cases_lt, false_from_ne_true, nil_from_length, slice_get_within}
 use Rattle.plan_checker.specs.Terms.{IsLeastPlace}
 use Rattle.plan_terms.specs.Terms.{AreCounts, Case, Link, case_of}
 use Rattle.tree_check.specs.Boxes.{beyond, least_counts, lower_side, span_at, up_to, upper_side, whole_box}
-use Rattle.line_check.specs.Lines.{sources_of}
-use Rattle.line_check.specs.Testing.{AreTested, names_by}
+use Rattle.line_check.specs.Terms.{sources_of, AreTested, names_by, Inequality, Tested}
 use Rattle.tree_check.specs.Proofs.{FailsAtNode, HasOpenValue, HoldsAtNode, HoldsNode, IsAcceptedProof, IsLeastValue, IsOpenAt, IsUnfounded, VerdictFollows, names_of}
 use Rattle.tree_check.specs.Trees.{IsNodeOf, IsWhole, TreeBox, boxes_left, sides_of}
-use Rattle.line_check.specs.declared.inequality.Inequality.{Inequality}
 use Rattle.tree_check.specs.declared.nodes.Held.{Held}
 use Rattle.tree_check.specs.declared.nodes.Held.TheVariants.{Settled, Open}
 use Rattle.tree_check.specs.BoxValues.{HasBoxValue}
@@ -18,7 +15,6 @@ use Rattle.tree_check.specs.declared.proof.Node.{Node}
 use Rattle.tree_check.specs.declared.proof.Node.TheVariants.{Split, Closed, Empty, Spent, Stuck}
 use Rattle.tree_check.specs.declared.proof.Proof.{Proof}
 use Rattle.tree_check.specs.declared.proof.Verdict.TheVariants.{Cheapest}
-use Rattle.line_check.specs.declared.tested.Tested.{Tested}
 use Rattle.tree_check.specs.declared.tests.Tests.{Tests}
 use Rattle.tree_check.specs.declared.walk.Found.{Found}
 use Rattle.tree_check.specs.Testing.{AreTestsOf, names_in}

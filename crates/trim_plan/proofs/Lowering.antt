@@ -1,8 +1,6 @@
 -- counts with one module less, and the modules of positive count
-use Rattle.std.proofs.Common.{◌≡◌, ◌∙◌, ℕ, zero, suc, ◌+◌, ◌-◌, ◌<◌, ⊎_elim, List, [], ◌∷◌, ◌++◌, Contains, get_or, length, slice_index, sum, take, refl, sym, ap, subst, add-one, zero-add, arith}
-use Rattle.std.proofs.Math.ListN.{set}
+use Rattle.std.proofs.Common.{◌≡◌, ◌∙◌, ℕ, zero, suc, ◌+◌, ◌-◌, ◌<◌, ⊎_elim, List, [], ◌∷◌, ◌++◌, Contains, get_or, length, slice_index, sum, take, refl, sym, ap, subst, add-one, zero-add, arith, set, append_assoc, append-nil}
 use Rattle.net_core.proofs.Library.{cases_lt, get_or_past, Contains-append_left, Contains-append_right, sum_by-set}
-use Rattle.std.proofs.lemmas.List.{append_assoc, append-nil}
 use Rattle.trim_plan.specs.Trimmed.{module_count, links_in_use, modules_in_use, one_less}
 use Rattle.trim_plan.specs.inner.Sparing.{LowersCounts, all_modules}
 use Rattle.trim_plan.proofs.AtMost.{one_less_at_most}

@@ -1,6 +1,5 @@
 -- modules with their costs, one after another
-use Rattle.std.proofs.Common.{◌≡◌, ◌∙◌, ℕ, zero, suc, ◌+◌, ◌<◌, List, [], ◌∷◌, ◌++◌, get_or, length, take, sym, ap, arith}
-use Rattle.std.proofs.lemmas.List.{append_assoc, append-nil}
+use Rattle.std.proofs.Common.{◌≡◌, ◌∙◌, ℕ, zero, suc, ◌+◌, ◌<◌, List, [], ◌∷◌, ◌++◌, get_or, length, take, sym, ap, arith, append_assoc, append-nil}
 use Rattle.plan_terms.specs.Terms.{Link, Module}
 use Rattle.trim_plan.specs.declared.dearest.Priced.{Priced}
 use Rattle.trim_plan.specs.Dearest.{priced_links, priced_modules}

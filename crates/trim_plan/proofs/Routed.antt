@@ -1,6 +1,5 @@
 -- routings within fewer and within more modules
-use Rattle.std.proofs.Common.{◌∙◌, ℕ, ◌*◌, ◌≤◌, ⊎_elim, List, slice_index, arith}
-use Rattle.std.proofs.Math.Nat.{mul-le-mul_left}
+use Rattle.std.proofs.Common.{◌∙◌, ℕ, ◌*◌, ◌≤◌, ⊎_elim, List, slice_index, arith, mul-le-mul_left}
 use Rattle.std.specs.List.{AllZip}
 use Rattle.plan_terms.specs.Terms.{Routing, Case, capacities}
 use Rattle.able_counts.specs.declared.able_test.AbleTest.{AbleTest}

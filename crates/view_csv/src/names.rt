@@ -1,6 +1,5 @@
 ghost use Rattle.std.specs.Prelude.{◌≡◌, ◌++◌, ◌∷◌, [], IfOk, OnOk, map};
-ghost use Rattle.plan_report.specs.Terms.{node_name};
-ghost use Rattle.plan_terms.specs.Terms.{link_name};
+ghost use Rattle.plan_report.specs.Terms.{node_name, link_name};
 ghost use Rattle.view_csv.specs.Fields.{link_names, names_field, node_names};
 
 use net_core::{Bytes, Link, LinkId, List, Name, NoMemory, NodeId};

@@ -1,8 +1,7 @@
 ghost use Rattle.std.specs.Prelude.{◌≡◌, ◌∷◌, [], All, IfOk, OnOk, length};
 ghost use Rattle.plan_terms.specs.Terms.{AreDemands, case_of};
 ghost use Rattle.plan_view.specs.Terms.{IsSoundPlan};
-ghost use Rattle.view_cells.specs.Terms.{AddsText};
-ghost use Rattle.view_text.specs.Terms.{HasSoundPlan, case_of_plan, problem_case};
+ghost use Rattle.view_text.specs.Terms.{HasSoundPlan, case_of_plan, problem_case, AddsText};
 ghost use Rattle.view_csv.specs.Columns.{sheet_columns};
 ghost use Rattle.view_csv.specs.Sheets.{AddsRows, AreOutcomeRows, IsSheet, ShowsOutcome, ShowsPlan};
 

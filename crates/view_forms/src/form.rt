@@ -1,6 +1,5 @@
 ghost use Rattle.std.specs.Prelude.{All, OnOk};
-ghost use Rattle.view_cells.specs.Terms.{AddsText};
-ghost use Rattle.view_text.specs.Terms.{HasSoundPlan, HoldsOfSingle, problem_case};
+ghost use Rattle.view_text.specs.Terms.{HasSoundPlan, HoldsOfSingle, problem_case, AddsText};
 ghost use Rattle.view_forms.specs.Forms.{HasForm, IsFormOf};
 
 use net_core::{Bytes, NoMemory, Problem};

@@ -1,6 +1,5 @@
 -- the first plan of sound outcomes
-use Rattle.std.proofs.Common.{◌≡◌, suc, List, [], ◌∷◌, Option, Some, ap, arith, length, subst}
-use Rattle.std.specs.Prelude.{All}
+use Rattle.std.proofs.Common.{◌≡◌, suc, List, [], ◌∷◌, Option, Some, ap, arith, length, subst, All}
 use Rattle.std.specs.Option.{option_map_or}
 use Rattle.plan_terms.specs.Terms.{AreDemands, Case}
 use Rattle.plan_types.specs.declared.plan.Plan.{Plan}

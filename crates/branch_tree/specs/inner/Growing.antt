@@ -2,11 +2,9 @@
 use Rattle.std.specs.Prelude.{◌≡◌, ℕ, ◌+◌, ◌*◌, ◌^◌, ◌≤◌, ◌<◌, ◌⊎◌, List, [], ◌∷◌, length}
 use Rattle.plan_terms.specs.Terms.{Case, CutLine, Link}
 use Rattle.plan_types.specs.declared.plan.Plan.{Plan}
-use Rattle.line_check.specs.Inequalities.{entry}
-use Rattle.line_check.specs.declared.tested.Tested.{Tested}
-use Rattle.tree_check.specs.Boxes.{IsSplitOf, lower_side, upper_side, whole_box}
+use Rattle.line_check.specs.Terms.{entry, Tested}
+use Rattle.tree_check.specs.Terms.{IsSplitOf, lower_side, upper_side, whole_box, TreeBox}
 use Rattle.tree_check.specs.BoxValues.{module_costs}
-use Rattle.tree_check.specs.Trees.{TreeBox}
 use Rattle.tree_check.specs.declared.proof.Node.TheVariants.{Split}
 use Rattle.branch_tree.specs.inner.Places.{AreSettled, AreTwigsOf, twig_splits}
 use Rattle.box_search.specs.Finds.{AreCheaperCounts, IsFoundAt, IsTwigOf}

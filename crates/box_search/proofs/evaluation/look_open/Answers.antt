@@ -1,6 +1,5 @@
 use Rattle.std.proofs.Common.{arith, refl, subst, sym}
-use Rattle.tree_check.specs.Boxes.{IsFixedBox}
-use Rattle.tree_check.specs.Trees.{TreeBox}
+use Rattle.tree_check.specs.Terms.{IsFixedBox, TreeBox}
 use Rattle.box_search.specs.declared.evaluation.Round.{Round}
 use Rattle.box_search.specs.declared.found.Found.{Found}
 use Rattle.box_search.specs.Finds.{IsFoundAt, IsSearchBox}

@@ -1,8 +1,7 @@
 use Rattle.std.proofs.Common.{◌≡◌, ap, refl, subst}
 use Rattle.net_core.proofs.Networks.{few_links}
 use Rattle.module_choice.proofs.Carrying.{network_links}
-use Rattle.tree_check.specs.Boxes.{span_at}
-use Rattle.tree_check.specs.Trees.{TreeBox}
+use Rattle.tree_check.specs.Terms.{span_at, TreeBox}
 use Rattle.tree_check.specs.declared.boxes.Span.{Span}
 use Rattle.branch_tree.specs.inner.Choosing.{HasFreePlace}
 use Rattle.branch_tree.proofs.Choices.{least_triable}

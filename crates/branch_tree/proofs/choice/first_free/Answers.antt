@@ -1,5 +1,4 @@
-use Rattle.std.proofs.Common.{◌∙◌, ◌≤◌, List, All, get_or, length, subst, arith}
-use Rattle.std.proofs.lemmas.List.{take_all}
+use Rattle.std.proofs.Common.{◌∙◌, ◌≤◌, List, All, get_or, length, subst, arith, take_all}
 use Rattle.net_core.proofs.Library.{All-more}
 use Rattle.tree_check.specs.Boxes.{IsFixedSpan}
 use Rattle.tree_check.specs.declared.boxes.Span.{Span}

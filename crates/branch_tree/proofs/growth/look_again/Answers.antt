@@ -1,6 +1,5 @@
 use Rattle.std.proofs.Common.{List, subst, sym}
-use Rattle.tree_check.specs.Boxes.{IsFixedBox}
-use Rattle.tree_check.specs.Trees.{TreeBox}
+use Rattle.tree_check.specs.Terms.{IsFixedBox, TreeBox}
 use Rattle.box_search.specs.declared.found.Found.{Found}
 use Rattle.box_search.specs.declared.found.Found.TheVariants as found
 use Rattle.box_search.specs.declared.twigs.Twig.{Twig}

@@ -1,5 +1,4 @@
-use Rattle.std.proofs.Common.{subst, sym}
-use Rattle.std.specs.Prelude.{MatchResult}
+use Rattle.std.proofs.Common.{subst, sym, MatchResult}
 use Rattle.view_text.specs.Terms.{problem_case}
 use Rattle.view_forms.specs.Terms.{IsFormOf}
 use Rattle.front_files.specs.Endings.{Halts}

@@ -1,5 +1,4 @@
-use Rattle.std.proofs.Common.{◌≡◌, ◌++◌, ◌∙◌, ◌∷◌, [], ap, codes, inl, inr, refl, subst, sym}
-use Rattle.std.proofs.lemmas.List.{append-nil}
+use Rattle.std.proofs.Common.{◌≡◌, ◌++◌, ◌∙◌, ◌∷◌, [], ap, codes, inl, inr, refl, subst, sym, append-nil}
 use Rattle.outside_io.specs.declared.shelf.ReadFault.TheVariants.{Other}
 use Rattle.check_answers.specs.declared.status.Status.{Status}
 use Rattle.check_answers.specs.declared.status.Status.TheVariants.{NoFile, ReadFault, TooLong}

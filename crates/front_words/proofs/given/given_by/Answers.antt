@@ -1,5 +1,4 @@
-use Rattle.std.proofs.Common.{◌≡◌, ◌∙◌, ◌+◌, ◌∷◌, List, String, ap, drop, map, refl, string_bytes, subst, sym}
-use Rattle.std.specs.Global.{Global}
+use Rattle.std.proofs.Common.{◌≡◌, ◌∙◌, ◌+◌, ◌∷◌, List, String, ap, drop, map, refl, string_bytes, subst, sym, Global}
 use Rattle.net_core.proofs.Library.{at_drop_more, drop_all}
 use Rattle.front_words.specs.declared.given.Awaited.TheVariants.{Word, Names}
 use Rattle.front_words.specs.inner.Causes.{ReadsOn, given_names, given_options}

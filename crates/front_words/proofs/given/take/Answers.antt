@@ -1,5 +1,4 @@
-use Rattle.std.proofs.Common.{[], ◌∷◌, refl, sym}
-use Rattle.std.proofs.lemmas.List.{append-nil}
+use Rattle.std.proofs.Common.{[], ◌∷◌, refl, sym, append-nil}
 use Rattle.front_words.specs.inner.Causes.{given_names, given_option, given_options}
 use Rattle.front_words.proofs.Reading.{names_lead, one_more}
 use Rattle.front_words.proofs.given.take.Goals as goal

@@ -1,5 +1,4 @@
-use Rattle.std.proofs.Common.{[], ◌∷◌, inr, sym}
-use Rattle.std.proofs.lemmas.List.{append-nil}
+use Rattle.std.proofs.Common.{[], ◌∷◌, inr, sym, append-nil}
 use Rattle.front_words.specs.inner.Causes.{given_names, given_option, given_options}
 use Rattle.front_words.proofs.Reading.{end_leads, flag_leads, name_leads, one_more, valued_back}
 use Rattle.front_words.proofs.given.take_word.Goals as goal

@@ -1,6 +1,5 @@
-use Rattle.std.proofs.Common.{List, ℕ, get_or, length, refl, subst, sym, ap, take, ◌≡◌, ◌<◌, ◌∙◌, arith}
+use Rattle.std.proofs.Common.{List, ℕ, get_or, length, refl, subst, sym, ap, take, ◌≡◌, ◌<◌, ◌∙◌, arith, IsPermutation}
 use Rattle.net_core.proofs.Library.{range_with_len, take-length, slice_get_read}
-use Rattle.std.specs.List.Sorted.{IsPermutation}
 use Rattle.plan_terms.specs.Terms.{Joins, graph_of, Demand}
 use Rattle.greedy_router.specs.inner.Drafts.{AreRouted}
 use Rattle.greedy_router.proofs.Adding.{routed_all, routed_more, routed_none}

@@ -1,6 +1,5 @@
-use Rattle.std.proofs.Common.{◌<◌, get_or, subst, arith}
+use Rattle.std.proofs.Common.{◌<◌, get_or, subst, arith, get_or-take, length-take-le}
 use Rattle.net_core.proofs.Library.{All-more}
-use Rattle.std.proofs.lemmas.List.{get_or-take, length-take-le}
 use Rattle.plan_terms.specs.Terms.{LinkId}
 use Rattle.greedy_router.proofs.sending.is_open.Goals as goal
 

@@ -1,6 +1,5 @@
-use Rattle.std.proofs.Common.{◌≤◌, get_or, inl, inr, ⊎_elim, subst, arith}
+use Rattle.std.proofs.Common.{◌≤◌, get_or, inl, inr, ⊎_elim, subst, arith, get_or-take, length-take-le}
 use Rattle.net_core.proofs.Library.{cases_lt, All-more, All-weaker, Contains-get_or}
-use Rattle.std.proofs.lemmas.List.{get_or-take, length-take-le}
 use Rattle.plan_terms.specs.Terms.{LinkId}
 use Rattle.greedy_router.proofs.sending.least_spare.Goals as goal
 

@@ -1,5 +1,4 @@
-use Rattle.std.proofs.Common.{◌≡◌, ◌<◌, ◌*◌, ◌/◌, ◌-◌, ◌^◌, Some, cond, get_or, length, pos, slice_get, unsigned_abs, ap, sym, ◌∙◌, subst, arith}
-use Rattle.std.proofs.lemmas.Bool.{lt-ltb, le-ltb}
+use Rattle.std.proofs.Common.{◌≡◌, ◌<◌, ◌*◌, ◌/◌, ◌-◌, ◌^◌, Some, cond, get_or, length, pos, slice_get, unsigned_abs, ap, sym, ◌∙◌, subst, arith, lt-ltb, le-ltb}
 use Rattle.net_core.proofs.Library.{slice_get-get_or}
 use Rattle.simplex_core.specs.Terms.{den_of}
 use Rattle.key_paths.specs.inner.Ends.{row_over, key_over}

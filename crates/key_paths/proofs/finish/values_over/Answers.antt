@@ -1,5 +1,4 @@
-use Rattle.std.proofs.Common.{◌≡◌, drop, get_or, length, pos, ap, sym, ◌∙◌, subst}
-use Rattle.std.proofs.lemmas.List.{take_at}
+use Rattle.std.proofs.Common.{◌≡◌, drop, get_or, length, pos, ap, sym, ◌∙◌, subst, take_at}
 use Rattle.key_paths.specs.inner.Ends.{role_over}
 use Rattle.key_paths.proofs.finish.values_over.Goals as goal
 

@@ -1,5 +1,4 @@
-use Rattle.std.proofs.Common.{◌≡◌, ◌∙◌, pos, length, replicate, subst, sym, ap, arith}
-use Rattle.std.specs.Int.Signed.{◌≤ℤ◌}
+use Rattle.std.proofs.Common.{◌≡◌, ◌∙◌, pos, length, replicate, subst, sym, ap, arith, ◌≤ℤ◌}
 use Rattle.checked_fraction.specs.Terms.{num}
 use Rattle.plan_terms.specs.Terms.{graph_of}
 use Rattle.route_law.specs.Terms.{route_bound}

@@ -1,5 +1,4 @@
-use Rattle.std.proofs.Common.{◌≡◌, length, drop, ap, sym, subst, ◌∙◌}
-use Rattle.std.proofs.lemmas.List.{take_at}
+use Rattle.std.proofs.Common.{◌≡◌, length, drop, ap, sym, subst, ◌∙◌, take_at}
 use Rattle.key_rows.specs.KeyRows.{less_rows}
 use Rattle.key_rows.specs.inner.Written.{AreRaw}
 use Rattle.key_rows.proofs.key_row.write_raw_list.Goals as goal

@@ -1,5 +1,4 @@
-use Rattle.std.proofs.Common.{◌≡◌, ℕ, ◌<◌, ◌+◌, ◌^◌, length, drop, ap, ◌∙◌, subst, sym}
-use Rattle.std.proofs.lemmas.List.{take_at}
+use Rattle.std.proofs.Common.{◌≡◌, ℕ, ◌<◌, ◌+◌, ◌^◌, length, drop, ap, ◌∙◌, subst, sym, take_at}
 use Rattle.checked_fraction.specs.Terms.{num, IsNarrow}
 use Rattle.key_rows.specs.Names.{HasKey, IsShortPath, key_name, links_in, key_dual}
 use Rattle.key_rows.proofs.keys.renew_dual_list.Goals as goal

@@ -1,6 +1,4 @@
-use Rattle.std.proofs.Common.{◌≡◌, ◌+◌, ◌≤◌, ◌^◌, unsigned_abs, length, drop, ap, sym, subst, ◌∙◌}
-use Rattle.std.proofs.Math.IntN.{ℤ, ◌+ℤ◌, ◌*ℤ◌}
-use Rattle.std.proofs.lemmas.List.{take_at}
+use Rattle.std.proofs.Common.{◌≡◌, ◌+◌, ◌≤◌, ◌^◌, unsigned_abs, length, drop, ap, sym, subst, ◌∙◌, ℤ, ◌+ℤ◌, ◌*ℤ◌, take_at}
 use Rattle.checked_fraction.specs.Terms.{num}
 use Rattle.key_rows.specs.Names.{IsShortPath, path_uses}
 use Rattle.key_rows.proofs.rest.shift_list.Goals as goal

@@ -1,6 +1,5 @@
-use Rattle.std.proofs.Common.{◌≡◌, pos, length, to_z, of_z, slice_get, Some, inl, refl, sym, ap, ◌∙◌, subst, arith}
+use Rattle.std.proofs.Common.{◌≡◌, pos, length, to_z, of_z, slice_get, Some, inl, refl, sym, ap, ◌∙◌, subst, arith, ◌<ℤ◌}
 use Rattle.net_core.proofs.Library.{w128, ints, slice_get-get_or, err_from_is_err_and}
-use Rattle.std.specs.Int.Signed.{◌<ℤ◌}
 use Rattle.checked_fraction.specs.Terms.{num, IsNarrow}
 use Rattle.simplex_core.specs.Terms.{nums_of}
 use Rattle.key_rows.specs.inner.Candidates.{IsLowered, IsWideRowTest}

@@ -1,6 +1,4 @@
-use Rattle.std.proofs.Common.{◌≡◌, ◌<◌, ◌^◌, ◌≤ℤ◌, ℕ, length, drop, pos, unsigned_abs, ap, sym, subst, ◌∙◌}
-use Rattle.std.proofs.Math.IntN.{◌-ℤ◌, ◌*ℤ◌}
-use Rattle.std.proofs.lemmas.List.{take_at}
+use Rattle.std.proofs.Common.{◌≡◌, ◌<◌, ◌^◌, ◌≤ℤ◌, ℕ, length, drop, pos, unsigned_abs, ap, sym, subst, ◌∙◌, ◌-ℤ◌, ◌*ℤ◌, take_at}
 use Rattle.checked_fraction.specs.Terms.{num}
 use Rattle.key_rows.specs.KeyRows.{amounts}
 use Rattle.key_rows.proofs.values.lower_value_list.Goals as goal

@@ -1,7 +1,5 @@
-use Rattle.std.proofs.Common.{◌≡◌, ◌≢◌, ◌<◌, ◌^◌, ◌∙◌, ap, length, pos, refl, slice_set, subst, sym, unsigned_abs, arith, ⊎_elim}
-use Rattle.std.specs.Int.Signed.{◌≤ℤ◌}
+use Rattle.std.proofs.Common.{◌≡◌, ◌≢◌, ◌<◌, ◌^◌, ◌∙◌, ap, length, pos, refl, slice_set, subst, sym, unsigned_abs, arith, ⊎_elim, ◌≤ℤ◌, get_or-set_same, get_or-set_other}
 use Rattle.net_core.proofs.Library.{cases_eq}
-use Rattle.std.proofs.lemmas.List.{get_or-set_same, get_or-set_other}
 use Rattle.checked_fraction.specs.Terms.{num}
 use Rattle.simplex_law.specs.Terms.{dot}
 use Rattle.simplex_core.specs.Terms.{nums_at}

@@ -1,6 +1,5 @@
-use Rattle.std.proofs.Common.{◌≡◌, length, drop, pos, w64, to_z, ap, sym, subst, ◌∙◌, arith}
+use Rattle.std.proofs.Common.{◌≡◌, length, drop, pos, w64, to_z, ap, sym, subst, ◌∙◌, arith, take_at}
 use Rattle.net_core.proofs.Library.{ints}
-use Rattle.std.proofs.lemmas.List.{take_at}
 use Rattle.checked_fraction.specs.Terms.{num, IsNarrow}
 use Rattle.key_rows.specs.KeyRows.{AreWeights}
 use Rattle.key_rows.proofs.Weighing.{weights_of}

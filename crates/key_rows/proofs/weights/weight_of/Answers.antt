@@ -1,5 +1,4 @@
-use Rattle.std.proofs.Common.{◌≡◌, ◌/◌, ◌*ℤ◌, pos, w64, to_z, ap, ◌∙◌, arith}
-use Rattle.std.proofs.Math.Nat.{div-le_self}
+use Rattle.std.proofs.Common.{◌≡◌, ◌/◌, ◌*ℤ◌, pos, w64, to_z, ap, ◌∙◌, arith, div-le_self}
 use Rattle.net_core.proofs.Library.{ints}
 use Rattle.key_rows.proofs.Weighing.{times_back}
 use Rattle.key_rows.proofs.weights.weight_of.Goals as goal

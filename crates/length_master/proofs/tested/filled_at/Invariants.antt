@@ -1,5 +1,4 @@
-use Rattle.std.proofs.Common.{◌≡◌}
-use Rattle.std.proofs.Math.IntN.{pos}
+use Rattle.std.proofs.Common.{◌≡◌, pos}
 use Rattle.length_master.specs.inner.Tests.{filled_below}
 use Rattle.length_master.proofs.tested.filled_at.Given as goal
 

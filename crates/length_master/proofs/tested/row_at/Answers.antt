@@ -1,5 +1,4 @@
-use Rattle.std.proofs.Common.{[], ◌∙◌}
-use Rattle.std.proofs.Math.IntN.{pos}
+use Rattle.std.proofs.Common.{[], ◌∙◌, pos}
 use Rattle.net_core.proofs.Library.{get_or_default}
 use Rattle.length_master.specs.declared.slot.Slot.TheVariants.{Slack}
 use Rattle.length_master.proofs.tested.row_at.Goals as goal

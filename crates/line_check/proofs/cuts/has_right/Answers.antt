@@ -1,5 +1,4 @@
-use Rattle.std.proofs.Common.{ℕ, List, Err, ap, ◌∙◌, subst, sym, eqb-true}
-use Rattle.std.proofs.lemmas.Bool.{eq-eqb}
+use Rattle.std.proofs.Common.{ℕ, List, Err, ap, ◌∙◌, subst, sym, eqb-true, eq-eqb}
 use Rattle.plan_terms.proofs.Lemmas.{right_once}
 use Rattle.plan_terms.specs.Terms.{graph_in, Joins, case_of, AreKept, IsRight}
 use Rattle.plan_checker.proofs.KeptLengths.{keeps_same, kept_not_zero}

@@ -1,5 +1,4 @@
-use Rattle.std.proofs.Common.{All, arith, subst}
-use Rattle.std.proofs.lemmas.List.{take_all}
+use Rattle.std.proofs.Common.{All, arith, subst, take_all}
 use Rattle.net_core.proofs.Library.{All-more}
 use Rattle.master_bound.specs.Narrow.{IsNarrowCut}
 use Rattle.master_bound.proofs.numbers.wide_cut.Goals as goal

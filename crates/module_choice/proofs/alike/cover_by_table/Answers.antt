@@ -1,5 +1,4 @@
-use Rattle.std.proofs.Common.{◌≡◌, ◌∙◌, ◌+◌, Some, ap, arith, get_or, length, refl, slice_get, subst, sym}
-use Rattle.std.proofs.Math.ListN.{length-set}
+use Rattle.std.proofs.Common.{◌≡◌, ◌∙◌, ◌+◌, Some, ap, arith, get_or, length, refl, slice_get, subst, sym, length-set}
 use Rattle.net_core.proofs.Library.{false≢true, slice_get_read, slice_get_within}
 use Rattle.module_choice.specs.inner.Cheapest.{AreCheapest}
 use Rattle.module_choice.specs.inner.Routes.{AlikeAreCovered}

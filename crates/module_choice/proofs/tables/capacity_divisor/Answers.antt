@@ -1,5 +1,4 @@
-use Rattle.std.proofs.Common.{◌<◌, ◌^◌, arith, map, subst}
-use Rattle.std.proofs.lemmas.List.{take_all}
+use Rattle.std.proofs.Common.{◌<◌, ◌^◌, arith, map, subst, take_all}
 use Rattle.plan_terms.specs.Terms.{Module, IsGreatestDivisor}
 use Rattle.module_prices.proofs.Divisors.{module_divisor_step}
 use Rattle.module_choice.proofs.Steps.{capacity_limit}

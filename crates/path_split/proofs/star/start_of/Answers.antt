@@ -1,5 +1,4 @@
-use Rattle.std.proofs.Common.{ltb, rules, arith}
-use Rattle.std.proofs.lemmas.Bool.{ltb-true, ltb-false}
+use Rattle.std.proofs.Common.{ltb, rules, arith, ltb-true, ltb-false}
 use Rattle.net_core.proofs.Library.{IsPartitionedBy-ltb, always_returns_same}
 use Rattle.path_split.specs.inner.Legs.{leg_at, no_leg}
 use Rattle.path_split.proofs.star.start_of.Goals as goal

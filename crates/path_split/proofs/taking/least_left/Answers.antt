@@ -1,6 +1,5 @@
-use Rattle.std.proofs.Common.{ℕ, ◌≤◌, get_or, inl, inr, ⊎_elim, subst, arith}
+use Rattle.std.proofs.Common.{ℕ, ◌≤◌, get_or, inl, inr, ⊎_elim, subst, arith, get_or-take, length-take-le}
 use Rattle.net_core.proofs.Library.{cases_lt, All-more, All-weaker, Contains-get_or}
-use Rattle.std.proofs.lemmas.List.{get_or-take, length-take-le}
 use Rattle.path_split.proofs.taking.least_left.Goals as goal
 
 pub loop-k-preserved : goal.loop-k-preserved

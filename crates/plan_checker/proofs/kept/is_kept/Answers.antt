@@ -1,5 +1,4 @@
-use Rattle.std.proofs.Common.{refl, eqb-true}
-use Rattle.std.proofs.lemmas.Bool.{eq-eqb}
+use Rattle.std.proofs.Common.{refl, eqb-true, eq-eqb}
 use Rattle.plan_terms.specs.Terms.{graph_of}
 use Rattle.plan_checker.proofs.KeptLengths.{kept_by}
 use Rattle.plan_checker.proofs.kept.is_kept.Goals as goal

@@ -1,5 +1,4 @@
-use Rattle.std.proofs.Common.{take, subst, ◌+◌, ◌*◌}
-use Rattle.std.proofs.lemmas.List.{take_all}
+use Rattle.std.proofs.Common.{take, subst, ◌+◌, ◌*◌, take_all}
 use Rattle.plan_terms.specs.Terms.{LinkId}
 use Rattle.module_choice.specs.inner.Routes.{times}
 use Rattle.plan_checker.specs.inner.Mixed.{AreMixed}

@@ -1,5 +1,4 @@
-use Rattle.std.proofs.Common.{◌+◌, ◌-◌, inl, inr, Some, None, IfSome, arith, sym, subst}
-use Rattle.std.specs.Option.{is_some}
+use Rattle.std.proofs.Common.{◌+◌, ◌-◌, inl, inr, Some, None, IfSome, arith, sym, subst, is_some}
 use Rattle.net_core.proofs.Library.{∥∥₁_elim, ∥∥₁_map, props}
 use Rattle.net_core.proofs.Networks.{modules_sound}
 use Rattle.plan_terms.specs.Terms.{case_of}

@@ -1,5 +1,4 @@
-use Rattle.std.proofs.Common.{◌≡◌, ◌∙◌, ◌++◌, List, ℕ, length, drop, get_or, take, ap}
-use Rattle.std.proofs.lemmas.List.{take_at}
+use Rattle.std.proofs.Common.{◌≡◌, ◌∙◌, ◌++◌, List, ℕ, length, drop, get_or, take, ap, take_at}
 use Rattle.plan_swaps.proofs.Shapes.{shape_set}
 use Rattle.plan_swaps.proofs.raised.raise_link.Goals as goal
 

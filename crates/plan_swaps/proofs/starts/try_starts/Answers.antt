@@ -1,5 +1,4 @@
-use Rattle.std.proofs.Common.{◌≤◌, ◌<◌, List, ℕ, All, length, subst, arith}
-use Rattle.std.proofs.lemmas.List.{take_all}
+use Rattle.std.proofs.Common.{◌≤◌, ◌<◌, List, ℕ, All, length, subst, arith, take_all}
 use Rattle.plan_terms.specs.Terms.{case_of}
 use Rattle.plan_swaps.specs.Swaps.{AreNoCheaper}
 use Rattle.plan_swaps.proofs.Starting.{starts_more}

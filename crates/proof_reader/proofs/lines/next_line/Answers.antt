@@ -1,5 +1,4 @@
-use Rattle.std.proofs.Common.{ℕ, ◌+◌, ◌<◌, arith, ◌∙◌, ap, get_or, length, sym, take}
-use Rattle.std.proofs.lemmas.Bool.{eq-eqb, ne_eqb}
+use Rattle.std.proofs.Common.{ℕ, ◌+◌, ◌<◌, arith, ◌∙◌, ap, get_or, length, sym, take, eq-eqb, ne_eqb}
 use Rattle.snd_tokens.specs.Terms.{Text, text_from}
 use Rattle.proof_reader.specs.CommentTexts.{CommentAt, NoneAt, comments_from}
 use Rattle.proof_reader.proofs.Scanning.{comments_end, comments_hash, comments_other}

@@ -1,12 +1,9 @@
-use Rattle.std.proofs.Common.{◌≡◌, ◌∙◌, ◌+◌, ◌<◌, ◌++◌, inl, true, false, [], ◌∷◌, All, ap, arith, length, refl, subst, sym, take}
+use Rattle.std.proofs.Common.{◌≡◌, ◌∙◌, ◌+◌, ◌<◌, ◌++◌, inl, true, false, [], ◌∷◌, All, ap, arith, length, refl, subst, sym, take, take_all}
 use Rattle.std.proofs.lemmas.List.{take_more}
 use Rattle.std.proofs.lemmas.List.Elements.{All-push}
-use Rattle.std.proofs.lemmas.List.{take_all}
 use Rattle.net_core.proofs.Library.{∥∥₁_elim, props}
 use Rattle.plan_terms.specs.Terms.{CutLine, IsCut, case_of}
-use Rattle.line_check.specs.Inequalities.{line_of_cut}
-use Rattle.line_check.specs.Lines.{IsMadeOf}
-use Rattle.line_check.specs.Testing.{names_by}
+use Rattle.line_check.specs.Terms.{line_of_cut, IsMadeOf, names_by}
 use Rattle.proof_report.proofs.handed.work_out.Goals as goal
 
 pub loop-cut-preserved : goal.loop-cut-preserved

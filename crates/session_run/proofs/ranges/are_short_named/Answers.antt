@@ -1,5 +1,4 @@
-use Rattle.std.proofs.Common.{All, subst}
-use Rattle.std.proofs.lemmas.List.{take_all}
+use Rattle.std.proofs.Common.{All, subst, take_all}
 use Rattle.net_core.proofs.Library.{All-more}
 use Rattle.session_run.specs.inner.Ranges.{IsShortNamed}
 use Rattle.session_run.proofs.ranges.are_short_named.Goals as goal

@@ -1,5 +1,4 @@
-use Rattle.std.proofs.Common.{◌≡◌, length, subst, sym, ◌∙◌, arith, OnOk, IfErr}
-use Rattle.std.proofs.Math.IntN.{◌*ℤ◌}
+use Rattle.std.proofs.Common.{◌≡◌, length, subst, sym, ◌∙◌, arith, OnOk, IfErr, ◌*ℤ◌}
 use Rattle.checked_fraction.specs.Terms.{num, IsReduced, combined, IsTooWide}
 use Rattle.simplex_core.specs.Tables.{nums_of}
 use Rattle.simplex_core.proofs.Lists.{read_at}

@@ -1,5 +1,4 @@
-use Rattle.std.proofs.Common.{◌≡◌, length, drop, ap, sym, subst, ◌∙◌, OnOk, IfErr}
-use Rattle.std.proofs.lemmas.List.{take_at}
+use Rattle.std.proofs.Common.{◌≡◌, length, drop, ap, sym, subst, ◌∙◌, OnOk, IfErr, take_at}
 use Rattle.net_core.proofs.Library.{on_ok_weaker}
 use Rattle.simplex_core.specs.Tables.{IsRectangle}
 use Rattle.simplex_core.specs.Turned.{HavePivot, AreTurned, IsWideRow}

@@ -1,5 +1,4 @@
-use Rattle.std.proofs.Common.{length, ap, subst, sym, ◌∙◌, OnOk, IfErr}
-use Rattle.std.proofs.Math.IntN.{◌*ℤ◌}
+use Rattle.std.proofs.Common.{length, ap, subst, sym, ◌∙◌, OnOk, IfErr, ◌*ℤ◌}
 use Rattle.checked_fraction.specs.Terms.{num, IsReduced, combined, IsTooWide}
 use Rattle.simplex_core.specs.Tables.{nums_at, IsRectangle}
 use Rattle.simplex_core.specs.Turned.{IsNarrowOver, HavePivot}

@@ -1,5 +1,4 @@
-use Rattle.std.proofs.Common.{◌≡◌, length, w64, to_z, of_z, subst, arith}
-use Rattle.std.proofs.Math.IntN.{◌-ℤ◌, ◌*ℤ◌}
+use Rattle.std.proofs.Common.{◌≡◌, length, w64, to_z, of_z, subst, arith, ◌-ℤ◌, ◌*ℤ◌}
 use Rattle.net_core.proofs.Library.{ints}
 use Rattle.checked_fraction.specs.Terms.{num, total}
 use Rattle.simplex_law.specs.Terms.{dot}

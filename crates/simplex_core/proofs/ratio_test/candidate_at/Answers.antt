@@ -1,6 +1,5 @@
-use Rattle.std.proofs.Common.{refl, subst, sym, arith, ◌≡◌, ◌<◌, ◌^◌, Some, None, to_z, of_z, pos, unsigned_abs}
+use Rattle.std.proofs.Common.{refl, subst, sym, arith, ◌≡◌, ◌<◌, ◌^◌, Some, None, to_z, of_z, pos, unsigned_abs, ◌<ℤ◌}
 use Rattle.net_core.proofs.Library.{ints, w128}
-use Rattle.std.specs.Int.Signed.{◌<ℤ◌}
 use Rattle.checked_fraction.specs.Terms.{num}
 use Rattle.simplex_core.proofs.RowsRead.{numbers_at, value_at_row, width_at}
 use Rattle.simplex_core.proofs.ratio_test.candidate_at.Goals as goal

@@ -1,5 +1,4 @@
-use Rattle.std.proofs.Common.{◌≡◌, map, take}
-use Rattle.std.specs.Prelude.{nat_eq, slice_index}
+use Rattle.std.proofs.Common.{◌≡◌, map, take, nat_eq, slice_index}
 use Rattle.table_maker.specs.SetCuts.{boundary_of}
 use Rattle.table_maker.proofs.boundaries.boundary.Given as goal
 

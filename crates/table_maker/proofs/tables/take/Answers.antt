@@ -1,5 +1,4 @@
-use Rattle.std.proofs.Common.{All, Option, subst, sym}
-use Rattle.std.specs.Prelude.{IfSome}
+use Rattle.std.proofs.Common.{All, Option, subst, sym, IfSome}
 use Rattle.net_core.proofs.Library.{All-push}
 use Rattle.table_maker.specs.Made.{IsTableFor}
 use Rattle.table_maker.specs.declared.tables.Found.{Found}

@@ -1,5 +1,4 @@
-use Rattle.std.proofs.Common.{All, subst, refl}
-use Rattle.std.proofs.lemmas.List.{take_all}
+use Rattle.std.proofs.Common.{All, subst, refl, take_all}
 use Rattle.net_core.proofs.Library.{All-more}
 use Rattle.plan_report.specs.Terms.{IsRouteColumnInForm}
 use Rattle.tree_check.proofs.evidence.are_columns.Goals as goal

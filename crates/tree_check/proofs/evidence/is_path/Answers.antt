@@ -1,5 +1,4 @@
-use Rattle.std.proofs.Common.{◌<◌, All, length, subst, refl, arith}
-use Rattle.std.proofs.lemmas.List.{take_all}
+use Rattle.std.proofs.Common.{◌<◌, All, length, subst, refl, arith, take_all}
 use Rattle.net_core.proofs.Library.{All-more, nat_tests}
 use Rattle.plan_terms.specs.Terms.{LinkId}
 use Rattle.tree_check.proofs.evidence.is_path.Goals as goal

@@ -1,5 +1,4 @@
-use Rattle.std.proofs.Common.{◌∙◌, ◌≤◌, ◌<◌, ◌++◌, All, IsTrue, ap, arith, get_or, length, List, [], ℕ, subst, sym, rules}
-use Rattle.std.proofs.lemmas.List.{take_all}
+use Rattle.std.proofs.Common.{◌∙◌, ◌≤◌, ◌<◌, ◌++◌, All, IsTrue, ap, arith, get_or, length, List, [], ℕ, subst, sym, rules, take_all}
 use Rattle.plan_terms.specs.Terms.{case_of}
 use Rattle.able_counts.specs.AbleTests.{AreRoutedCounts}
 use Rattle.module_choice.proofs.Pairs.{counts_long}

@@ -1,8 +1,7 @@
-use Rattle.std.proofs.Common.{◌++◌, ap, map, refl, ◌∙◌}
+use Rattle.std.proofs.Common.{◌++◌, ap, map, refl, ◌∙◌, ℕ, List}
 use Rattle.plan_report.specs.Terms.{known_to}
 use Rattle.plan_terms.specs.Terms.{case_of}
 use Rattle.plan_view.specs.declared.rows.StateRow.{StateRow}
-use Rattle.std.specs.Prelude.{ℕ, List}
 use Rattle.text_kit.proofs.Lemmas.{on_ok}
 use Rattle.view_csv.specs.Fields.{state_fields, with_plan}
 use Rattle.view_csv.proofs.states.put_states.Goals as goal

@@ -1,8 +1,6 @@
 use Rattle.std.proofs.Common.{◌∙◌, List, subst}
 use Rattle.plan_terms.specs.Terms.{CutLine, case_of}
-use Rattle.line_check.specs.Lines.{sources_of}
-use Rattle.line_check.specs.Testing.{AreTested}
-use Rattle.line_check.specs.declared.line.Line.{Line}
+use Rattle.line_check.specs.Terms.{sources_of, AreTested, Line}
 use Rattle.box_search.proofs.Knowing.{known_cuts}
 use Rattle.box_search.proofs.known.Known.new.Goals as goal
 

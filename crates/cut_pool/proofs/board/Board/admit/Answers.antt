@@ -1,5 +1,4 @@
-use Rattle.std.proofs.Common.{◌∙◌, ◌<◌, ◌≤◌, ◌^◌, ◌++◌, ◌∷◌, [], All, List, ap, length, map, refl, sym, subst, arith, position}
-use Rattle.std.proofs.lemmas.List.{length-append}
+use Rattle.std.proofs.Common.{◌∙◌, ◌<◌, ◌≤◌, ◌^◌, ◌++◌, ◌∷◌, [], All, List, ap, length, map, refl, sym, subst, arith, position, length-append}
 use Rattle.net_core.proofs.Library.{All-push}
 use Rattle.plan_terms.specs.Terms.{Demand, Entry, Pooled}
 use Rattle.cut_pool.specs.declared.pooled.PooledCut.{PooledCut}
