@@ -3,8 +3,7 @@ use Rattle.std.proofs.Common.{◌≡◌, ℕ, zero, suc, ◌+◌, ◌^◌, ◌�
 use Rattle.std.specs.List.{AllZip}
 use Rattle.net_core.proofs.Library.{All-weaker}
 use Rattle.plan_terms.specs.Terms.{Case, CutLine, Link}
-use Rattle.plan_types.specs.declared.certificate.CertLine.{CertLine}
-use Rattle.plan_types.specs.declared.plan.Plan.{Plan}
+use Rattle.plan_report.specs.Terms.{CertLine, Plan}
 use Rattle.master_bound.specs.declared.answer.Multiplier.{Multiplier}
 use Rattle.line_check.specs.Terms.{names_by, Tested, Inequality}
 use Rattle.line_check.proofs.NamesOn.{tested_front}

@@ -7,9 +7,7 @@ use Rattle.plan_terms.specs.Terms.{Case, CutLine, IsCut, Link}
 use Rattle.line_check.specs.Terms.{line_of_cut, Source, sources_of, AreTested, IsTestedAs, names_by, Tested}
 use Rattle.line_check.proofs.NamesOn.{cut_names}
 use Rattle.line_check.proofs.TestedMore.{tested_more}
-use Rattle.tree_check.specs.Proofs.{EmptiesBox}
-use Rattle.tree_check.specs.Terms.{HasBoxValue, TreeBox}
-use Rattle.tree_check.specs.Testing.{HasValueIn, names_in}
+use Rattle.tree_check.specs.Terms.{HasBoxValue, TreeBox, EmptiesBox, HasValueIn, names_in}
 use Rattle.tree_check.specs.declared.proof.BoxCert.{BoxCert}
 use Rattle.tree_check.specs.declared.tests.Tests.{Tests}
 use Rattle.box_search.specs.declared.aim.Aim.{Aim}

@@ -4,10 +4,8 @@ use Rattle.net_core.proofs.Library.{cases_eq, mul-div_cancel', recursion_from_Al
 use Rattle.net_core.proofs.Sums.{below-first, below-none, below-same}
 use Rattle.plan_terms.proofs.Duality.{cost_divided}
 use Rattle.plan_terms.specs.Terms.{AreCounts, Link, Module, charges, installs, link_cost, modules_cost, sum_below, total_cost}
-use Rattle.tree_check.specs.Boxes.{any_count, least_counts, span_at}
+use Rattle.tree_check.specs.Terms.{any_count, least_counts, span_at, all_gains, all_losses, certain_setup, certain_setups, installs_always, module_charge, module_costs, module_gain, module_loss, TreeBox}
 use Rattle.line_check.specs.Inequalities.{entry, module_number, module_price, over_modules}
-use Rattle.tree_check.specs.BoxValues.{all_gains, all_losses, certain_setup, certain_setups, installs_always, module_charge, module_costs, module_gain, module_loss}
-use Rattle.tree_check.specs.Trees.{TreeBox}
 use Rattle.tree_check.specs.declared.boxes.Span.{Span}
 use Rattle.line_check.proofs.OverModules.{over-first, over-same}
 use Rattle.box_search.specs.Causes.{HasFreeValue}

@@ -4,8 +4,7 @@ use Rattle.std.proofs.lemmas.List.{take_more}
 use Rattle.std.specs.List.{AllZip}
 use Rattle.master_bound.specs.declared.answer.Multiplier.{Multiplier}
 use Rattle.plan_terms.specs.Terms.{Case, CutLine}
-use Rattle.plan_types.specs.declared.certificate.CertLine.{CertLine}
-use Rattle.plan_types.specs.declared.plan.Plan.{Plan}
+use Rattle.plan_report.specs.Terms.{CertLine, Plan}
 use Rattle.line_check.specs.Terms.{AreNamedBy, line_of_cut, names_by}
 use Rattle.tree_check.specs.Terms.{HasBoxValue, IsBoxValue, TreeBox}
 use Rattle.tree_check.specs.declared.proof.BoxCert.{BoxCert}

@@ -4,10 +4,8 @@ use Rattle.std.specs.List.{AllByRecursion}
 use Rattle.net_core.proofs.Library.{length-map, recursion_from_All}
 use Rattle.able_counts.specs.AbleTests.{whole_caps}
 use Rattle.plan_terms.specs.Terms.{AreCounts, CutLine, Link, Violates, capacities}
-use Rattle.tree_check.specs.Boxes.{IsFixedBox, IsFixedSpan, any_count, least_counts, span_at}
-use Rattle.tree_check.specs.BoxValues.{IsEmptiedBy, most_along}
+use Rattle.tree_check.specs.Terms.{IsFixedBox, IsFixedSpan, any_count, least_counts, span_at, IsEmptiedBy, most_along, TreeBox}
 use Rattle.line_check.specs.Inequalities.{coefficients_of, entry, line_of_cut, module_number, over_modules}
-use Rattle.tree_check.specs.Trees.{TreeBox}
 use Rattle.tree_check.specs.declared.boxes.Span.{Span}
 use Rattle.line_check.proofs.CutLines.{capacities_along}
 use Rattle.line_check.proofs.OverModules.{over-same}

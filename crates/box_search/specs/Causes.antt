@@ -1,8 +1,7 @@
 -- why a box isn't settled: neither a handed-in cut nor the plan's certificate settles it
 use Rattle.std.specs.Prelude.{ℕ, ◌<◌, List, [], All, map}
 use Rattle.plan_terms.specs.Terms.{CutLine, Link}
-use Rattle.plan_types.specs.declared.certificate.Certificate.{Certificate}
-use Rattle.plan_types.specs.declared.plan.Plan.{Plan}
+use Rattle.plan_report.specs.Terms.{Certificate, Plan}
 use Rattle.line_check.specs.Inequalities.{WeightedLine, line_of_cut}
 use Rattle.tree_check.specs.Terms.{IsBoxValue, IsEmptiedBy, TreeBox}
 

@@ -4,9 +4,7 @@ use Rattle.plan_terms.specs.Terms.{AreCounts, AreWithinLimits, Case, CutLine, Ev
 use Rattle.plan_types.specs.declared.plan.Plan.{Plan}
 use Rattle.able_counts.specs.AbleTests.{AreRoutingsWithin, IsWideSomewhere, whole_caps}
 use Rattle.line_check.specs.Terms.{entry, names_by, Tested}
-use Rattle.tree_check.specs.Terms.{IsFixedBox, least_counts, TreeBox}
-use Rattle.tree_check.specs.BoxValues.{HasBoxValue, module_costs}
-use Rattle.tree_check.specs.Proofs.{HoldsNode, IsEvidenceAt}
+use Rattle.tree_check.specs.Terms.{IsFixedBox, least_counts, TreeBox, HasBoxValue, module_costs, HoldsNode, IsEvidenceAt}
 use Rattle.tree_check.specs.declared.proof.Node.{Node}
 use Rattle.tree_check.specs.declared.proof.Node.TheVariants.{Split, Closed, Empty, Spent, Stuck}
 use Rattle.box_search.specs.Causes.{HasPlanValue, IsUnsettled}

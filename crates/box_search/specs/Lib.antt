@@ -1,4 +1,5 @@
 pub mod Causes
 pub mod Finds
 pub mod Searches
+pub mod Terms
 pub mod inner

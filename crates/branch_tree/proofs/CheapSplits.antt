@@ -2,9 +2,7 @@
 use Rattle.std.proofs.Common.{ℕ, List}
 use Rattle.plan_terms.specs.Terms.{Case, CutLine}
 use Rattle.tree_check.specs.Terms.{HoldsNode, names_of, TreeBox}
-use Rattle.tree_check.specs.declared.proof.Node.{Node}
-use Rattle.tree_check.specs.declared.proof.Node.TheVariants.{Split, Closed, Empty, Spent, Stuck}
-use Rattle.tree_check.specs.declared.proof.Proof.{Proof}
+use Rattle.box_search.specs.Terms.{Node, Split, Closed, Empty, Spent, Stuck, Proof}
 use Rattle.branch_tree.specs.FewSplits.{IsCheapSplit}
 use Rattle.branch_tree.specs.Proving.{HasNodeCause}
 

@@ -2,15 +2,12 @@
 use Rattle.std.proofs.Common.{◌≡◌, ℕ, zero, suc, ◌+◌, ◌*◌, ◌^◌, ◌≤◌, ◌<◌, ◌⊎◌, List, [], ◌∷◌, All, None, Some, IfSome, Option, get_or, length, map, inr, ⊎_elim, refl, sym, ap, ◌∙◌, subst, arith}
 use Rattle.net_core.proofs.Library.{cases_eq, get_or_from_slice_get, length-map, slice_get_within}
 use Rattle.plan_terms.specs.Terms.{AreCounts, IsModule, Link, sum_below}
-use Rattle.tree_check.specs.Boxes.{IsFixedSpan, IsSplitOf, any_count, least_counts, span_at, spans_of}
-use Rattle.tree_check.specs.BoxValues.{module_costs}
+use Rattle.tree_check.specs.Terms.{IsFixedSpan, IsSplitOf, any_count, least_counts, span_at, spans_of, module_costs, TreeBox}
 use Rattle.line_check.specs.Inequalities.{entry, module_number, over_modules}
-use Rattle.tree_check.specs.Trees.{TreeBox}
-use Rattle.tree_check.specs.declared.boxes.Span.{Span}
+use Rattle.box_search.specs.Terms.{Span, AreLow}
 use Rattle.trim_plan.specs.declared.lowered.Place.{Place}
 use Rattle.branch_tree.specs.declared.choice.Choice.{Choice}
 use Rattle.branch_tree.specs.inner.Choosing.{HasFreePlace, IsSplittable, IsTriable}
-use Rattle.box_search.specs.Finds.{AreLow}
 use Rattle.branch_tree.specs.inner.Growing.{IsChoiceOf}
 use Rattle.box_search.proofs.FreeValues.{free_value}
 use Rattle.box_search.proofs.LeastCosts.{free_reaches, total_least}

@@ -1,9 +1,8 @@
 -- the places of a tree in turn: whether one is open, what nodes they become, and what these show
 use Rattle.std.proofs.Common.{◌≡◌, ◌≢◌, ◌∙◌, ℕ, ◌+◌, ◌<◌, ◌⊎◌, ⊎_elim, List, [], ◌∷◌, ◌++◌, None, Some, Option, MatchOption, append_assoc, map, slice_get, refl, sym, ap, subst, arith}
 use Rattle.net_core.proofs.Library.{cases_eq}
-use Rattle.tree_check.specs.declared.proof.Node.{Node}
+use Rattle.box_search.specs.Terms.{Node, node_of}
 use Rattle.branch_tree.specs.inner.Places.{IsOpenPlace, IsOpenTwig}
-use Rattle.box_search.specs.Finds.{node_of}
 use Rattle.branch_tree.specs.inner.Showing.{shown_more, shown_with}
 use Rattle.branch_tree.specs.declared.tree.Ranked.{Ranked}
 use Rattle.branch_tree.specs.declared.tree.Shown.{Shown}

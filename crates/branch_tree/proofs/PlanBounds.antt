@@ -9,9 +9,8 @@ use Rattle.plan_terms.proofs.Bounds.{bound_free, bound_rounded, quotient_least}
 use Rattle.plan_types.specs.Terms.{IsCertifiedPlan, lines_of_certificate}
 use Rattle.plan_types.specs.declared.certificate.CertLine.{CertLine}
 use Rattle.plan_types.specs.declared.plan.Plan.{Plan}
-use Rattle.tree_check.specs.Terms.{span_at, TreeBox}
+use Rattle.tree_check.specs.Terms.{span_at, TreeBox, IsBoxCertificate, all_losses, asked_right, given_free, module_charge, module_costs, value_gains, value_losses}
 use Rattle.line_check.specs.Inequalities.{WeightedLine, coefficients_of, entry, line_of_cut, module_number, module_price, over_modules}
-use Rattle.tree_check.specs.BoxValues.{IsBoxCertificate, all_losses, asked_right, given_free, module_charge, module_costs, value_gains, value_losses}
 use Rattle.line_check.proofs.OverModules.{over-same}
 use Rattle.box_search.specs.Causes.{HasPlanValue, lines_of_plan}
 

@@ -5,27 +5,17 @@ use Rattle.plan_terms.specs.Terms.{Case, CutLine, IsCut}
 use Rattle.plan_types.specs.Terms.{IsCertifiedPlan}
 use Rattle.plan_types.specs.declared.plan.Plan.{Plan}
 use Rattle.plan_swaps.specs.Swaps.{IsCheaperPlan}
-use Rattle.tree_check.specs.Terms.{whole_box, HasBoxValue}
-use Rattle.tree_check.specs.Proofs.{HasOpenValue, HoldAllNodes, HoldsNode, IsOpenAt, VerdictFollows}
-use Rattle.tree_check.specs.Trees.{IsWhole, TreeBox, boxes_left, sides_of}
-use Rattle.tree_check.specs.declared.proof.BoxCert.{BoxCert}
-use Rattle.tree_check.specs.declared.proof.Node.{Node}
-use Rattle.tree_check.specs.declared.proof.Node.TheVariants.{Split, Closed, Empty, Spent, Stuck}
-use Rattle.tree_check.specs.declared.proof.Proof.{Proof}
-use Rattle.tree_check.specs.declared.proof.Verdict.{Verdict}
+use Rattle.tree_check.specs.Terms.{whole_box, HasBoxValue, HasOpenValue, HoldAllNodes, HoldsNode, IsOpenAt, VerdictFollows, IsWhole, TreeBox, boxes_left, sides_of}
+use Rattle.box_search.specs.Terms.{BoxCert, Node, Split, Closed, Empty, Spent, Stuck, Proof, Verdict, is_split, HasPlanValue, IsSettledNode, IsTwigOf, node_of}
 use Rattle.tree_check.specs.declared.proof.Verdict.TheVariants.{Cheapest, Above}
 use Rattle.line_check.specs.Terms.{NamesLine, sources_of, AreTested, names_by, Inequality, Line, Tested}
 use Rattle.proof_order.specs.Orders.{cuts_among, lines_among, moved_certificate, moved_line, moved_node, place_of, source_of}
 use Rattle.proof_order.specs.declared.entry.Entry.{Entry}
 use Rattle.proof_order.proofs.NamesKept.{names_are_kept}
 use Rattle.branch_tree.specs.FewSplits.{IsCheapNode, split_number}
-use Rattle.box_search.specs.Finds.{is_split}
 use Rattle.branch_tree.specs.Proving.{HasNodeCause, HasOpenLeaf, HaveNodeCauses, IsCertificateOfLeaves, IsProofOf}
-use Rattle.box_search.specs.Causes.{HasPlanValue}
 use Rattle.branch_tree.specs.inner.Growing.{IsGrowing}
-use Rattle.box_search.specs.Finds.{IsSettledNode, IsTwigOf}
 use Rattle.branch_tree.specs.inner.Places.{AreSettled, AreTwigsOf, twig_sides, twig_splits}
-use Rattle.box_search.specs.Finds.{node_of}
 use Rattle.branch_tree.specs.inner.Showing.{all_shown, verdict_of}
 use Rattle.branch_tree.specs.declared.tree.Shown.{Shown}
 use Rattle.box_search.specs.declared.twigs.OpenBox.{OpenBox}

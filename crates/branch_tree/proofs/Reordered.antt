@@ -3,17 +3,11 @@ use Rattle.std.proofs.Common.{◌≡◌, ◌∙◌, ℕ, zero, suc, ◌-◌, ◌
 use Rattle.master_bound.specs.declared.answer.Multiplier.{Multiplier}
 use Rattle.plan_terms.specs.Terms.{Case, Link}
 use Rattle.plan_terms.proofs.Lemmas.{bound_unique}
-use Rattle.line_check.specs.Terms.{AreNamedBy, WeightedLine, Inequality, Divided, Table, Plain, Failing}
-use Rattle.line_check.specs.Lines.{IsMadeOf, IsTableOver, Naming, Source, divided_line, names_among}
+use Rattle.line_check.specs.Terms.{AreNamedBy, WeightedLine, Inequality, Divided, Table, Plain, Failing, IsMadeOf, IsTableOver, Naming, Source, divided_line, names_among}
 use Rattle.line_check.proofs.SameTables.{table_same}
-use Rattle.tree_check.specs.BoxValues.{HasBoxValue, IsBoxValue, value_gains, value_losses}
-use Rattle.tree_check.specs.Proofs.{HoldsNode}
-use Rattle.tree_check.specs.Trees.{TreeBox, sides_of}
-use Rattle.tree_check.specs.declared.proof.BoxCert.{BoxCert}
-use Rattle.tree_check.specs.declared.proof.Node.{Node}
-use Rattle.tree_check.specs.declared.proof.Node.TheVariants.{Split, Closed, Empty, Spent, Stuck}
+use Rattle.tree_check.specs.Terms.{HasBoxValue, IsBoxValue, value_gains, value_losses, HoldsNode, TreeBox, sides_of}
+use Rattle.box_search.specs.Terms.{BoxCert, Node, Split, Closed, Empty, Spent, Stuck, is_split}
 use Rattle.proof_order.specs.Orders.{moved_certificate, moved_multipliers, moved_node}
-use Rattle.box_search.specs.Finds.{is_split}
 
 -- ---- moved nodes
 

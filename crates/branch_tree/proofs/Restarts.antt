@@ -6,21 +6,16 @@ use Rattle.plan_terms.specs.Terms.{Case, CutLine, IsCut, IsSurvivable}
 use Rattle.plan_types.specs.Terms.{IsCertifiedPlan}
 use Rattle.plan_types.specs.declared.plan.Plan.{Plan}
 use Rattle.plan_swaps.specs.Swaps.{IsCheaperPlan}
-use Rattle.tree_check.specs.declared.proof.BoxCert.{BoxCert}
-use Rattle.tree_check.specs.declared.proof.Node.{Node}
+use Rattle.box_search.specs.Terms.{BoxCert, Node, Proof, AreCheaperCounts, Extends, HasLearned, IsAim, IsKnown, IsOwnCert, IsSearch, IsSoundEntry, aimed, handed_in, most_entries, node_of}
 use Rattle.proof_order.specs.Orders.{cuts_among, moved_line, moved_node, place_of}
 use Rattle.proof_order.specs.declared.entry.Entry.{Entry}
 use Rattle.proof_order.specs.declared.entry.Entry.TheVariants as entry
-use Rattle.tree_check.specs.declared.proof.Proof.{Proof}
 use Rattle.trim_plan.specs.Trimmed.{IsRoutedPlan}
 use Rattle.trim_plan.proofs.Plans.{routed_with}
 use Rattle.branch_tree.specs.Proving.{AreHandedCuts, IsProofOf}
 use Rattle.able_counts.specs.AbleTests.{IsTestOf as IsAbleTestOf}
-use Rattle.box_search.specs.Finds.{AreCheaperCounts}
-use Rattle.box_search.specs.Searches.{Extends, HasLearned, IsAim, IsKnown, IsOwnCert, IsSearch, IsSoundEntry, aimed, handed_in, most_entries}
 use Rattle.branch_tree.specs.inner.Growing.{IsGrownTree}
 use Rattle.branch_tree.specs.inner.Making.{AreFirstOf, IsProofMade, IsProofWith}
-use Rattle.box_search.specs.Finds.{node_of}
 use Rattle.box_search.specs.declared.aim.Aim.{Aim}
 use Rattle.box_search.specs.declared.search.Search.{Search}
 use Rattle.branch_tree.specs.declared.tree.Tree.{Tree}

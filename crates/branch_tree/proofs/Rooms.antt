@@ -5,15 +5,10 @@ use Rattle.std.proofs.lemmas.Nat.{le-div}
 use Rattle.std.specs.List.{AllByRecursion, AllZip}
 use Rattle.net_core.proofs.Library.{recursion_from_All, length-replicate}
 use Rattle.plan_terms.specs.Terms.{Link, Module}
-use Rattle.tree_check.specs.Boxes.{IsSplitOf, any_count, beyond, lower_side, span_at, spans_of, up_to, upper_side, whole_box}
-use Rattle.tree_check.specs.BoxValues.{module_costs}
+use Rattle.tree_check.specs.Terms.{IsSplitOf, any_count, beyond, lower_side, span_at, spans_of, up_to, upper_side, whole_box, module_costs, TreeBox, boxes_left, sides_of}
 use Rattle.line_check.specs.Inequalities.{entry}
-use Rattle.tree_check.specs.Trees.{TreeBox, boxes_left, sides_of}
-use Rattle.tree_check.specs.declared.boxes.Span.{Span}
-use Rattle.tree_check.specs.declared.proof.Node.{Node}
-use Rattle.tree_check.specs.declared.proof.Node.TheVariants.{Split, Closed, Empty, Spent, Stuck}
+use Rattle.box_search.specs.Terms.{Span, Node, Split, Closed, Empty, Spent, Stuck, is_split}
 use Rattle.branch_tree.specs.FewSplits.{IsCheapSplit, SplitsAreFew, modules_room, numbers_below, split_number, split_room}
-use Rattle.box_search.specs.Finds.{is_split}
 
 -- numbers below the least of a greatest count, if there is one, and a number
 abbrev numbers_up_to : Option ℕ → ℕ → ℕ

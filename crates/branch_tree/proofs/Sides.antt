@@ -6,13 +6,10 @@ use Rattle.std.proofs.lemmas.List.Elements.{All-map, All-replicate, All-set}
 use Rattle.net_core.proofs.Library.{All-head, All-tail, length-map}
 use Rattle.plan_terms.specs.Terms.{AreCounts, Case, CutLine, IsLink, IsNetwork, Link}
 use Rattle.plan_types.specs.declared.plan.Plan.{Plan}
-use Rattle.tree_check.specs.Boxes.{IsSplitOf, any_count, beyond, least_counts, lower_side, span_at, spans_of, up_to, upper_side, whole_box}
-use Rattle.tree_check.specs.Trees.{TreeBox}
-use Rattle.tree_check.specs.declared.boxes.Span.{Span}
+use Rattle.tree_check.specs.Terms.{IsSplitOf, any_count, beyond, least_counts, lower_side, span_at, spans_of, up_to, upper_side, whole_box, TreeBox}
+use Rattle.box_search.specs.Terms.{Span, AreLow, HaveCounts, IsFoundAt, IsSearchBox, HasLearned, handed_in}
 use Rattle.tree_check.proofs.LeftBoxes.{shape_set, whole_shape}
-use Rattle.box_search.specs.Finds.{AreLow, HaveCounts, IsFoundAt, IsSearchBox}
 use Rattle.branch_tree.specs.inner.Growing.{AreSidesOf, IsChoiceOf}
-use Rattle.box_search.specs.Searches.{HasLearned, handed_in}
 use Rattle.branch_tree.specs.declared.choice.Choice.{Choice}
 use Rattle.box_search.specs.declared.search.Search.{Search}
 use Rattle.box_search.specs.declared.found.Found.TheVariants as found

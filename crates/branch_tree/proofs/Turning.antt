@@ -5,12 +5,9 @@ use Rattle.plan_terms.specs.Terms.{Case, CutLine}
 use Rattle.plan_types.specs.declared.plan.Plan.{Plan}
 use Rattle.line_check.specs.declared.tested.Tested.{Tested}
 use Rattle.tree_check.specs.Terms.{IsSplitOf, lower_side, upper_side, whole_box, TreeBox}
-use Rattle.tree_check.specs.declared.proof.Node.TheVariants.{Split}
-use Rattle.box_search.specs.Finds.{is_split}
+use Rattle.box_search.specs.Terms.{Split, is_split, IsOpenBox, IsTwigOf, IsLeafTwig, node_of}
 use Rattle.branch_tree.specs.inner.Growing.{AreSidesOf, IsChoiceOf, IsGrowing}
-use Rattle.box_search.specs.Finds.{IsOpenBox, IsTwigOf}
 use Rattle.branch_tree.specs.inner.Places.{AreTwigsOf, twig_sides, twig_splits}
-use Rattle.box_search.specs.Finds.{IsLeafTwig, node_of}
 use Rattle.branch_tree.specs.declared.choice.Choice.{Choice}
 use Rattle.box_search.specs.declared.found.Found.TheVariants as found
 use Rattle.branch_tree.specs.declared.growth.Sides.TheVariants as sides

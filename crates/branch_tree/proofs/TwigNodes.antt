@@ -1,9 +1,7 @@
 -- trees on the way: their nodes, and what is known of these
 use Rattle.std.proofs.Common.{◌≡◌, ℕ, zero, suc, ◌+◌, List, [], ◌∷◌, ◌++◌, Some, false, map, take, slice_get, refl, subst, sym}
 use Rattle.tree_check.specs.Trees.{TreeBox, boxes_left, sides_of}
-use Rattle.tree_check.specs.declared.proof.Node.{Node}
-use Rattle.tree_check.specs.declared.proof.Node.TheVariants.{Split, Closed, Empty, Spent, Stuck}
-use Rattle.box_search.specs.Finds.{is_split}
+use Rattle.box_search.specs.Terms.{Node, Split, Closed, Empty, Spent, Stuck, is_split}
 use Rattle.branch_tree.specs.inner.Places.{AreTwigsOf, twig_sides}
 use Rattle.box_search.specs.declared.twigs.Twig.{Twig}
 

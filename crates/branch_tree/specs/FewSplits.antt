@@ -1,12 +1,9 @@
 -- how many splits a branch tree has at most
 use Rattle.std.specs.Prelude.{ℕ, ◌+◌, ◌-◌, ◌*◌, ◌/◌, ◌<◌, List, [], ◌∷◌, All, count_by, length}
 use Rattle.plan_terms.specs.Terms.{Link, Module}
-use Rattle.tree_check.specs.Terms.{IsSplitOf, IsNodeOf, TreeBox}
-use Rattle.tree_check.specs.BoxValues.{module_costs}
+use Rattle.tree_check.specs.Terms.{IsSplitOf, IsNodeOf, TreeBox, module_costs}
 use Rattle.line_check.specs.Inequalities.{entry}
-use Rattle.tree_check.specs.declared.proof.Node.{Node}
-use Rattle.tree_check.specs.declared.proof.Node.TheVariants.{Split}
-use Rattle.box_search.specs.Finds.{is_split}
+use Rattle.box_search.specs.Terms.{Node, Split, is_split}
 
 -- the number of splits of a tree
 abbrev pub split_number : List Node → ℕ

@@ -4,16 +4,10 @@ use Rattle.plan_terms.specs.Terms.{Case, CutLine, IsCut, capacities}
 use Rattle.plan_types.specs.declared.plan.Plan.{Plan}
 use Rattle.able_counts.specs.AbleTests.{IsWideSomewhere, whole_caps}
 use Rattle.plan_swaps.specs.Swaps.{IsCheaperPlan}
-use Rattle.tree_check.specs.Terms.{IsFixedBox, least_counts, IsNodeOf, TreeBox}
+use Rattle.tree_check.specs.Terms.{IsFixedBox, least_counts, IsNodeOf, TreeBox, IsBoxCertificate, module_costs, IsAcceptedProof, IsOpenAt}
 use Rattle.line_check.specs.Inequalities.{entry}
-use Rattle.tree_check.specs.BoxValues.{IsBoxCertificate, module_costs}
-use Rattle.tree_check.specs.Proofs.{IsAcceptedProof, IsOpenAt}
-use Rattle.tree_check.specs.declared.proof.BoxCert.{BoxCert}
-use Rattle.tree_check.specs.declared.proof.Node.{Node}
-use Rattle.tree_check.specs.declared.proof.Node.TheVariants.{Split, Spent, Stuck}
-use Rattle.tree_check.specs.declared.proof.Proof.{Proof}
+use Rattle.box_search.specs.Terms.{BoxCert, Node, Split, Spent, Stuck, Proof, IsUnsettled, lines_of_plan}
 use Rattle.tree_check.specs.declared.proof.Verdict.TheVariants.{Above}
-use Rattle.box_search.specs.Causes.{IsUnsettled, lines_of_plan}
 use Rattle.branch_tree.specs.FewSplits.{AreCharged, split_number, split_room}
 
 -- ---- causes

@@ -1,13 +1,10 @@
 ghost use Rattle.std.specs.Prelude.{◌≡◌, ◌≤◌, ◌<◌, ◌^◌, ◌↔◌, ℕ, All, IfOk, IfSome, IsTrue, MatchOption, map, slice_index};
 ghost use Rattle.std.specs.List.Sorted.{IsPermutation};
-ghost use Rattle.tree_check.specs.Boxes.{IsFixedBox, IsFixedSpan};
-ghost use Rattle.tree_check.specs.BoxValues.{module_costs};
+ghost use Rattle.tree_check.specs.Terms.{IsFixedBox, IsFixedSpan, module_costs};
 ghost use Rattle.line_check.specs.Inequalities.{entry};
 ghost use Rattle.branch_tree.specs.inner.Choosing.{HasFreePlace, IsCheapChoice, IsFreeSpan, IsSplittable, IsTriable};
-ghost use Rattle.box_search.specs.Causes.{HasFreeValue};
-ghost use Rattle.box_search.specs.Finds.{AreLow, IsSearchBox};
+ghost use Rattle.box_search.specs.Terms.{HasFreeValue, AreLow, IsSearchBox, IsKnown, aimed};
 ghost use Rattle.branch_tree.specs.inner.Growing.{IsChoiceOf};
-ghost use Rattle.box_search.specs.Searches.{IsKnown, aimed};
 
 use box_program::spans::is_fixed;
 use box_program::{Amount, Solution};

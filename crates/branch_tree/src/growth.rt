@@ -1,8 +1,7 @@
 ghost use Rattle.std.specs.Prelude.{◌≡◌, ◌+◌, ◌*◌, ◌≤◌, ◌<◌, ◌^◌, IfOk, IfSome, None, OnOk, Some, length, slice_set};
 ghost use Rattle.tree_check.specs.Boxes.{whole_box};
-ghost use Rattle.box_search.specs.Finds.{AreCheaperCounts, IsOpenBox};
+ghost use Rattle.box_search.specs.Terms.{AreCheaperCounts, IsOpenBox, HasLearned, IsAim, IsSearch, aimed, handed_in, most_entries};
 ghost use Rattle.branch_tree.specs.inner.Growing.{AreSidesOf, IsChoiceOf, IsGrowing, IsGrownTo, IsTurnTo};
-ghost use Rattle.box_search.specs.Searches.{HasLearned, IsAim, IsSearch, aimed, handed_in, most_entries};
 ghost use Rattle.branch_tree.specs.inner.Places.{IsOpenPlace};
 
 use crate::choice::{Choice, choose};

@@ -5,8 +5,7 @@ ghost use Rattle.trim_plan.specs.Trimmed.{IsRoutedPlan};
 ghost use Rattle.plan_swaps.specs.Swaps.{IsCheaperPlan};
 ghost use Rattle.branch_tree.specs.FewSplits.{AreCharged};
 ghost use Rattle.branch_tree.specs.Proving.{AreHandedCuts, IsProofOf};
-ghost use Rattle.box_search.specs.Finds.{AreCheaperCounts};
-ghost use Rattle.box_search.specs.Searches.{IsKnown, IsOwnCert, IsSearch, handed_in};
+ghost use Rattle.box_search.specs.Terms.{AreCheaperCounts, IsKnown, IsOwnCert, IsSearch, handed_in};
 ghost use Rattle.branch_tree.specs.inner.Making.{AreFirstOf, IsProofMade, IsProofWith};
 
 use crate::growth::{Growth, grown};

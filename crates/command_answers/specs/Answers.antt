@@ -1,12 +1,7 @@
 -- what each command comes to once its files are read: a status, and a text
 use Rattle.std.specs.Prelude.{◌≡◌, ℕ, ◌+◌, ◌⊎◌, List, [], ◌∷◌, ◌++◌, All, codes, decimal, length}
 use Rattle.plan_terms.specs.Terms.{Notes, Three, Case}
-use Rattle.plan_types.specs.declared.plan.Plan.{Plan}
-use Rattle.plan_types.specs.declared.quality.Quality.{Quality}
-use Rattle.plan_types.specs.declared.quality.Quality.TheVariants.{Tight, Loose}
-use Rattle.plan_types.specs.declared.report.Outcome.TheVariants.{Planned}
-use Rattle.plan_types.specs.declared.report.Report.{Report}
-use Rattle.plan_report.specs.Terms.{known_to, SpellsReport, report_text}
+use Rattle.plan_report.specs.Terms.{known_to, SpellsReport, report_text, Plan, Quality, Tight, Loose, Planned, Report}
 use Rattle.report_checker.specs.Outcomes.{IsBelowAllAble}
 use Rattle.report_checker.specs.ReportFindings.{HasNoFinding}
 use Rattle.session_script.specs.declared.script.Command.{Command}

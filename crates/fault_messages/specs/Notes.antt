@@ -4,8 +4,7 @@ use Rattle.net_core.specs.Terms.{Case}
 use Rattle.net_core.specs.declared.network.Link.{Link}
 use Rattle.sndlib_reader.specs.declared.fault.ReadKind.{ReadKind}
 use Rattle.sndlib_reader.specs.declared.fault.ReadKind.TheVariants as networks
-use Rattle.model_reader.specs.ModelReading.{all_keys}
-use Rattle.model_reader.specs.Models.{key_word}
+use Rattle.model_reader.specs.Terms.{all_keys, key_word}
 use Rattle.model_reader.specs.declared.failures.FailuresKind.{FailuresKind}
 use Rattle.model_reader.specs.declared.failures.FailuresKind.TheVariants as failures
 use Rattle.model_reader.specs.declared.model.ModelKind.{ModelKind}

@@ -1,6 +1,5 @@
 ghost use Rattle.std.specs.Prelude.{◌≡◌, IfOk, map};
-ghost use Rattle.model_reader.specs.ModelReading.{all_keys};
-ghost use Rattle.model_reader.specs.Models.{key_word};
+ghost use Rattle.model_reader.specs.Terms.{all_keys, key_word};
 
 use model_reader::{ModelKey, key_word};
 use net_core::{Bytes, Link, List as Items, NoMemory};

@@ -1,7 +1,6 @@
 ghost use Rattle.std.specs.Prelude.{◌≡◌, ◌≤◌, ◌++◌, ℕ, List, IfOk, OnOk, length, map};
 ghost use Rattle.net_core.specs.Terms.{case};
-ghost use Rattle.model_reader.specs.ModelReading.{all_keys};
-ghost use Rattle.model_reader.specs.Models.{key_word};
+ghost use Rattle.model_reader.specs.Terms.{all_keys, key_word};
 ghost use Rattle.fault_messages.specs.NearNames.{IsWordNote};
 ghost use Rattle.fault_messages.specs.Notes.{AreFailuresNotes, AreModelNotes, AreNetworkNotes, AreReportNotes};
 

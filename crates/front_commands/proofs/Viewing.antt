@@ -1,8 +1,7 @@
 -- a report that was fetched, and a state that is lacking, don't end in a fault of reading
 use Rattle.std.proofs.Common.{◌≡◌, ◌∙◌, ℕ, List, [], ◌∷◌, Result, Ok, Err, inl, inr, sym, IfOk, MatchResult}
 use Rattle.plan_terms.specs.Terms.{Case, Notes}
-use Rattle.plan_types.specs.declared.report.Outcome.{Outcome}
-use Rattle.plan_types.specs.declared.report.Outcome.TheVariants.{Planned, Unsurvivable}
+use Rattle.plan_report.specs.Terms.{Outcome, Planned, Unsurvivable}
 use Rattle.check_answers.specs.declared.status.Status.{Status}
 use Rattle.check_answers.specs.declared.status.Status.TheVariants.{BadWords, ReadFault}
 use Rattle.front_files.specs.Endings.{FailsReading, Halts, HasFrontCause, halt_status}

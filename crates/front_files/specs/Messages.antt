@@ -4,13 +4,8 @@ use Rattle.plan_terms.specs.Terms.{Link}
 use Rattle.outside_io.specs.Outside.{Files}
 use Rattle.outside_io.specs.declared.shelf.ReadFault.{ReadFault}
 use Rattle.outside_io.specs.declared.shelf.ReadFault.TheVariants.{Folder, NoRight, Other}
-use Rattle.sndlib_reader.specs.Kinds.{kind_word}
-use Rattle.sndlib_reader.specs.NetworkFiles.{IsFirstFault}
-use Rattle.model_reader.specs.Failures.{SpellsFailures}
-use Rattle.model_reader.specs.FailuresReading.{failures_of}
-use Rattle.model_reader.specs.FaultWords.{failures_word, model_word}
-use Rattle.model_reader.specs.Models.{SpellsModel}
-use Rattle.model_reader.specs.ModelReading.{model_of}
+use Rattle.sndlib_reader.specs.Terms.{kind_word, IsFirstFault}
+use Rattle.model_reader.specs.Terms.{SpellsFailures, failures_of, failures_word, model_word, SpellsModel, model_of}
 use Rattle.check_answers.specs.declared.status.Status.{Status}
 use Rattle.check_answers.specs.declared.status.Status.TheVariants.{NoFile, TooLong}
 use Rattle.fault_messages.specs.FailuresMessages.{failures_message}

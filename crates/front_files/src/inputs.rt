@@ -1,6 +1,5 @@
 ghost use Rattle.std.specs.Prelude.{◌≡◌, ◌≢◌, IfErr, IfOk};
-ghost use Rattle.model_reader.specs.Failures.{SpellsFailures};
-ghost use Rattle.model_reader.specs.Models.{SpellsModel};
+ghost use Rattle.model_reader.specs.Terms.{SpellsFailures, SpellsModel};
 ghost use Rattle.input_files.specs.InputWords.{default};
 ghost use Rattle.input_files.specs.Inputs.{Fetched, HasModel, SpellsNetwork, input_limit};
 ghost use Rattle.input_files.specs.Shelves.{KeepsShelf};

@@ -4,9 +4,7 @@ use Rattle.std.proofs.lemmas.List.Elements.{Contains-append_left}
 use Rattle.net_core.proofs.Library.{All-cons, All-weaker}
 use Rattle.plan_terms.specs.Terms.{AreDemands, Case, CutLine, Demand, Notes}
 use Rattle.plan_types.specs.Terms.{IsCertifiedPlan}
-use Rattle.plan_types.specs.declared.plan.Plan.{Plan}
-use Rattle.plan_types.specs.declared.report.Outcome.{Outcome}
-use Rattle.plan_types.specs.declared.report.Outcome.TheVariants.{Planned}
+use Rattle.plan_report.specs.Terms.{Plan, Outcome, Planned}
 use Rattle.plan_view.specs.Terms.{IsSoundPlan}
 use Rattle.lone_plan.proofs.PlansOf.{lone_plans_carry}
 use Rattle.tree_check.specs.declared.proof.Verdict.{Verdict}

@@ -1,8 +1,7 @@
 -- what a plan for people comes to: a status, a text, and a message beside it
 use Rattle.std.specs.Prelude.{◌≡◌, ℕ, ◌≤◌, ◌<◌, ◌⊎◌, Bool, true, false, Option, None, Some, List, [], ◌++◌, All, codes, length, slice_get, take}
 use Rattle.plan_terms.specs.Terms.{Case, Link, Notes}
-use Rattle.plan_types.specs.declared.report.Outcome.{Outcome}
-use Rattle.plan_report.specs.Terms.{SpellsReport, known_to, report_text}
+use Rattle.plan_report.specs.Terms.{SpellsReport, known_to, report_text, Outcome}
 use Rattle.lone_plan.specs.LonePlans.{whole_report}
 use Rattle.tree_check.specs.declared.proof.Proof.{Proof}
 use Rattle.tree_check.specs.declared.proof.Verdict.{Verdict}

@@ -2,8 +2,7 @@
 use Rattle.std.proofs.Common.{◌≡◌, ℕ, zero, suc, List, [], ◌∷◌, All, get_or, inl, inr, subst}
 use Rattle.net_core.proofs.Library.{get_or_from_slice_get, slice_get_within}
 use Rattle.plan_terms.specs.Terms.{Case, Notes}
-use Rattle.plan_types.specs.declared.report.Outcome.{Outcome}
-use Rattle.plan_types.specs.declared.report.Report.{Report}
+use Rattle.plan_report.specs.Terms.{Outcome, Report}
 use Rattle.plan_checker.specs.Terms.{HoldNone, HoldsAt, IsFirstFinding, Kind}
 use Rattle.plan_checker.specs.declared.finding.Finding.{Finding}
 use Rattle.report_checker.specs.Outcomes.{outcome_findings}

@@ -2,11 +2,7 @@
 use Rattle.std.proofs.Common.{◌≡◌, ℕ, List, All, get_or, length, subst, sym, take}
 use Rattle.plan_terms.specs.Terms.{AreDemands, Case, Demand, Notes}
 use Rattle.plan_types.specs.Terms.{IsCarryingPlan, IsCertifiedPlan}
-use Rattle.plan_types.specs.declared.plan.Plan.{Plan}
-use Rattle.plan_types.specs.declared.report.Outcome.{Outcome}
-use Rattle.plan_types.specs.declared.report.Outcome.TheVariants.{Planned, Unsurvivable}
-use Rattle.plan_types.specs.declared.report.Report.{Report}
-use Rattle.plan_report.specs.Terms.{IsOutcomeInForm, IsPlanInForm, known_to}
+use Rattle.plan_report.specs.Terms.{IsOutcomeInForm, IsPlanInForm, known_to, Plan, Outcome, Planned, Unsurvivable, Report}
 use Rattle.plan_view.specs.Terms.{IsSoundPlan}
 use Rattle.plan_checker.specs.Terms.{HoldNone, IsAcceptedPlan}
 use Rattle.plan_checker.specs.declared.finding.Finding.TheVariants.{DemandsDiffer}

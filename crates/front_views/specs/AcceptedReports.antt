@@ -1,8 +1,7 @@
 -- reports that a check accepted
 use Rattle.std.specs.Prelude.{All}
 use Rattle.plan_terms.specs.Terms.{Case, Notes}
-use Rattle.plan_report.specs.Terms.{IsReportInForm, known_to}
-use Rattle.plan_types.specs.declared.report.Report.{Report}
+use Rattle.plan_report.specs.Terms.{IsReportInForm, known_to, Report}
 use Rattle.report_checker.specs.Outcomes.{IsAcceptedOutcome, IsBelowAllAble}
 use Rattle.report_checker.specs.ReportFindings.{HasNoFinding}
 

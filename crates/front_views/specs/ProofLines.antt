@@ -1,10 +1,7 @@
 -- what the comment lines below a report show of its plan
 use Rattle.std.specs.Prelude.{◌≡◌, ℕ, ◌+◌, ◌⊎◌, true, List, [], ◌∷◌, ◌++◌, Err, codes, cond, decimal, length, nat_eq, nat_lt}
 use Rattle.plan_terms.specs.Terms.{Case}
-use Rattle.plan_report.specs.Terms.{known_to}
-use Rattle.plan_types.specs.declared.plan.Plan.{Plan}
-use Rattle.plan_types.specs.declared.report.Outcome.{Outcome}
-use Rattle.plan_types.specs.declared.report.Outcome.TheVariants.{Planned, Unsurvivable}
+use Rattle.plan_report.specs.Terms.{known_to, Plan, Outcome, Planned, Unsurvivable}
 use Rattle.snd_tokens.specs.Terms.{tokens_from}
 use Rattle.report_words.specs.Terms.{report_kind_word}
 use Rattle.check_answers.specs.declared.status.Status.{Status}

@@ -1,8 +1,7 @@
 -- what the bytes of a report come to: its view, or a message
 use Rattle.std.specs.Prelude.{◌≡◌, ℕ, ◌⊎◌, List, [], ◌++◌, Err, codes}
 use Rattle.plan_terms.specs.Terms.{Case, Notes}
-use Rattle.plan_report.specs.Terms.{SpellsReport, known_to}
-use Rattle.plan_types.specs.declared.report.Report.{Report}
+use Rattle.plan_report.specs.Terms.{SpellsReport, known_to, Report}
 use Rattle.plan_checker.specs.declared.finding.Finding.{Finding}
 use Rattle.report_words.specs.Terms.{report_kind_word}
 use Rattle.report_reader.specs.ReadingReport.{report_of}

@@ -1,9 +1,8 @@
 -- files that are refused
 use Rattle.std.proofs.Common.{◌≡◌, ℕ, List, Result, Err, codes, subst}
 use Rattle.plan_terms.specs.Terms.{Demand, Network}
-use Rattle.sndlib_reader.specs.Kinds.{kind_word}
+use Rattle.sndlib_reader.specs.Terms.{kind_word, IsFirstFault}
 use Rattle.sndlib_reader.specs.NetworkFiles as networks
-use Rattle.sndlib_reader.specs.NetworkFiles.{IsFirstFault}
 use Rattle.sndlib_reader.specs.declared.fault.ReadKind.{ReadKind}
 use Rattle.text_kit.specs.Terms.{AnswersAs, Fails, Read}
 use Rattle.text_kit.specs.declared.refusal.Refusal.{Refusal}

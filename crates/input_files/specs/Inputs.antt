@@ -4,14 +4,11 @@ use Rattle.plan_terms.specs.Terms.{Case, Demand, Link, Network, Notes, Places, L
 use Rattle.outside_io.specs.Outside.{Fetches, Files}
 use Rattle.outside_io.specs.declared.shelf.Fetch.TheVariants as fetch
 use Rattle.model_reader.specs.Failures as failures
-use Rattle.model_reader.specs.FailuresReading.{failures_of}
-use Rattle.model_reader.specs.FaultWords.{failures_word, model_word}
+use Rattle.model_reader.specs.Terms.{failures_of, failures_word, model_word, model_of}
 use Rattle.model_reader.specs.Models as models
-use Rattle.model_reader.specs.ModelReading.{model_of}
 use Rattle.model_reader.specs.declared.model.Model.{Model}
-use Rattle.sndlib_reader.specs.Kinds.{kind_word}
+use Rattle.sndlib_reader.specs.Terms.{kind_word, IsFirstFault}
 use Rattle.sndlib_reader.specs.NetworkFiles as networks
-use Rattle.sndlib_reader.specs.NetworkFiles.{IsFirstFault}
 use Rattle.plan_report.specs.Terms.{KnownNames, SpellsReport}
 use Rattle.flow_file.specs.FlowFiles.{SpellsFlows}
 use Rattle.flow_file.specs.FlowKinds.{flows_kind_word}

@@ -3,9 +3,7 @@ use Rattle.std.proofs.Common.{◌≡◌, ℕ, ◌*◌, ◌<◌, ◌≤◌, ◌^�
 use Rattle.net_core.proofs.Library.{All-cons, All-nil, All-permutation, All-push, All-weaker, sum_by-cons}
 use Rattle.plan_terms.specs.Terms.{Link}
 use Rattle.master_bound.specs.declared.answer.Multiplier.{Multiplier}
-use Rattle.line_check.specs.Terms.{WeightedLine, need_of, summed_need, Line, Divided, Tested}
-use Rattle.line_check.specs.Lines.{IsDividedLine, divided_line, divided_up}
-use Rattle.line_check.specs.Testing.{IsSoundAt, names_by, test_at, weighed}
+use Rattle.line_check.specs.Terms.{WeightedLine, need_of, summed_need, Line, Divided, Tested, IsDividedLine, divided_line, divided_up, IsSoundAt, names_by, test_at, weighed}
 use Rattle.line_check.proofs.DividedTold.{IsSaidAt, named_all}
 use Rattle.line_maker.specs.Made.{IsCoarseLine, IsMadeLine}
 use Rattle.line_maker.specs.declared.candidate.Candidate.{Candidate}

@@ -1,6 +1,5 @@
 ghost use Rattle.std.specs.Prelude.{◌≡◌, ◌<◌, IfOk};
-ghost use Rattle.line_check.specs.Inequalities.{need_of};
-ghost use Rattle.line_check.specs.Lines.{divided_up};
+ghost use Rattle.line_check.specs.Terms.{need_of, divided_up};
 ghost use Rattle.line_maker.specs.inner.Divisors.{IsLineDivisor};
 
 use checked_fraction::gcd;

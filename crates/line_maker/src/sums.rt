@@ -1,6 +1,5 @@
 ghost use Rattle.std.specs.Prelude.{◌≡◌, ◌-◌, ◌<◌, ◌^◌, All, IsTrue, length, min};
-ghost use Rattle.line_check.specs.Inequalities.{summed_need};
-ghost use Rattle.line_check.specs.Testing.{weighed};
+ghost use Rattle.line_check.specs.Terms.{summed_need, weighed};
 ghost use Rattle.line_maker.specs.inner.Candidates.{IsNarrowLink, IsNarrowSum};
 
 use line_check::{Multiplier, Tested, line_in, module_price, times};

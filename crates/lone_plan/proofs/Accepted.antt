@@ -3,10 +3,7 @@ use Rattle.std.proofs.Common.{◌≡◌, ◌∙◌, ℕ, List, [], ap, sym, subs
 use Rattle.net_core.proofs.Library.{∥∥₁_elim, props, All-cons, All-head, All-nil}
 use Rattle.plan_terms.specs.Terms.{Demand, Notes, Routing, Case}
 use Rattle.plan_types.specs.Terms.{IsCarryingPlan}
-use Rattle.plan_types.specs.declared.plan.Plan.{Plan}
-use Rattle.plan_types.specs.declared.report.Outcome.TheVariants.{Planned}
-use Rattle.plan_types.specs.declared.report.Report.{Report}
-use Rattle.plan_report.specs.Terms.{AreRoutingsInForm, IsOutcomeInForm, IsReportInForm, known_to}
+use Rattle.plan_report.specs.Terms.{AreRoutingsInForm, IsOutcomeInForm, IsReportInForm, known_to, Plan, Planned, Report}
 use Rattle.plan_checker.specs.Terms.{HoldNone}
 use Rattle.report_checker.specs.Outcomes.{IsBelowAllAble, case_at, outcome_findings}
 use Rattle.report_checker.specs.ReportFindings.{HasNoFinding}

@@ -2,10 +2,7 @@
 use Rattle.std.proofs.Common.{◌≡◌, ◌≢◌, ◌∙◌, ℕ, zero, suc, ◌≤◌, ◌==◌, ◌++◌, List, [], ◌∷◌, Some, cond, flat_map, if◌then◌else◌, length, refl, slice_get, take, sym, ap, subst, ⊎_elim, Bool, true, false, eq-eqb, ne_eqb}
 use Rattle.net_core.proofs.Library.{cases_eq}
 use Rattle.plan_terms.specs.Terms.{Demand, StateId, Entry, Edited, Pooled, Notes, Case, IsFirstSeparation}
-use Rattle.plan_types.specs.declared.plan.Plan.{Plan}
-use Rattle.plan_types.specs.declared.report.Outcome.{Outcome}
-use Rattle.plan_types.specs.declared.report.Outcome.TheVariants.{Planned, Unsurvivable}
-use Rattle.plan_types.specs.declared.report.Report.{Report}
+use Rattle.plan_report.specs.Terms.{Plan, Outcome, Planned, Unsurvivable, Report}
 use Rattle.cut_pool.specs.Terms.{Dated, demands_left, left_by}
 use Rattle.session_script.specs.declared.script.Act.TheVariants as acts
 use Rattle.session_run.specs.Transcripts.{IsOutcomeAfter, IsTranscript, RunsFrom, acts_of, outcome_caller, edit_asked, edit_made, outcomes_of}

@@ -3,14 +3,7 @@ use Rattle.std.proofs.Common.{◌≡◌, ◌∙◌, ℕ, ◌≤◌, ◌==◌, �
 use Rattle.net_core.proofs.Library.{∥∥₁_map, All-cons, All-head, All-nil}
 use Rattle.plan_terms.specs.Terms.{Demand, Evidence, Route, Master, CutLine, Entry, Notes, Routing, Case}
 use Rattle.module_prices.specs.declared.cheapest.UnitPair.{UnitPair}
-use Rattle.plan_types.specs.declared.plan.Plan.{Plan}
-use Rattle.plan_types.specs.declared.quality.Cause.{Cause}
-use Rattle.plan_types.specs.declared.quality.Cause.TheVariants.{Wide, Cuts}
-use Rattle.plan_types.specs.declared.quality.Quality.{Quality}
-use Rattle.plan_types.specs.declared.quality.Quality.TheVariants.{Tight, Loose}
-use Rattle.plan_types.specs.declared.report.Outcome.TheVariants.{Planned}
-use Rattle.plan_types.specs.declared.report.Report.{Report}
-use Rattle.plan_report.specs.Terms.{AreRoutingsInForm, IsPlanInForm, known_to}
+use Rattle.plan_report.specs.Terms.{AreRoutingsInForm, IsPlanInForm, known_to, Plan, Cause, Wide, Cuts, Quality, Tight, Loose, Planned, Report}
 use Rattle.route_law.specs.Terms.{IsLowestRouting}
 use Rattle.plan_law.specs.LoosePlans.{HasQuality, IsLooseBy, IsLooseByWidth, KeepsUp}
 use Rattle.plan_law.specs.WorkedLists.{Round}

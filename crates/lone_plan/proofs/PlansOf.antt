@@ -3,9 +3,7 @@ use Rattle.std.proofs.Common.{◌≡◌, ◌≢◌, ◌∙◌, ℕ, ◌*◌, ◌
 use Rattle.net_core.proofs.Library.{∥∥₁_elim, ∥∥₁_map, props, All-head, All-tail, slice_get-get_or, sum_by-cons}
 use Rattle.plan_terms.specs.Terms.{Demand, Notes, Flow, Routing, Case, graph_in, Joins, capacities, Carries, IsFlow, IsPath, IsSurvivable, Separates, sent}
 use Rattle.plan_types.specs.Terms.{IsCarryingPlan, IsCostedPlan}
-use Rattle.plan_types.specs.declared.plan.Plan.{Plan}
-use Rattle.plan_types.specs.declared.report.Outcome.TheVariants.{Planned}
-use Rattle.plan_report.specs.Terms.{IsOutcomeInForm, known_to}
+use Rattle.plan_report.specs.Terms.{IsOutcomeInForm, known_to, Plan, Planned}
 use Rattle.route_law.specs.Terms.{IsLowestRouting}
 use Rattle.session_script.specs.declared.script.Act.TheVariants as acts
 use Rattle.session_run.specs.Transcripts.{IsPlanBetween, IsTranscript, RunsFrom}

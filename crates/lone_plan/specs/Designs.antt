@@ -2,8 +2,7 @@
 use Rattle.std.specs.Prelude.{◌≡◌, ℕ, ◌≤◌, List, All}
 use Rattle.plan_terms.specs.Terms.{Notes, Routing, Case, IsSurvivable}
 use Rattle.plan_types.specs.Terms.{IsCarryingPlan, IsCostedPlan}
-use Rattle.plan_types.specs.declared.plan.Plan.{Plan}
-use Rattle.plan_report.specs.Terms.{IsPlanInForm, known_to}
+use Rattle.plan_report.specs.Terms.{IsPlanInForm, known_to, Plan}
 use Rattle.route_law.specs.Terms.{IsLowestRouting}
 use Rattle.session_run.specs.Transcripts.{IsTranscript}
 use Rattle.lone_plan.specs.declared.planned.PlannedReport.{PlannedReport}

@@ -1,8 +1,7 @@
 -- what holds of the report of one plan
 use Rattle.std.specs.Prelude.{ℕ, List, All}
 use Rattle.plan_terms.specs.Terms.{Notes, Routing, Case}
-use Rattle.plan_types.specs.declared.report.Report.{Report}
-use Rattle.plan_report.specs.Terms.{IsReportInForm, known_to}
+use Rattle.plan_report.specs.Terms.{IsReportInForm, known_to, Report}
 use Rattle.report_checker.specs.Outcomes.{IsBelowAllAble}
 use Rattle.report_checker.specs.ReportFindings.{HasNoFinding}
 use Rattle.session_run.specs.Transcripts.{IsTranscript}

@@ -4,9 +4,7 @@ use Rattle.std.specs.Bool.{⊤}
 use Rattle.net_core.proofs.Library.{cases_lt, All-map}
 use Rattle.plan_terms.specs.Terms.{Case, graph_in, Joins, Link, Module, IsBound, IsLowest, AreKept, CertificateLine, IsCertificate, IsCut, IsRight, asked, given, price, raw_value}
 use Rattle.plan_types.specs.Terms.{IsCertifiedPlan, lines_of_certificate}
-use Rattle.plan_types.specs.declared.certificate.CertLine.{CertLine}
-use Rattle.plan_types.specs.declared.plan.Plan.{Plan}
-use Rattle.plan_report.specs.Terms.{IsCertificateInForm}
+use Rattle.plan_report.specs.Terms.{IsCertificateInForm, CertLine, Plan}
 use Rattle.plan_checker.specs.Certified.{IsOverpriced}
 use Rattle.plan_checker.proofs.Places.{holds_read}
 use Rattle.plan_checker.specs.declared.stop.Stop.{Stop}

@@ -2,9 +2,7 @@
 use Rattle.std.proofs.Common.{◌≡◌, ℕ, zero, suc, ◌+◌, ◌*◌, ◌<◌, ◌⊎◌, ◌↔◌, ◌++◌, Bool, IsTrue, inl, inr, List, [], ◌∷◌, Some, All, IfOk, Result, Ok, Err, length, length-append, get_or, refl, sym, ap, subst, ◌∙◌, arith, slice_get, sum_by, ⊎_elim, ext_get_or}
 use Rattle.net_core.proofs.Library.{cases_eq, sum_by_push, get_or_from_slice_get, slice_get_within}
 use Rattle.plan_terms.specs.Terms.{Case, IsModule, NoMemory, Link, Module, IsUnitPair}
-use Rattle.plan_types.specs.declared.plan.Plan.{Plan}
-use Rattle.plan_types.specs.declared.quality.Fractional.{Fractional}
-use Rattle.plan_types.specs.declared.quality.Share.{Share}
+use Rattle.plan_report.specs.Terms.{Plan, Fractional, Share}
 use Rattle.plan_checker.specs.Shares.{AreCarried, GivesShare, IsShareOf, IsTight}
 use Rattle.module_prices.proofs.UnitPairs.{pair_once}
 use Rattle.net_core.proofs.Lists.{get_some}

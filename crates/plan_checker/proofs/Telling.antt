@@ -3,8 +3,7 @@ use Rattle.std.proofs.Common.{ℕ, ◌<◌, ◌^◌, Bool, List, refl, sym, ◌�
 use Rattle.plan_terms.specs.Terms.{Case, Link, Routing, IsBound, IsLowest, CertificateLine, asked, given, raw_value}
 use Rattle.plan_terms.proofs.Lemmas.{bound_unique}
 use Rattle.plan_types.specs.Terms.{lines_of_certificate}
-use Rattle.plan_types.specs.declared.plan.Plan.{Plan}
-use Rattle.plan_types.specs.declared.certificate.CertLine.{CertLine}
+use Rattle.plan_report.specs.Terms.{Plan, CertLine}
 use Rattle.plan_checker.specs.Carried.{HasBadPath, HoldsBadPath, HoldsNotCarried, HoldsOverloaded, IsOverloaded, IsUncarried}
 use Rattle.plan_checker.specs.Certified.{HasStaleRight, HoldsBoundDiffers, HoldsCertificateWide, HoldsLocalCut, HoldsRawDiffers, HoldsPriceExceeded, HoldsRightDiffers, IsLocalCut, IsOverpriced}
 use Rattle.plan_checker.specs.Order.{HoldsNone}

@@ -2,9 +2,7 @@
 use Rattle.std.specs.Prelude.{◌≡◌, ◌≢◌, ℕ, ◌*◌, ◌^◌, ◌<◌, ◌≤◌, ◌⊎◌, Bool, false, List}
 use Rattle.plan_terms.specs.Terms.{CutLine, Case, graph_in, Joins, Link, IsBound, IsLowest, total_cost, AreKept, CertificateLine, IsRight, asked, given, price, raw_value}
 use Rattle.plan_types.specs.Terms.{lines_of_certificate}
-use Rattle.plan_types.specs.declared.certificate.CertLine.{CertLine}
-use Rattle.plan_types.specs.declared.certificate.Spot.TheVariants.{Local}
-use Rattle.plan_types.specs.declared.plan.Plan.{Plan}
+use Rattle.plan_report.specs.Terms.{CertLine, Local, Plan}
 use Rattle.plan_checker.specs.Places.{HoldsAt, IsLeastPair, IsLeastPlace}
 use Rattle.plan_checker.specs.declared.finding.Finding.{Finding}
 use Rattle.plan_checker.specs.declared.finding.Finding.TheVariants.{CostDiffers, LocalCut, RightDiffers, PriceExceeded, CertificateWide, RawDiffers, BoundDiffers}

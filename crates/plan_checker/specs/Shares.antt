@@ -1,10 +1,7 @@
 -- fractional capacities: what a share gives each link, what it costs, and whether a plan is tight by it
 use Rattle.std.specs.Prelude.{◌≡◌, ℕ, ◌+◌, ◌*◌, ◌≤◌, ◌⊎◌, List, [], Some, length, slice_get, slice_index, sum_by}
 use Rattle.plan_terms.specs.Terms.{Case, graph_in, Joins, Link, Routing, Carries, IsUnitPair}
-use Rattle.plan_types.specs.declared.plan.Plan.{Plan}
-use Rattle.plan_types.specs.declared.quality.Fractional.{Fractional}
-use Rattle.plan_types.specs.declared.quality.Quality.TheVariants.{Tight}
-use Rattle.plan_types.specs.declared.quality.Share.{Share}
+use Rattle.plan_report.specs.Terms.{Plan, Fractional, Tight, Share}
 use Rattle.plan_checker.specs.Places.{HoldsAt}
 use Rattle.plan_checker.specs.declared.finding.Finding.{Finding}
 use Rattle.plan_checker.specs.declared.finding.Finding.TheVariants.{NotTight}

@@ -3,8 +3,7 @@ use Rattle.std.proofs.Common.{◌≡◌, ◌∙◌, ℕ, ◌+◌, ◌*◌, ◌^�
 use Rattle.net_core.proofs.Library.{∥∥₁_elim, props, get_or_default, All-weaker, recursion_from_All, get_or-le-sum_by, sum_by-cons, get_or_from_slice_get, slice_get-get_or, slice_get_within}
 use Rattle.plan_terms.specs.Terms.{Demand, Flow, Routing, Case, graph_in, AreDemands, Joins, IsNetwork, sum_below, AreCounts, AreWithinLimits, capacities, total_cost, Carries, sent}
 use Rattle.net_core.proofs.Sums.{below-le, below-one, below-same, below-swapped, sums-same}
-use Rattle.plan_types.specs.declared.plan.Plan.{Plan}
-use Rattle.plan_report.specs.Terms.{IsFlowInForm, IsRoutingInForm, known_to}
+use Rattle.plan_report.specs.Terms.{IsFlowInForm, IsRoutingInForm, known_to, Plan}
 use Rattle.planner.proofs.InForm.{cost_low, of_list, path_in_form}
 use Rattle.flow_file.specs.declared.flow.FlowFile.{FlowFile}
 use Rattle.flow_file.specs.declared.flow.LinkFlow.{LinkFlow}

@@ -2,8 +2,7 @@
 use Rattle.std.specs.Prelude.{◌≡◌, ℕ, ◌-◌, ◌*◌, ◌==◌, if◌then◌else◌, List, max, min, sum_by}
 use Rattle.plan_terms.specs.Terms.{Link, fixed_along, raw_value}
 use Rattle.plan_types.specs.Terms.{lines_of_certificate}
-use Rattle.plan_types.specs.declared.certificate.CertLine.{CertLine}
-use Rattle.plan_types.specs.declared.certificate.Certificate.{Certificate}
+use Rattle.plan_report.specs.Terms.{CertLine, Certificate}
 use Rattle.plan_view.specs.Rounding.{IsNearest}
 
 -- what the cuts of state s ask for

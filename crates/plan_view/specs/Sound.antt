@@ -1,8 +1,7 @@
 -- which plans rows are made of
 use Rattle.plan_terms.specs.Terms.{Case}
-use Rattle.plan_report.specs.Terms.{IsPlanInForm, known_to}
+use Rattle.plan_report.specs.Terms.{IsPlanInForm, known_to, Plan}
 use Rattle.plan_types.specs.Terms.{IsCarryingPlan, IsCertifiedPlan, IsCostedPlan}
-use Rattle.plan_types.specs.declared.plan.Plan.{Plan}
 
 -- a plan in form that carries the demands of the case, whose cost is its own, and whose bound is certified: what a plan is that a check accepted
 pub record IsSoundPlan (p : Case) (plan : Plan) : Type 0 where

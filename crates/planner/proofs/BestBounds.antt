@@ -4,10 +4,7 @@ use Rattle.net_core.proofs.Library.{◌∣◌, ∥∥₁_elim, ∥∥₁_map, pr
 use Rattle.std.proofs.lemmas.Nat.Gcd.{le_of_dvd}
 use Rattle.plan_terms.specs.Terms.{Entry, Link, CutLine, Case, IsNetwork, IsBound, IsLowest, IsCertificate, fixed_along, IsOwnBound}
 use Rattle.plan_terms.proofs.Lemmas.{bound_same, lowest_positive, alone, certificate_alone, empty_certificate, empty_raw, own_bound_unique, product_below, raw_alone}
-use Rattle.plan_types.specs.declared.certificate.CertLine.{CertLine}
-use Rattle.plan_types.specs.declared.certificate.Spot.{Spot}
-use Rattle.plan_types.specs.declared.certificate.Spot.TheVariants.{Pool, Local}
-use Rattle.plan_report.specs.Terms.{IsCertificateLineInForm, IsSpotInForm}
+use Rattle.plan_report.specs.Terms.{IsCertificateLineInForm, IsSpotInForm, CertLine, Spot, Pool, Local}
 use Rattle.cut_pool.specs.Terms.{cut_of_line, cuts_of}
 use Rattle.metric_cut.specs.declared.certificate.OwnCertificate.{OwnCertificate}
 use Rattle.separator.specs.Separators.{IsSpotIn}

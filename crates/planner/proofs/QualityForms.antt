@@ -4,8 +4,7 @@ use Rattle.net_core.proofs.Library.{length-map, length-zip, All-cons, All-contai
 use Rattle.plan_terms.specs.Terms.{Demand, Link, Module, Caps, Flow, Routing, AreDemands, Graph, Joins, IsModule, IsNetwork, AreCounts, AreWithinLimits, capacities, IsFlow, IsUnitPair}
 use Rattle.module_prices.specs.declared.cheapest.UnitPair.{UnitPair}
 use Rattle.plan_terms.proofs.Lemmas.{product_below}
-use Rattle.plan_types.specs.declared.quality.Share.{Share}
-use Rattle.plan_report.specs.Terms.{AreCapsInForm, IsFlowInForm, IsRoutingInForm, IsShareInForm}
+use Rattle.plan_report.specs.Terms.{AreCapsInForm, IsFlowInForm, IsRoutingInForm, IsShareInForm, Share}
 use Rattle.flow_router.specs.Answers.{IsRouted}
 use Rattle.master_law.specs.Terms.{AreUnitPairs, IsPairOfLink, share_capacities, share_caps}
 use Rattle.share_covers.specs.InstalledRoutes.{installed_caps}

@@ -4,9 +4,7 @@ use Rattle.net_core.proofs.Library.{cases_eq, All-map, All-weaker, Contains-appe
 use Rattle.plan_terms.specs.Terms.{Entry, CutLine, Case, IsNetwork, IsBound, CertificateLine, IsCut, raw_value, HasShortLengths}
 use Rattle.plan_terms.proofs.Lemmas.{bound_same}
 use Rattle.plan_types.specs.Terms.{lines_of_certificate}
-use Rattle.plan_types.specs.declared.certificate.CertLine.{CertLine}
-use Rattle.plan_types.specs.declared.certificate.Spot.{Spot}
-use Rattle.plan_types.specs.declared.certificate.Spot.TheVariants.{Pool, Local}
+use Rattle.plan_report.specs.Terms.{CertLine, Spot, Pool, Local}
 use Rattle.cut_pool.specs.Terms.{cut_of_line, cuts_of}
 use Rattle.cut_pool.specs.declared.snapshot.Snapshot.{Snapshot}
 use Rattle.master_bound.specs.declared.answer.Best.{Best}

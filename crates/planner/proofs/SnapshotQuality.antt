@@ -3,13 +3,7 @@ use Rattle.std.proofs.Common.{◌≡◌, ℕ, pos, ◌+◌, ◌*◌, ◌<◌, �
 use Rattle.net_core.proofs.Library.{ints, slice_get-get_or}
 use Rattle.plan_terms.specs.Terms.{Evidence, Route, Master, RouteColumn, WideKind, StateId, Caps, CutLine, Routing, Case, graph_in, AreDemands, IsNetwork, IsCut, HasShortLengths}
 use Rattle.module_prices.specs.declared.cheapest.UnitPair.{UnitPair}
-use Rattle.plan_types.specs.declared.plan.Plan.{Plan}
-use Rattle.plan_types.specs.declared.quality.Cause.TheVariants.{Wide, Cuts}
-use Rattle.plan_types.specs.declared.quality.Fractional.{Fractional}
-use Rattle.plan_types.specs.declared.quality.Quality.{Quality}
-use Rattle.plan_types.specs.declared.quality.Quality.TheVariants.{Tight, Loose}
-use Rattle.plan_types.specs.declared.quality.Share.{Share}
-use Rattle.plan_report.specs.Terms.{known_to, AreCapsInForm, IsEvidenceInForm, IsQualityInForm, IsShareInForm}
+use Rattle.plan_report.specs.Terms.{known_to, AreCapsInForm, IsEvidenceInForm, IsQualityInForm, IsShareInForm, Plan, Wide, Cuts, Fractional, Quality, Tight, Loose, Share}
 use Rattle.route_law.specs.Terms.{IsRouteEvidence}
 use Rattle.master_bound.specs.Answers.{IsBestOf}
 use Rattle.master_bound.specs.declared.answer.Best.{Best}

@@ -4,9 +4,7 @@ use Rattle.net_core.proofs.Library.{slice_get-get_or}
 use Rattle.plan_terms.specs.Terms.{Entry, Routing, Case, graph_in, AreDemands, Joins, IsNetwork, AreCounts, AreWithinLimits, capacities, total_cost, raw_value, IsFallback, raised, Carries, HasShortLengths}
 use Rattle.plan_terms.proofs.Lemmas.{lowest_positive, weak_duality}
 use Rattle.plan_types.specs.Terms.{lines_of_certificate}
-use Rattle.plan_types.specs.declared.plan.Plan.{Plan}
-use Rattle.plan_types.specs.declared.quality.Quality.{Quality}
-use Rattle.plan_report.specs.Terms.{known_to, IsPlanInForm, IsQualityInForm, IsRoutingInForm}
+use Rattle.plan_report.specs.Terms.{known_to, IsPlanInForm, IsQualityInForm, IsRoutingInForm, Plan, Quality}
 use Rattle.route_law.specs.Terms.{IsLowestRouting}
 use Rattle.cut_pool.specs.declared.snapshot.Snapshot.{Snapshot}
 use Rattle.module_choice.specs.declared.fallback.Fallback.{Fallback}

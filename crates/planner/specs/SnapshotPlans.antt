@@ -2,8 +2,7 @@
 use Rattle.std.specs.Prelude.{◌≡◌, ◌≤◌, ◌⊎◌, List, All, Contains, length, map, take}
 use Rattle.plan_terms.specs.Terms.{Entry, CutLine, Case, IsCut, IsFirstSeparation}
 use Rattle.plan_types.specs.Terms.{IsCarryingPlan, IsCertifiedPlan, IsCostedPlan}
-use Rattle.plan_types.specs.declared.plan.Plan.{Plan}
-use Rattle.plan_report.specs.Terms.{known_to, IsPlanInForm}
+use Rattle.plan_report.specs.Terms.{known_to, IsPlanInForm, Plan}
 use Rattle.cut_pool.specs.Terms.{cut_of_line, cuts_of}
 use Rattle.cut_pool.specs.declared.snapshot.Snapshot.{Snapshot}
 use Rattle.plan_law.specs.LoosePlans.{IsWorkedPlan}

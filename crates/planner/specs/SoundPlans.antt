@@ -2,8 +2,7 @@
 use Rattle.std.specs.Prelude.{◌≡◌, ℕ, ◌≤◌, ◌<◌, List, [], All, length}
 use Rattle.std.specs.Int.{◌∣◌}
 use Rattle.plan_terms.specs.Terms.{Routing, Case, graph_in, Joins, IsRight, IsFallback, AreOpening, IsOwnBound}
-use Rattle.plan_types.specs.declared.certificate.Certificate.{Certificate}
-use Rattle.plan_types.specs.declared.plan.Plan.{Plan}
+use Rattle.plan_report.specs.Terms.{Certificate, Plan}
 use Rattle.route_law.specs.Terms.{IsLowestRouting}
 
 -- ---- the bound

@@ -3,8 +3,7 @@ use Rattle.std.specs.Prelude.{◌≡◌, ◌≢◌, ℕ, ◌⊎◌, List, [], Op
 use Rattle.std.specs.Global.{Global}
 use Rattle.plan_terms.specs.Terms.{Notes, Case}
 use Rattle.outside_io.specs.Outside.{Files, Rose, Takes, TakesPrefix}
-use Rattle.plan_types.specs.declared.report.Report.{Report}
-use Rattle.plan_report.specs.Terms.{known_to, SpellsReport}
+use Rattle.plan_report.specs.Terms.{known_to, SpellsReport, Report}
 use Rattle.session_script.specs.declared.script.Command.{Command}
 use Rattle.session_script.specs.declared.script.Script.{Script}
 use Rattle.session_script.specs.Terms.{SpellsScript}

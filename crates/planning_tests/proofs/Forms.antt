@@ -2,8 +2,7 @@
 use Rattle.std.proofs.Common.{List}
 use Rattle.plan_terms.specs.Terms.{Demand, Network, Notes, States}
 use Rattle.net_core.specs.Terms.{case}
-use Rattle.plan_report.specs.Terms.{IsReportInForm, known_of}
-use Rattle.plan_types.specs.declared.report.Report.{Report}
+use Rattle.plan_report.specs.Terms.{IsReportInForm, known_of, Report}
 use Rattle.session_script.specs.declared.script.Command.{Command}
 use Rattle.session_run.specs.Transcripts.{IsTranscript}
 

@@ -1,9 +1,7 @@
 -- The reading of evidence takes exactly its texts, since that of a bound with evidence does.
 use Rattle.std.proofs.Common.{◌≡◌, List, Ok, Err, refl, sym, ap, ◌∙◌, codes}
 use Rattle.plan_terms.specs.Terms.{Demand, Evidence}
-use Rattle.plan_types.specs.declared.quality.Cause.TheVariants.{Wide}
-use Rattle.plan_types.specs.declared.quality.Quality.TheVariants.{Loose}
-use Rattle.plan_report.specs.Terms.{IsEvidenceInForm, KnownNames, evidence_items}
+use Rattle.plan_report.specs.Terms.{IsEvidenceInForm, KnownNames, evidence_items, Wide, Loose}
 use Rattle.snd_tokens.specs.Terms.{Text, WordAt}
 use Rattle.text_kit.specs.Terms.{Read, after, give}
 use Rattle.text_kit.proofs.Beginnings.{AnyText}

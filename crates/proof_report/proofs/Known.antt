@@ -5,10 +5,7 @@ use Rattle.net_core.proofs.Library.{∥∥₁_elim, ∥∥₁_map, props, All-co
 use Rattle.net_core.proofs.Lists.{all_at}
 use Rattle.plan_terms.specs.Terms.{AreKept, Case, CertificateLine, CutLine, Demand, IsCut, IsRight, Joins, Notes, graph_in}
 use Rattle.plan_types.specs.Terms.{IsCertifiedPlan, lines_of_certificate}
-use Rattle.plan_types.specs.declared.certificate.CertLine.{CertLine}
-use Rattle.plan_types.specs.declared.report.Outcome.TheVariants.{Planned}
-use Rattle.plan_types.specs.declared.report.Report.{Report}
-use Rattle.plan_report.specs.Terms.{IsOutcomeInForm, known_to}
+use Rattle.plan_report.specs.Terms.{IsOutcomeInForm, known_to, CertLine, Planned, Report}
 use Rattle.cut_pool.specs.Terms.{IsLegalHistory, IsPoolAfter, cut_of_line, cuts_of, demands_left}
 use Rattle.session_run.specs.Transcripts.{IsTranscript}
 use Rattle.report_checker.specs.Outcomes.{case_at}

@@ -1,8 +1,7 @@
 -- the report of a plan with its branch tree
 use Rattle.std.proofs.Common.{◌≡◌, ℕ, ◌≤◌, List, arith, subst, sym}
 use Rattle.plan_terms.specs.Terms.{Case, CutLine, Demand, IsAble, Notes, total_cost}
-use Rattle.plan_types.specs.declared.plan.Plan.{Plan}
-use Rattle.plan_report.specs.Terms.{AreRoutingsInForm, known_to}
+use Rattle.plan_report.specs.Terms.{AreRoutingsInForm, known_to, Plan}
 use Rattle.session_run.specs.Transcripts.{IsTranscript}
 use Rattle.trim_plan.specs.Trimmed.{IsRoutedPlan}
 use Rattle.lone_plan.specs.declared.planned.PlannedReport.{PlannedReport}

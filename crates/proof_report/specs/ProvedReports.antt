@@ -1,8 +1,7 @@
 -- what a proof comes to: the report of a plan with its branch tree, or the first separation
 use Rattle.std.specs.Prelude.{◌≡◌, ◌≢◌, ℕ, ◌≤◌, ◌++◌, List, [], All, AllPairs, Contains, flat_map, length, map}
 use Rattle.plan_terms.specs.Terms.{Case, CutLine, IsAble, Notes, total_cost}
-use Rattle.plan_types.specs.declared.certificate.Certificate.{Certificate}
-use Rattle.plan_types.specs.declared.plan.Plan.{Plan}
+use Rattle.plan_report.specs.Terms.{Certificate, Plan}
 use Rattle.comment_lines.specs.Comments.{comment_line}
 use Rattle.session_run.specs.Transcripts.{IsTranscript}
 use Rattle.lone_plan.specs.declared.planned.PlannedReport.{PlannedReport}

@@ -3,8 +3,7 @@ use Rattle.std.proofs.Common.{◌≡◌, ◌∙◌, ℕ, suc, ◌+◌, ◌<◌, 
 use Rattle.net_core.proofs.Library.{⊤, cases_eq, get_or_from_slice_get, slice_get-get_or}
 use Rattle.std.proofs.Math.Nat.{min-le_right}
 use Rattle.plan_terms.specs.Terms.{Case}
-use Rattle.plan_types.specs.declared.report.Outcome.{Outcome}
-use Rattle.plan_types.specs.declared.report.Report.{Report}
+use Rattle.plan_report.specs.Terms.{Outcome, Report}
 use Rattle.plan_checker.specs.Terms.{HoldNone, StopsFirst, TellFirst}
 use Rattle.plan_checker.specs.declared.finding.CheckAnswer.TheVariants.{Rejected}
 use Rattle.plan_checker.specs.declared.finding.Finding.{Finding}

@@ -4,9 +4,7 @@ use Rattle.net_core.proofs.Library.{All-weaker}
 use Rattle.plan_terms.specs.Terms.{Notes, Case}
 use Rattle.plan_terms.proofs.Lemmas.{weak_duality}
 use Rattle.plan_types.specs.Terms.{lines_of_certificate}
-use Rattle.plan_types.specs.declared.report.Outcome.{Outcome}
-use Rattle.plan_types.specs.declared.report.Outcome.TheVariants.{Planned, Unsurvivable}
-use Rattle.plan_types.specs.declared.report.Report.{Report}
+use Rattle.plan_report.specs.Terms.{Outcome, Planned, Unsurvivable, Report}
 use Rattle.plan_checker.specs.Terms.{HoldNone, StopsFirst}
 use Rattle.plan_checker.specs.declared.finding.CheckAnswer.{CheckAnswer}
 use Rattle.plan_checker.specs.declared.finding.CheckAnswer.TheVariants.{Accepted, NoMemory, Rejected}

@@ -2,9 +2,7 @@
 use Rattle.std.proofs.Common.{◌≡◌, ◌∙◌, List, length, nat_le, refl, ap, subst, take, OnOk, Result}
 use Rattle.net_core.proofs.Library.{⊤}
 use Rattle.plan_terms.specs.Terms.{Demand, Case}
-use Rattle.plan_types.specs.declared.report.Outcome.{Outcome}
-use Rattle.plan_types.specs.declared.report.Outcome.TheVariants.{Planned, Unsurvivable}
-use Rattle.plan_types.specs.declared.report.Report.{Report}
+use Rattle.plan_report.specs.Terms.{Outcome, Planned, Unsurvivable, Report}
 use Rattle.plan_checker.specs.Terms.{HoldsNone, TellFirst}
 use Rattle.plan_checker.specs.declared.stop.Stop.{Stop}
 use Rattle.plan_checker.proofs.Firsts.{told_later}

@@ -1,9 +1,7 @@
 -- findings on an outcome of a report
 use Rattle.std.specs.Prelude.{◌≡◌, ◌≢◌, ℕ, ◌<◌, ◌≤◌, ◌⊎◌, List, [], ◌∷◌, length, nat_le, take}
 use Rattle.plan_terms.specs.Terms.{Entry, Case, IsAble, total_cost, Separates}
-use Rattle.plan_types.specs.declared.report.Outcome.{Outcome}
-use Rattle.plan_types.specs.declared.report.Outcome.TheVariants.{Planned, Unsurvivable}
-use Rattle.plan_types.specs.declared.report.Report.{Report}
+use Rattle.plan_report.specs.Terms.{Outcome, Planned, Unsurvivable, Report}
 use Rattle.cut_pool.specs.Terms.{version_at, case_left}
 use Rattle.plan_checker.specs.Terms.{Kind, IsAcceptedPlan, plan_findings}
 use Rattle.plan_checker.specs.declared.finding.Finding.{Finding}

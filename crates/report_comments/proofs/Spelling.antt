@@ -1,8 +1,7 @@
 -- a report with comments after it spells the report
 use Rattle.std.proofs.Common.{◌≡◌, ℕ, List, [], ◌∷◌, ◌++◌, refl, sym, ap, subst, ◌∙◌, append_assoc, codes, flat_map, map, All}
 use Rattle.net_core.proofs.Library.{All-cons, All-head, All-nil, All-tail}
-use Rattle.plan_types.specs.declared.report.Report.{Report}
-use Rattle.plan_report.specs.Terms.{KnownNames, SpellsReport, entry_items, notes_items, numbered_from, outcome_items, pool_line_items, report_header, report_items, report_text}
+use Rattle.plan_report.specs.Terms.{KnownNames, SpellsReport, entry_items, notes_items, numbered_from, outcome_items, pool_line_items, report_header, report_items, report_text, Report}
 use Rattle.text_kit.specs.Terms.{Item, Opening, Closing, Verbatim, section, written}
 use Rattle.text_kit.specs.Written.{byte_after, word_of}
 use Rattle.comment_lines.specs.Comments.{IsOneLine, comment_line, commented, spaced_items}

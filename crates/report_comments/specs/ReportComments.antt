@@ -1,8 +1,7 @@
 -- comments below a report
 use Rattle.std.specs.Prelude.{ℕ, List}
 use Rattle.plan_terms.specs.Terms.{Evidence, Route, Master}
-use Rattle.plan_types.specs.declared.report.Report.{Report}
-use Rattle.plan_report.specs.Terms.{KnownNames, SpellsReport, report_text}
+use Rattle.plan_report.specs.Terms.{KnownNames, SpellsReport, report_text, Report}
 use Rattle.text_kit.specs.Terms.{Item}
 use Rattle.comment_lines.specs.Comments.{AddsLines}
 

@@ -2,14 +2,10 @@
 use Rattle.std.proofs.Common.{◌≡◌, ◌⊎◌, inl, inr, ℕ, ◌+◌, ◌^◌, ◌<◌, ◌≤◌, true, List, [], ◌∷◌, ◌++◌, length, All, Err, refl, sym, ap, subst, ◌∙◌, arith, append_assoc, codes, slice_get}
 use Rattle.net_core.proofs.Library.{slice_get-get_or}
 use Rattle.plan_terms.specs.Terms.{CutLine}
-use Rattle.plan_types.specs.declared.certificate.CertLine.{CertLine}
-use Rattle.plan_types.specs.declared.certificate.Certificate.{Certificate}
-use Rattle.plan_types.specs.declared.certificate.Spot.{Spot}
-use Rattle.plan_types.specs.declared.certificate.Spot.TheVariants.{Pool, Local}
 use Rattle.text_kit.specs.Terms.{Item, Verbatim, Whole, Opening, Closing}
 use Rattle.text_kit.proofs.Beginnings.{AnyText}
 use Rattle.text_kit.proofs.Spelled.{Lawful}
-use Rattle.plan_report.specs.Terms.{AreLinkNumbers, IsCertificateLineInForm, IsCutInForm, IsOfPool, line_lengths, line_state, certificate_items, certificate_line_items, spot_items, KnownNames}
+use Rattle.plan_report.specs.Terms.{AreLinkNumbers, IsCertificateLineInForm, IsCutInForm, IsOfPool, line_lengths, line_state, certificate_items, certificate_line_items, spot_items, KnownNames, CertLine, Certificate, Spot, Pool, Local}
 use Rattle.report_words.specs.declared.fault.ReportKind.TheVariants.{Token}
 use Rattle.report_parts.specs.declared.spot_cut.SpotCut.{SpotCut}
 use Rattle.report_words.specs.Terms.{closing_at, has_room}

@@ -4,10 +4,7 @@ use Rattle.plan_terms.specs.Terms.{Evidence, Route, Master, MasterColumn, RouteC
 use Rattle.net_core.specs.declared.columns.MasterColumn.TheVariants as master
 use Rattle.net_core.specs.declared.columns.RouteColumn.TheVariants as route
 use Rattle.net_core.specs.declared.columns.WideKind.TheVariants as wide
-use Rattle.plan_types.specs.declared.quality.Cause.TheVariants.{Wide, Cuts}
-use Rattle.plan_types.specs.declared.quality.Fractional.{Fractional}
-use Rattle.plan_types.specs.declared.quality.Quality.{Quality}
-use Rattle.plan_types.specs.declared.quality.Quality.TheVariants.{Tight, Loose}
+use Rattle.plan_report.specs.Terms.{Wide, Cuts, Fractional, Quality, Tight, Loose}
 
 pub route_cases : (M : RouteColumn → Type 0) → ((e : LinkId) → M (route.LinkSlack e)) → ((k : ℕ) → M (route.DemandSlack k)) → ((k : ℕ) (path : List LinkId) → M (route.Carry k path)) → (c : RouteColumn) → M c
 route_cases M link demand carry (route.LinkSlack e) = link e

@@ -1,11 +1,10 @@
 -- Each section of a plan is read without a look at what comes after it.
 use Rattle.std.proofs.Common.{◌≡◌, ℕ, ◌+◌, ◌^◌, Bool, true, List, [], length, Option, None, Some, Err, refl, codes, slice_get}
 use Rattle.plan_terms.specs.Terms.{MasterColumn, RouteColumn, Demand, LinkId, Link, Places, CutLine, Flow, Routing}
-use Rattle.plan_types.specs.declared.certificate.CertLine.{CertLine}
 use Rattle.snd_tokens.specs.Terms.{EndAt}
 use Rattle.text_kit.specs.Terms.{Reading, no_fault, not_empty, of_length, Parenthesis}
 use Rattle.text_kit.proofs.Lemmas.{IsOnline, TakesSome, online_close, online_give, online_list, online_open, online_then, online_word, takes_some}
-use Rattle.plan_report.specs.Terms.{KnownNames}
+use Rattle.plan_report.specs.Terms.{KnownNames, CertLine}
 use Rattle.report_words.specs.declared.fault.ReportKind.{ReportKind}
 use Rattle.report_words.specs.declared.fault.ReportKind.TheVariants.{Token, Ended, Limit}
 use Rattle.report_words.specs.Terms.{has_room, link_at, link_of, unknown_name, whole_within}

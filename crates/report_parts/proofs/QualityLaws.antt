@@ -4,14 +4,10 @@ use Rattle.plan_terms.specs.Terms.{Evidence, Route, Master, MasterColumn, RouteC
 use Rattle.net_core.specs.declared.columns.MasterColumn.TheVariants as master
 use Rattle.net_core.specs.declared.columns.RouteColumn.TheVariants as route
 use Rattle.net_core.specs.declared.columns.WideKind.TheVariants as wide
-use Rattle.plan_types.specs.declared.quality.Cause.TheVariants.{Wide, Cuts}
-use Rattle.plan_types.specs.declared.quality.Fractional.{Fractional}
-use Rattle.plan_types.specs.declared.quality.Quality.{Quality}
-use Rattle.plan_types.specs.declared.quality.Quality.TheVariants.{Tight, Loose}
 use Rattle.text_kit.specs.Terms.{Item, Verbatim, Whole, enclosed}
 use Rattle.text_kit.proofs.Beginnings.{AnyText}
 use Rattle.text_kit.proofs.Spelled.{Lawful}
-use Rattle.plan_report.specs.Terms.{AreCapsInForm, AreRoutingsInForm, IsCauseInForm, IsEvidenceInForm, IsKindInForm, IsMasterColumnInForm, IsQualityInForm, IsRouteColumnInForm, IsShareInForm, cause_items, evidence_items, master_column_items, numbers_items, quality_items, route_column_items, routings_items, wide_items, KnownNames}
+use Rattle.plan_report.specs.Terms.{AreCapsInForm, AreRoutingsInForm, IsCauseInForm, IsEvidenceInForm, IsKindInForm, IsMasterColumnInForm, IsQualityInForm, IsRouteColumnInForm, IsShareInForm, cause_items, evidence_items, master_column_items, numbers_items, quality_items, route_column_items, routings_items, wide_items, KnownNames, Wide, Cuts, Fractional, Quality, Tight, Loose}
 use Rattle.report_words.specs.declared.fault.ReportKind.TheVariants.{Token}
 use Rattle.report_words.specs.Terms.{has_room}
 use Rattle.report_parts.specs.ReadingQuality.{evidence_branches, loose_branches, master_column_branches, master_wide_branches, quality_branches, route_column_branches, route_wide_branches, basis_at, caps_at, carry_at, evidence_at, fractional_at, left_at, loose_at, master_at, master_column_at, master_wide_at, metric_at, price_at, quality_at, route_at, route_column_at, route_wide_at, slack_at, tight_at, too_wide_at, wide_entry_at, wide_length_at, wide_number_at, wide_row_at, wide_sum_at}

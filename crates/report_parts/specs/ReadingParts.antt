@@ -1,11 +1,8 @@
 -- Reading the demands, the modules and the certificate of a plan.
 use Rattle.std.specs.Prelude.{ℕ, ◌+◌, ◌^◌, nat_lt, ◌&&◌, List, [], ◌∷◌, ◌++◌, length, Option, Some, None, Result, Ok, Err, slice_get, codes}
 use Rattle.plan_terms.specs.Terms.{Demand, NodeId, Link, Places, CutLine, modules_capacity}
-use Rattle.plan_types.specs.declared.certificate.CertLine.{CertLine}
-use Rattle.plan_types.specs.declared.certificate.Certificate.{Certificate}
-use Rattle.plan_types.specs.declared.certificate.Spot.TheVariants.{Pool, Local}
 use Rattle.text_kit.specs.Terms.{Reading, ◌>>=◌, give, list_at, no_fault, of_length, Parenthesis, word_at}
-use Rattle.plan_report.specs.Terms.{line_lengths, line_state, KnownNames}
+use Rattle.plan_report.specs.Terms.{line_lengths, line_state, KnownNames, CertLine, Certificate, Pool, Local}
 use Rattle.report_words.specs.declared.fault.ReportKind.{ReportKind}
 use Rattle.report_words.specs.declared.fault.ReportKind.TheVariants.{Token, Ended, Limit}
 use Rattle.report_parts.specs.declared.spot_cut.SpotCut.{SpotCut}

@@ -4,12 +4,8 @@ use Rattle.plan_terms.specs.Terms.{Evidence, Route, Master, MasterColumn, RouteC
 use Rattle.net_core.specs.declared.columns.MasterColumn.TheVariants as master
 use Rattle.net_core.specs.declared.columns.RouteColumn.TheVariants as route
 use Rattle.net_core.specs.declared.columns.WideKind.TheVariants as wide
-use Rattle.plan_types.specs.declared.quality.Cause.TheVariants.{Wide, Cuts}
-use Rattle.plan_types.specs.declared.quality.Fractional.{Fractional}
-use Rattle.plan_types.specs.declared.quality.Quality.{Quality}
-use Rattle.plan_types.specs.declared.quality.Quality.TheVariants.{Tight, Loose}
 use Rattle.text_kit.specs.Terms.{Reading, ◌>>=◌, give, list_at, of_length, Parenthesis}
-use Rattle.plan_report.specs.Terms.{KnownNames}
+use Rattle.plan_report.specs.Terms.{KnownNames, Wide, Cuts, Fractional, Quality, Tight, Loose}
 use Rattle.report_words.specs.declared.fault.ReportKind.{ReportKind}
 use Rattle.report_words.specs.declared.fault.ReportKind.TheVariants.{Limit}
 use Rattle.report_words.specs.Terms.{demand_at, has_room, link_at, number_at, opening_at, Branches, branch_at, branch_within, numbers_at}

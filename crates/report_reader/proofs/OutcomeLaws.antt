@@ -1,13 +1,10 @@
 -- The readings of outcomes take exactly their texts.
 use Rattle.std.proofs.Common.{◌≡◌, ◌≢◌, inl, inr, ℕ, ◌+◌, ◌≤◌, Bool, true, List, [], ◌∷◌, ◌++◌, length, All, AllPairs, Err, refl, ap, ◌∙◌, arith, codes, flat_map, slice_get}
 use Rattle.plan_terms.specs.Terms.{CutLine}
-use Rattle.plan_types.specs.declared.plan.Plan.{Plan}
-use Rattle.plan_types.specs.declared.report.Outcome.{Outcome}
-use Rattle.plan_types.specs.declared.report.Outcome.TheVariants.{Planned, Unsurvivable}
 use Rattle.text_kit.specs.Terms.{Item, Verbatim, Opening, Closing}
 use Rattle.text_kit.proofs.Beginnings.{AnyText}
 use Rattle.text_kit.proofs.Spelled.{Lawful}
-use Rattle.plan_report.specs.Terms.{IsHeadInForm, IsOutcomeInForm, head_items, outcome_items, plan_items, state_name, KnownNames}
+use Rattle.plan_report.specs.Terms.{IsHeadInForm, IsOutcomeInForm, head_items, outcome_items, plan_items, state_name, KnownNames, Plan, Outcome, Planned, Unsurvivable}
 use Rattle.report_words.specs.declared.fault.ReportKind.TheVariants.{Token}
 use Rattle.report_reader.specs.declared.parts.Head.{Head}
 use Rattle.report_words.specs.Terms.{closing_at, has_room, branch_within}

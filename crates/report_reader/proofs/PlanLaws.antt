@@ -1,12 +1,10 @@
 -- The readings of plans take exactly their texts.
 use Rattle.std.proofs.Common.{◌≡◌, ◌≢◌, ℕ, ◌^◌, ◌<◌, ◌≤◌, List, [], ◌∷◌, ◌++◌, All, AllPairs, refl, sym, ap, ◌∙◌, arith, append_assoc, codes, flat_map, slice_get, zip}
 use Rattle.plan_terms.specs.Terms.{Demand, Places, CutLine, AreCounts, AreWithinLimits}
-use Rattle.plan_types.specs.declared.plan.Plan.{Plan}
-use Rattle.plan_types.specs.declared.quality.Quality.{Quality}
 use Rattle.text_kit.specs.Terms.{ComeAfter, Item, Verbatim, Whole, Money, section}
 use Rattle.text_kit.proofs.Beginnings.{AnyText}
 use Rattle.text_kit.proofs.Spelled.{Lawful}
-use Rattle.plan_report.specs.Terms.{AreRoutingsInForm, IsDemandInForm, IsOfPool, IsPlanInForm, IsQualityInForm, certificate_items, demand_items, modules_items, plan_items, quality_items, routings_items, KnownNames}
+use Rattle.plan_report.specs.Terms.{AreRoutingsInForm, IsDemandInForm, IsOfPool, IsPlanInForm, IsQualityInForm, certificate_items, demand_items, modules_items, plan_items, quality_items, routings_items, KnownNames, Plan, Quality}
 use Rattle.report_reader.specs.declared.parts.Head.{Head}
 use Rattle.report_reader.specs.declared.parts.PlanParts.{PlanParts}
 use Rattle.report_reader.specs.declared.parts.Routed.{Routed}

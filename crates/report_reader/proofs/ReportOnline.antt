@@ -1,10 +1,9 @@
 -- Each part of a report is read without a look at what comes after it.
 use Rattle.std.proofs.Common.{ℕ, ◌+◌, ◌^◌, Bool, true, false, List, [], length, Ok, Err, refl, codes}
 use Rattle.plan_terms.specs.Terms.{Entry, Notes, Demand, Places, CutLine, Listed}
-use Rattle.plan_types.specs.declared.report.Outcome.{Outcome}
 use Rattle.text_kit.specs.Terms.{no_fault, Parenthesis}
 use Rattle.text_kit.proofs.Lemmas.{IsOnline, TakesSome, online_close, online_give, online_list, online_open, online_then, online_whole, online_word, takes_some}
-use Rattle.plan_report.specs.Terms.{KnownNames}
+use Rattle.plan_report.specs.Terms.{KnownNames, Outcome}
 use Rattle.report_words.specs.declared.fault.ReportKind.TheVariants.{Section, Token, Ended}
 use Rattle.report_reader.specs.declared.parts.Head.{Head}
 use Rattle.report_words.specs.Terms.{has_room}

@@ -1,9 +1,7 @@
 -- What holds of each variant of edits, replies, entries and outcomes holds of all.
 use Rattle.std.proofs.Common.{ℕ, List}
 use Rattle.plan_terms.specs.Terms.{StateId, Edit, Set, Add, Drop, Entry, Edited, Pooled, Reply, Accepted, UnknownDemand, KnownDemand, UnknownNode, SelfDemand, TooMany, TooMuch}
-use Rattle.plan_types.specs.declared.plan.Plan.{Plan}
-use Rattle.plan_types.specs.declared.report.Outcome.{Outcome}
-use Rattle.plan_types.specs.declared.report.Outcome.TheVariants.{Planned, Unsurvivable}
+use Rattle.plan_report.specs.Terms.{Plan, Outcome, Planned, Unsurvivable}
 
 pub edit_cases : (M : Edit → Type 0) → ((name : List ℕ) (need : ℕ) → M (Set name need)) → ((name from to : List ℕ) (need : ℕ) → M (Add name from to need)) → ((name : List ℕ) → M (Drop name)) → (e : Edit) → M e
 edit_cases M set add drop (Set name need) = set name need

@@ -1,8 +1,7 @@
 -- A whole report ends where its file does.
 use Rattle.std.proofs.Common.{◌≡◌, ℕ, Bool, true, cond, List, Result, Ok, Err, sym, ap, ◌∙◌}
 use Rattle.plan_terms.specs.Terms.{are_same}
-use Rattle.plan_types.specs.declared.report.Report.{Report}
-use Rattle.plan_report.specs.Terms.{report_header, KnownNames}
+use Rattle.plan_report.specs.Terms.{report_header, KnownNames, Report}
 use Rattle.snd_tokens.specs.Terms.{first_line, trimmed, Text, WordAt, OpenAt, CloseAt, EndAt}
 use Rattle.text_kit.specs.Terms.{ReadsAllAs, ReadsAs, body, Read, after, end_at, give}
 use Rattle.text_kit.specs.declared.refusal.Refusal.{Refusal}

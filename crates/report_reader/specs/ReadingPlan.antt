@@ -1,9 +1,8 @@
 -- Reading a plan: its costs, and all its parts.
 use Rattle.std.specs.Prelude.{◌^◌, List, codes}
 use Rattle.plan_terms.specs.Terms.{Demand, Places, CutLine}
-use Rattle.plan_types.specs.declared.plan.Plan.{Plan}
 use Rattle.text_kit.specs.Terms.{Reading, ◌>>=◌, give}
-use Rattle.plan_report.specs.Terms.{KnownNames}
+use Rattle.plan_report.specs.Terms.{KnownNames, Plan}
 use Rattle.report_words.specs.declared.fault.ReportKind.{ReportKind}
 use Rattle.report_reader.specs.declared.parts.Head.{Head}
 use Rattle.report_reader.specs.declared.parts.PlanParts.{PlanParts}

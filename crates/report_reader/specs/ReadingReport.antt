@@ -1,11 +1,8 @@
 -- Reading a report from left to right: its parts in their order, and its first fault.
 use Rattle.std.specs.Prelude.{ℕ, ◌+◌, List, [], ◌∷◌, length, map, slice_get, codes}
 use Rattle.plan_terms.specs.Terms.{Entry, Edited, Pooled, Notes, CutLine, Listed}
-use Rattle.plan_types.specs.declared.report.Outcome.{Outcome}
-use Rattle.plan_types.specs.declared.report.Outcome.TheVariants.{Planned, Unsurvivable}
-use Rattle.plan_types.specs.declared.report.Report.{Report}
 use Rattle.text_kit.specs.Terms.{file_at, Read, Reading, ◌>>=◌, expected, give, list_at, no_fault, open_at, Parenthesis, whole_at, word_at}
-use Rattle.plan_report.specs.Terms.{line_lengths, line_state, state_name, report_header, KnownNames}
+use Rattle.plan_report.specs.Terms.{line_lengths, line_state, state_name, report_header, KnownNames, Outcome, Planned, Unsurvivable, Report}
 use Rattle.report_words.specs.declared.fault.ReportKind.{ReportKind}
 use Rattle.report_words.specs.declared.fault.ReportKind.TheVariants.{Header, Section, Ended}
 use Rattle.report_reader.specs.declared.parts.Head.{Head}

@@ -2,8 +2,7 @@ ghost use Rattle.std.specs.Prelude.{◌≡◌, ◌<◌, ◌==◌, ◌↔◌, ◌
 ghost use Rattle.std.specs.List.{list_any};
 ghost use Rattle.plan_terms.specs.Terms.{AreDemands, IsDemand, IsLink};
 ghost use Rattle.text_kit.specs.Terms.{Verbatim, AddsItems, section};
-ghost use Rattle.sndlib_reader.specs.Spelling.{node_pair_items, module_items};
-ghost use Rattle.sndlib_reader.specs.NetworkFiles.{Spells};
+ghost use Rattle.sndlib_reader.specs.Terms.{node_pair_items, module_items, Spells};
 ghost use Rattle.sample_net.specs.Texts.{HasWritableNotes, costless_items, network_items, network_text, unit_demand_items};
 
 use net_core::{Bytes, Demand, Demands, Link, Module, Name, Network, NoMemory, NodeId, Places};

@@ -3,8 +3,7 @@ use Rattle.std.proofs.Common.{◌≡◌, ℕ, ◌==◌, List, [], nat_cmp, is_lt
 use Rattle.net_core.proofs.Library.{nat_tests, ties}
 use Rattle.std.proofs.lemmas.List.Elements.{filter_agree}
 use Rattle.std.specs.List.Sorted.{IsStableByKey}
-use Rattle.plan_types.specs.declared.report.Outcome.{Outcome}
-use Rattle.plan_types.specs.declared.report.Outcome.TheVariants.{Unsurvivable}
+use Rattle.plan_report.specs.Terms.{Outcome, Unsurvivable}
 use Rattle.session_run.specs.Transcripts.{outcome_caller, outcomes_of}
 
 ties_at : (m n : ℕ) → ties (λ x y. is_lt (nat_cmp x y)) m n ≡ (n == m)

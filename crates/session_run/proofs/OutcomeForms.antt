@@ -2,11 +2,7 @@
 use Rattle.std.proofs.Common.{◌≡◌, ℕ, zero, suc, ◌+◌, ◌<◌, ◌≤◌, ◌⊎◌, inl, inr, List, [], ◌∷◌, ◌++◌, All, Bool, true, false, cond, Some, ◌==◌, drop, get_or, if◌then◌else◌, length, map, slice_get, take, refl, sym, ap, subst, ◌∙◌, ⊎_elim, arith, filter, eq-eqb, ne_eqb, length-take-le, take-append-drop}
 use Rattle.net_core.proofs.Library.{∥∥₁_elim, cases_eq, cond-true, All-cons, All-filter, All-head, All-nil, All-tail, count_by-le-length, length-filter}
 use Rattle.plan_terms.specs.Terms.{Entry, CutLine, Case}
-use Rattle.plan_types.specs.declared.certificate.Spot.{Spot}
-use Rattle.plan_types.specs.declared.certificate.Spot.TheVariants.{Pool, Local}
-use Rattle.plan_types.specs.declared.report.Outcome.{Outcome}
-use Rattle.plan_types.specs.declared.report.Outcome.TheVariants.{Planned, Unsurvivable}
-use Rattle.plan_report.specs.Terms.{known_to, IsHeadInForm, IsOfPool, IsOutcomeInForm}
+use Rattle.plan_report.specs.Terms.{known_to, IsHeadInForm, IsOfPool, IsOutcomeInForm, Spot, Pool, Local, Outcome, Planned, Unsurvivable}
 use Rattle.cut_pool.specs.Terms.{cut_of_line, cuts_of, version_left}
 use Rattle.session_script.specs.declared.script.Act.{Act}
 use Rattle.session_script.specs.declared.script.Act.TheVariants.{Change, Plan}

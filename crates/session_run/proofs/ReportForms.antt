@@ -2,9 +2,7 @@
 use Rattle.std.proofs.Common.{◌≡◌, ℕ, ◌^◌, ◌<◌, ◌≤◌, ◌==◌, List, All, get_or, length, refl, sym, subst, arith, AllPairs, eq-eqb}
 use Rattle.net_core.proofs.Library.{∥∥₁_elim, props, All-filter}
 use Rattle.plan_terms.specs.Terms.{Entry, Notes, CutLine, AreDemands, IsCut, HasShortLengths}
-use Rattle.plan_types.specs.declared.report.Outcome.{Outcome}
-use Rattle.plan_types.specs.declared.report.Report.{Report}
-use Rattle.plan_report.specs.Terms.{known_of, known_to, IsReportInForm}
+use Rattle.plan_report.specs.Terms.{known_of, known_to, IsReportInForm, Outcome, Report}
 use Rattle.cut_pool.specs.declared.board.Board.{Board}
 use Rattle.cut_pool.specs.Terms.{opening_case, IsLegalHistory, IsPoolAfter, case_left}
 use Rattle.planner.proofs.Histories.{board_few}

@@ -2,8 +2,7 @@
 use Rattle.std.proofs.Common.{◌≡◌, ◌≢◌, ℕ, suc, ◌+◌, ◌==◌, true, false, cond, List, [], ◌∷◌, ◌++◌, All, flat_map, if◌then◌else◌, length, length-append, ⊎_elim, refl, sym, ap, subst, ◌∙◌, arith, Ok, count_by, eq-eqb, ne_eqb, append-nil}
 use Rattle.net_core.proofs.Library.{∥∥₁_elim, props, All-append, All-head, All-push, All-tail, All-weaker, filter-append, sum_by-append, cases_eq, nil_from_length, flat_map-append}
 use Rattle.plan_terms.specs.Terms.{Edit, Entry, Edited, Pooled, Reply, Case}
-use Rattle.plan_types.specs.declared.report.Outcome.{Outcome}
-use Rattle.plan_types.specs.declared.report.Outcome.TheVariants.{Planned, Unsurvivable}
+use Rattle.plan_report.specs.Terms.{Outcome, Planned, Unsurvivable}
 use Rattle.cut_pool.specs.Terms.{cuts_of}
 use Rattle.session_script.specs.declared.script.Act.{Act}
 use Rattle.session_script.specs.declared.script.Act.TheVariants.{Change, Plan}

@@ -2,11 +2,7 @@
 use Rattle.std.specs.Prelude.{◌≡◌, ℕ, ◌+◌, ◌≤◌, ◌==◌, List, [], ◌∷◌, All, AllPairs, Some, filter, flat_map, if◌then◌else◌, length, slice_get, take}
 use Rattle.plan_terms.specs.Terms.{Demand, Edit, Entry, Edited, Pooled, Reply, Notes, Case, IsFirstSeparation}
 use Rattle.plan_types.specs.Terms.{outcome_position}
-use Rattle.plan_types.specs.declared.plan.Plan.{Plan}
-use Rattle.plan_types.specs.declared.report.Outcome.{Outcome}
-use Rattle.plan_types.specs.declared.report.Outcome.TheVariants.{Planned, Unsurvivable}
-use Rattle.plan_types.specs.declared.report.Report.{Report}
-use Rattle.plan_report.specs.Terms.{known_to, IsReportInForm}
+use Rattle.plan_report.specs.Terms.{known_to, IsReportInForm, Plan, Outcome, Planned, Unsurvivable, Report}
 use Rattle.cut_pool.specs.declared.snapshot.Snapshot.{Snapshot}
 use Rattle.cut_pool.specs.Terms.{IsLegalHistory, IsPoolAfter, demands_left, version_left, case_left}
 use Rattle.session_script.specs.declared.script.Act.{Act}

@@ -1,7 +1,8 @@
 pub mod Balance
-pub mod Paths
-pub mod Spelling
-pub mod Reading
-pub mod NetworkFiles
 pub mod Kinds
+pub mod NetworkFiles
+pub mod Paths
+pub mod Reading
+pub mod Spelling
+pub mod Terms
 pub mod inner

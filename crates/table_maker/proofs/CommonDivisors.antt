@@ -5,8 +5,7 @@ use Rattle.std.proofs.lemmas.Nat.Gcd.{dvd_trans}
 use Rattle.std.specs.Int.{IsGcd, ◌∣◌}
 use Rattle.net_core.proofs.Library.{cases_eq, cases_lt}
 use Rattle.plan_terms.specs.Terms.{Link}
-use Rattle.line_check.specs.Terms.{module_number, Inequality}
-use Rattle.line_check.specs.Lines.{capped}
+use Rattle.line_check.specs.Terms.{module_number, Inequality, capped}
 
 -- what divides a positive number is positive
 pub divisor_positive : (n d : ℕ) → 0 < n → d ∣ n → 0 < d

@@ -3,8 +3,7 @@ use Rattle.std.proofs.Common.{◌≡◌, ℕ, ◌≤◌, List, get_or, refl, sym
 use Rattle.net_core.proofs.Library.{slice_get-get_or}
 use Rattle.plan_terms.specs.Terms.{Demand, Routing, Case, AreCounts, AreWithinLimits, capacities, total_cost}
 use Rattle.net_core.proofs.Lists.{all_at}
-use Rattle.plan_types.specs.declared.plan.Plan.{Plan}
-use Rattle.plan_report.specs.Terms.{IsRoutingInForm}
+use Rattle.plan_report.specs.Terms.{IsRoutingInForm, Plan}
 use Rattle.route_law.specs.Terms.{IsLowestRouting}
 use Rattle.able_counts.specs.AbleTests.{AreRoutingsWithin}
 use Rattle.trim_plan.specs.Trimmed.{IsRoutedPlan, IsTrimming}

@@ -3,8 +3,7 @@ use Rattle.std.specs.Prelude.{◌≡◌, ℕ, zero, suc, ◌+◌, ◌-◌, ◌^�
 use Rattle.std.specs.List.{AllZip}
 use Rattle.plan_terms.specs.Terms.{Case, capacities}
 use Rattle.plan_types.specs.Terms.{IsCarryingPlan, IsCostedPlan}
-use Rattle.plan_types.specs.declared.plan.Plan.{Plan}
-use Rattle.plan_report.specs.Terms.{IsPlanInForm, known_to}
+use Rattle.plan_report.specs.Terms.{IsPlanInForm, known_to, Plan}
 use Rattle.route_law.specs.Terms.{IsLowestRouting}
 use Rattle.able_counts.specs.AbleTests.{IsStopAt, whole_caps}
 use Rattle.trim_plan.specs.declared.dearest.Priced.{Priced}

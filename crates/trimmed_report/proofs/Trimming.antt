@@ -1,8 +1,7 @@
 -- the report of a trimmed plan
 use Rattle.std.proofs.Common.{List, sym, subst}
 use Rattle.plan_terms.specs.Terms.{Demand, Notes, Case}
-use Rattle.plan_types.specs.declared.plan.Plan.{Plan}
-use Rattle.plan_report.specs.Terms.{AreRoutingsInForm, known_to}
+use Rattle.plan_report.specs.Terms.{AreRoutingsInForm, known_to, Plan}
 use Rattle.session_run.specs.Transcripts.{IsTranscript}
 use Rattle.trim_plan.specs.Trimmed.{IsRoutedPlan, IsTrimming}
 use Rattle.trim_plan.specs.declared.trimming.Trimmed.{Trimmed}

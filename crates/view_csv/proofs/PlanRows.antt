@@ -3,8 +3,7 @@ use Rattle.std.proofs.Common.{◌≡◌, ℕ, ◌+◌, ◌≤◌, ◌<◌, List,
 use Rattle.net_core.proofs.Library.{take_more}
 use Rattle.csv_rows.specs.CommaSeparated.{csv_text}
 use Rattle.plan_terms.specs.Terms.{Case, StateId}
-use Rattle.plan_types.specs.declared.report.Outcome.{Outcome}
-use Rattle.plan_types.specs.declared.report.Outcome.TheVariants.{Unsurvivable}
+use Rattle.plan_report.specs.Terms.{Outcome, Unsurvivable}
 use Rattle.view_cells.specs.Terms.{AddsText}
 use Rattle.view_csv.specs.Columns.{sheet_columns}
 use Rattle.view_csv.specs.Sheets.{AddsRows, AreOutcomeRows, IsSheet, ShowsOutcome}

@@ -3,11 +3,8 @@ use Rattle.std.specs.Prelude.{◌≡◌, ℕ, zero, suc, ◌+◌, List, [], ◌�
 use Rattle.std.specs.Option.{option_map_or}
 use Rattle.csv_rows.specs.CommaSeparated.{csv_text}
 use Rattle.flow_rows.specs.Terms.{flow_row}
-use Rattle.plan_report.specs.Terms.{known_to}
+use Rattle.plan_report.specs.Terms.{known_to, Plan, Outcome, Planned, Unsurvivable}
 use Rattle.plan_terms.specs.Terms.{Case, Routing}
-use Rattle.plan_types.specs.declared.plan.Plan.{Plan}
-use Rattle.plan_types.specs.declared.report.Outcome.{Outcome}
-use Rattle.plan_types.specs.declared.report.Outcome.TheVariants.{Planned, Unsurvivable}
 use Rattle.plan_view.specs.Terms.{AreLinkRows, AreStateRows}
 use Rattle.plan_view.specs.declared.rows.LinkRow.{LinkRow}
 use Rattle.plan_view.specs.declared.rows.StateRow.{StateRow}

@@ -4,9 +4,7 @@ use Rattle.std.specs.Option.{option_map_or}
 use Rattle.flow_rows.specs.Terms.{flow_row}
 use Rattle.flow_rows.specs.declared.rows.FlowRow.{FlowRow}
 use Rattle.plan_terms.specs.Terms.{Case, Routing, capacities}
-use Rattle.plan_types.specs.declared.plan.Plan.{Plan}
-use Rattle.plan_types.specs.declared.report.Outcome.{Outcome}
-use Rattle.plan_types.specs.declared.report.Outcome.TheVariants.{Planned, Unsurvivable}
+use Rattle.plan_report.specs.Terms.{Plan, Outcome, Planned, Unsurvivable}
 use Rattle.plan_view.specs.Terms.{AreLoadRows, routing_in}
 use Rattle.plan_view.specs.declared.rows.LoadRow.{LoadRow}
 use Rattle.view_cells.specs.Terms.{HasRows}

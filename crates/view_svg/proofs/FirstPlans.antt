@@ -2,9 +2,7 @@
 use Rattle.std.proofs.Common.{◌≡◌, suc, List, [], ◌∷◌, Option, Some, ap, arith, length, subst, All}
 use Rattle.std.specs.Option.{option_map_or}
 use Rattle.plan_terms.specs.Terms.{AreDemands, Case}
-use Rattle.plan_types.specs.declared.plan.Plan.{Plan}
-use Rattle.plan_types.specs.declared.report.Outcome.{Outcome}
-use Rattle.plan_types.specs.declared.report.Outcome.TheVariants.{Planned, Unsurvivable}
+use Rattle.plan_report.specs.Terms.{Plan, Outcome, Planned, Unsurvivable}
 use Rattle.plan_view.specs.Terms.{IsSoundPlan}
 use Rattle.view_text.specs.Terms.{HasSoundPlan, case_of_plan}
 use Rattle.view_svg.specs.ReportPictures.{first_plan}

@@ -4,8 +4,7 @@ use Rattle.std.specs.List.{list_any}
 use Rattle.std.specs.Option.{option_map_or}
 use Rattle.plan_terms.specs.Terms.{Case, Link, LinkId}
 use Rattle.text_kit.specs.Terms.{money_word}
-use Rattle.plan_report.specs.Terms.{KnownNames, known_to, state_name}
-use Rattle.plan_types.specs.declared.plan.Plan.{Plan}
+use Rattle.plan_report.specs.Terms.{KnownNames, known_to, state_name, Plan}
 use Rattle.plan_view.specs.Terms.{AreLinkRows, den_in, failed_links, routing_in}
 use Rattle.plan_view.specs.declared.rows.LinkRow.{LinkRow}
 use Rattle.view_cells.specs.Terms.{joined_words, kinds_words}

@@ -1,9 +1,7 @@
 -- the picture of a report
 use Rattle.std.specs.Prelude.{◌≡◌, ℕ, List, [], ◌∷◌, ◌++◌, Option, None, Some, MatchOption, codes}
 use Rattle.plan_terms.specs.Terms.{Case}
-use Rattle.plan_types.specs.declared.plan.Plan.{Plan}
-use Rattle.plan_types.specs.declared.report.Outcome.{Outcome}
-use Rattle.plan_types.specs.declared.report.Outcome.TheVariants.{Planned, Unsurvivable}
+use Rattle.plan_report.specs.Terms.{Plan, Outcome, Planned, Unsurvivable}
 use Rattle.view_text.specs.Terms.{case_of_plan}
 use Rattle.view_svg.specs.Pictures.{IsPicture}
 

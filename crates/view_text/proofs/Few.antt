@@ -1,10 +1,8 @@
 -- how many cells rows have
 use Rattle.std.proofs.Common.{ℕ, ◌≤◌, List, [], ◌∷◌, Option, None, Some, All, arith, length, map, slice_get}
 use Rattle.net_core.proofs.Library.{AllByRecursion, All-from_recursion, option_map_or}
-use Rattle.plan_report.specs.Terms.{KnownNames}
+use Rattle.plan_report.specs.Terms.{KnownNames, Outcome, Planned, Unsurvivable}
 use Rattle.plan_terms.specs.Terms.{Link, Places}
-use Rattle.plan_types.specs.declared.report.Outcome.{Outcome}
-use Rattle.plan_types.specs.declared.report.Outcome.TheVariants.{Planned, Unsurvivable}
 use Rattle.plan_view.specs.declared.rows.LinkRow.{LinkRow}
 use Rattle.plan_view.specs.declared.rows.StateRow.{StateRow}
 use Rattle.view_text.specs.LinkCells.{cells_of_link, link_cells, link_heads}

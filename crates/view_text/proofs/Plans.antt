@@ -1,9 +1,7 @@
 -- views of plans, part after part
 use Rattle.std.proofs.Common.{◌≡◌, ℕ, List, [], ◌∷◌, ◌++◌, append_assoc, codes, map, refl}
-use Rattle.plan_report.specs.Terms.{KnownNames, known_to}
+use Rattle.plan_report.specs.Terms.{KnownNames, known_to, Plan, Quality}
 use Rattle.plan_terms.specs.Terms.{Case}
-use Rattle.plan_types.specs.declared.plan.Plan.{Plan}
-use Rattle.plan_types.specs.declared.quality.Quality.{Quality}
 use Rattle.plan_view.specs.declared.rows.LinkRow.{LinkRow}
 use Rattle.plan_view.specs.declared.rows.PlanSummary.{PlanSummary}
 use Rattle.plan_view.specs.declared.rows.StateRow.{StateRow}

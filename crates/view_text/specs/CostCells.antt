@@ -1,9 +1,7 @@
 -- the cells of a plan's cost, its bound and its fractional value
 use Rattle.std.specs.Prelude.{ℕ, List, [], ◌∷◌, ◌++◌, cond, codes, max, nat_eq}
 use Rattle.plan_terms.specs.Terms.{Places}
-use Rattle.plan_types.specs.declared.quality.Cause.TheVariants.{Cuts, Wide}
-use Rattle.plan_types.specs.declared.quality.Quality.{Quality}
-use Rattle.plan_types.specs.declared.quality.Quality.TheVariants.{Tight, Loose}
+use Rattle.plan_report.specs.Terms.{Cuts, Wide, Quality, Tight, Loose}
 use Rattle.plan_view.specs.declared.rows.PlanSummary.{PlanSummary}
 use Rattle.text_kit.specs.Terms.{money_word}
 use Rattle.view_cells.specs.Terms.{counted, tenths_per_cent}

@@ -2,8 +2,7 @@
 use Rattle.std.specs.Prelude.{ℕ, List, [], ◌∷◌, ◌++◌, ◌&&◌, Bool, true, false, cond, codes, length, nat_eq, nat_lt}
 use Rattle.std.specs.List.{list_all}
 use Rattle.plan_terms.specs.Terms.{Case, Demand, Places, total_need}
-use Rattle.plan_types.specs.declared.report.Outcome.{Outcome}
-use Rattle.plan_types.specs.declared.report.Outcome.TheVariants.{Planned, Unsurvivable}
+use Rattle.plan_report.specs.Terms.{Outcome, Planned, Unsurvivable}
 use Rattle.text_kit.specs.Terms.{money_word}
 use Rattle.view_cells.specs.Terms.{counted}
 

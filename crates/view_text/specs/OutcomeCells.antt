@@ -1,9 +1,7 @@
 -- lines and cells of outcomes
 use Rattle.std.specs.Prelude.{ℕ, List, [], ◌∷◌, ◌++◌, codes, cond, decimal, map, nat_eq}
 use Rattle.plan_terms.specs.Terms.{Listed, Places}
-use Rattle.plan_report.specs.Terms.{state_name}
-use Rattle.plan_types.specs.declared.report.Outcome.{Outcome}
-use Rattle.plan_types.specs.declared.report.Outcome.TheVariants.{Planned, Unsurvivable}
+use Rattle.plan_report.specs.Terms.{state_name, Outcome, Planned, Unsurvivable}
 use Rattle.text_kit.specs.Terms.{money_word}
 use Rattle.view_cells.specs.Terms.{HasRows}
 

@@ -1,9 +1,7 @@
 -- what people read of a plan: the tables of its rows
 use Rattle.std.specs.Prelude.{◌≡◌, ℕ, ◌+◌, List, [], ◌∷◌, ◌++◌, codes, decimal, length, map}
 use Rattle.plan_terms.specs.Terms.{Case, Places}
-use Rattle.plan_report.specs.Terms.{KnownNames, known_to}
-use Rattle.plan_types.specs.declared.plan.Plan.{Plan}
-use Rattle.plan_types.specs.declared.quality.Quality.{Quality}
+use Rattle.plan_report.specs.Terms.{KnownNames, known_to, Plan, Quality}
 use Rattle.plan_view.specs.Terms.{AreLinkRows, AreStateRows, IsPlanSummary}
 use Rattle.plan_view.specs.declared.rows.LinkRow.{LinkRow}
 use Rattle.plan_view.specs.declared.rows.PlanSummary.{PlanSummary}

@@ -1,8 +1,7 @@
 -- what people read of the outcomes of a report
 use Rattle.std.specs.Prelude.{◌≡◌, ℕ, List, [], ◌∷◌, ◌++◌, codes, length}
 use Rattle.plan_terms.specs.Terms.{AreDemands, Case, Problem, case}
-use Rattle.plan_types.specs.declared.report.Outcome.{Outcome}
-use Rattle.plan_types.specs.declared.report.Outcome.TheVariants.{Planned, Unsurvivable}
+use Rattle.plan_report.specs.Terms.{Outcome, Planned, Unsurvivable}
 use Rattle.plan_view.specs.Terms.{IsSoundPlan}
 use Rattle.view_text.specs.CostProofs.{HoldsProof}
 use Rattle.view_text.specs.Headings.{heading_text}

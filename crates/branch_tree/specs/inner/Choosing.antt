@@ -1,15 +1,11 @@
 -- where an open box may be split
 use Rattle.std.specs.Prelude.{◌≡◌, ℕ, ◌*◌, ◌^◌, ◌≤◌, ◌<◌, ◌⊎◌, List, Some, slice_get}
 use Rattle.plan_terms.specs.Terms.{Link}
-use Rattle.tree_check.specs.Boxes.{IsFixedBox, IsFixedSpan, IsSplitOf, span_at}
-use Rattle.tree_check.specs.BoxValues.{module_costs}
+use Rattle.tree_check.specs.Terms.{IsFixedBox, IsFixedSpan, IsSplitOf, span_at, module_costs, TreeBox}
 use Rattle.line_check.specs.Inequalities.{entry}
-use Rattle.tree_check.specs.Trees.{TreeBox}
-use Rattle.tree_check.specs.declared.boxes.Span.{Span}
+use Rattle.box_search.specs.Terms.{Span, HasFreeValue, IsSearchBox}
 use Rattle.trim_plan.specs.declared.lowered.Place.{Place}
-use Rattle.box_search.specs.Causes.{HasFreeValue}
 use Rattle.branch_tree.specs.declared.choice.Choice.{Choice}
-use Rattle.box_search.specs.Finds.{IsSearchBox}
 
 -- a box that can be split: it has several choices of counts, and the certificate of no lines doesn't close it
 pub record IsSplittable (links : List Link) (cost : ℕ) (box : TreeBox) : Type 0 where

@@ -3,11 +3,9 @@ use Rattle.std.specs.Prelude.{◌≡◌, ℕ, ◌+◌, ◌*◌, ◌^◌, ◌≤�
 use Rattle.plan_terms.specs.Terms.{Case, CutLine, Link}
 use Rattle.plan_types.specs.declared.plan.Plan.{Plan}
 use Rattle.line_check.specs.Terms.{entry, Tested}
-use Rattle.tree_check.specs.Terms.{IsSplitOf, lower_side, upper_side, whole_box, TreeBox}
-use Rattle.tree_check.specs.BoxValues.{module_costs}
-use Rattle.tree_check.specs.declared.proof.Node.TheVariants.{Split}
+use Rattle.tree_check.specs.Terms.{IsSplitOf, lower_side, upper_side, whole_box, TreeBox, module_costs}
+use Rattle.box_search.specs.Terms.{Split, AreCheaperCounts, IsFoundAt, IsTwigOf}
 use Rattle.branch_tree.specs.inner.Places.{AreSettled, AreTwigsOf, twig_splits}
-use Rattle.box_search.specs.Finds.{AreCheaperCounts, IsFoundAt, IsTwigOf}
 use Rattle.box_search.specs.declared.found.Cheaper.{Cheaper}
 use Rattle.box_search.specs.declared.found.Found.TheVariants as found
 use Rattle.branch_tree.specs.declared.choice.Choice.{Choice}

@@ -2,9 +2,7 @@
 use Rattle.std.specs.Prelude.{◌≡◌, ℕ, ◌≤◌, ◌<◌, ◌^◌, List, [], ◌∷◌, All, length}
 use Rattle.plan_terms.specs.Terms.{Link}
 use Rattle.master_bound.specs.declared.answer.Multiplier.{Multiplier}
-use Rattle.line_check.specs.Terms.{module_number, module_price, need_of, summed_need, Inequality, Tested}
-use Rattle.line_check.specs.Lines.{divided_up}
-use Rattle.line_check.specs.Testing.{IsSoundAt, weighed}
+use Rattle.line_check.specs.Terms.{module_number, module_price, need_of, summed_need, Inequality, Tested, divided_up, IsSoundAt, weighed}
 use Rattle.line_maker.specs.declared.numbers.Lowest.{Lowest}
 use Rattle.line_maker.specs.declared.pairs.Pair.{Pair}
 use Rattle.line_maker.specs.declared.candidate.Candidate.{Candidate}

@@ -1,10 +1,7 @@
 -- the parts that a plan of a snapshot is put together of: the greater bound, and the counts that are chosen
 use Rattle.std.specs.Prelude.{◌≡◌, ℕ, ◌*◌, ◌^◌, ◌<◌, ◌≤◌, ◌⊎◌, List, Option, None, Some, All, get_or, length, map}
 use Rattle.plan_terms.specs.Terms.{Demand, Link, Case, IsBound}
-use Rattle.plan_types.specs.declared.certificate.CertLine.{CertLine}
-use Rattle.plan_types.specs.declared.certificate.Spot.TheVariants.{Local}
-use Rattle.plan_types.specs.declared.plan.Plan.{Plan}
-use Rattle.plan_types.specs.declared.quality.Quality.{Quality}
+use Rattle.plan_report.specs.Terms.{CertLine, Local, Plan, Quality}
 use Rattle.module_choice.specs.declared.fallback.Fallback.{Fallback}
 use Rattle.master_bound.specs.Answers.{cut_at}
 use Rattle.master_bound.specs.declared.answer.Best.{Best}

@@ -1,8 +1,7 @@
 -- outcomes that are checked along a walk through the journal
 use Rattle.std.specs.Prelude.{◌≡◌, ℕ, ◌<◌, ◌≤◌, Option, None, Some, length, min, slice_get}
 use Rattle.plan_terms.specs.Terms.{Case}
-use Rattle.plan_types.specs.declared.report.Outcome.{Outcome}
-use Rattle.plan_types.specs.declared.report.Report.{Report}
+use Rattle.plan_report.specs.Terms.{Outcome, Report}
 use Rattle.plan_checker.specs.Terms.{HoldNone, IsFirstFinding, HoldsAt}
 use Rattle.plan_checker.specs.declared.finding.Finding.{Finding}
 use Rattle.report_checker.specs.Outcomes.{IsAcceptedOutcome, outcome_findings}

@@ -2,9 +2,7 @@
 use Rattle.std.specs.Prelude.{◌≡◌, ℕ, Bool, List, [], ◌∷◌, length, nat_le}
 use Rattle.plan_terms.specs.Terms.{Case, Separates}
 use Rattle.plan_types.specs.Terms.{outcome_position}
-use Rattle.plan_types.specs.declared.report.Outcome.{Outcome}
-use Rattle.plan_types.specs.declared.report.Outcome.TheVariants.{Planned, Unsurvivable}
-use Rattle.plan_types.specs.declared.report.Report.{Report}
+use Rattle.plan_report.specs.Terms.{Outcome, Planned, Unsurvivable, Report}
 use Rattle.plan_checker.specs.Terms.{Kind, IsAcceptedPlan, plan_findings}
 use Rattle.report_checker.specs.Outcomes.{HoldsSurvivable, HoldsVersionDiffers, SeparatesNamed, case_at}
 

@@ -1,7 +1,6 @@
 -- what the types of a session's values say of them
 use Rattle.std.specs.Prelude.{◌≤◌, ◌<◌, ◌^◌, length}
-use Rattle.plan_types.specs.declared.report.Outcome.{Outcome}
-use Rattle.plan_types.specs.declared.report.Outcome.TheVariants.{Planned, Unsurvivable}
+use Rattle.plan_report.specs.Terms.{Outcome, Planned, Unsurvivable}
 
 -- the demand that an outcome names has at most 255 bytes in its name
 abbrev pub IsShortNamed : Outcome → Type 0

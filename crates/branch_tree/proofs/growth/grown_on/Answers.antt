@@ -3,8 +3,7 @@ use Rattle.plan_terms.specs.Terms.{CutLine}
 use Rattle.branch_tree.specs.declared.growth.Turn.{Turn}
 use Rattle.tree_check.specs.Trees.{TreeBox}
 use Rattle.branch_tree.specs.inner.Growing.{IsGrowing, IsTurnTo}
-use Rattle.box_search.specs.Finds.{IsSearchBox}
-use Rattle.box_search.specs.Searches.{aimed, handed_in}
+use Rattle.box_search.specs.Terms.{IsSearchBox, aimed, handed_in}
 use Rattle.box_search.proofs.Extending.{aim_on, handed_same, learned_on, most_more}
 use Rattle.branch_tree.proofs.Sides.{whole_searched}
 use Rattle.branch_tree.proofs.growth.grown_on.Goals as goal

@@ -3,9 +3,8 @@ use Rattle.tree_check.specs.Terms.{IsFixedBox, TreeBox}
 use Rattle.box_search.specs.declared.found.Found.{Found}
 use Rattle.box_search.specs.declared.found.Found.TheVariants as found
 use Rattle.box_search.specs.declared.twigs.Twig.{Twig}
-use Rattle.box_search.specs.Finds.{IsFoundAt, IsSearchBox}
+use Rattle.box_search.specs.Terms.{IsFoundAt, IsSearchBox, aimed, handed_in}
 use Rattle.branch_tree.specs.inner.Growing.{IsGrowing}
-use Rattle.box_search.specs.Searches.{aimed, handed_in}
 use Rattle.branch_tree.proofs.Staying.{growing_on}
 use Rattle.branch_tree.proofs.Turning.{open_known, read_open, twig_growing}
 use Rattle.branch_tree.proofs.growth.look_again.Goals as goal

@@ -2,8 +2,7 @@ use Rattle.std.proofs.Common.{◌+◌, subst, sym}
 use Rattle.tree_check.specs.Trees.{TreeBox}
 use Rattle.box_search.specs.declared.found.Found.{Found}
 use Rattle.box_search.specs.declared.found.Found.TheVariants as found
-use Rattle.box_search.specs.Finds.{IsFoundAt, IsSearchBox}
-use Rattle.box_search.specs.Searches.{aimed, handed_in}
+use Rattle.box_search.specs.Terms.{IsFoundAt, IsSearchBox, aimed, handed_in}
 use Rattle.box_search.proofs.Extending.{aim_on, learned_on}
 use Rattle.branch_tree.proofs.Sides.{lower_searched, sides_found, upper_searched}
 use Rattle.branch_tree.proofs.growth.look_sides.Goals as goal

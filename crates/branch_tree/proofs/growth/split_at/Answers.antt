@@ -1,12 +1,11 @@
 use Rattle.std.proofs.Common.{◌+◌, ◌^◌, List, insert, set, subst, sym, arith}
 use Rattle.net_core.proofs.Library.{slice_get_within}
-use Rattle.tree_check.specs.declared.proof.Node.{Node}
+use Rattle.box_search.specs.Terms.{Node, aimed, handed_in}
 use Rattle.branch_tree.specs.declared.growth.Sides.{Sides}
 use Rattle.branch_tree.specs.declared.growth.Sides.TheVariants as sides
 use Rattle.box_search.specs.declared.twigs.Twig.{Twig}
 use Rattle.box_search.specs.declared.twigs.Twig.TheVariants as twig
 use Rattle.branch_tree.specs.inner.Growing.{AreSidesOf, IsGrowing}
-use Rattle.box_search.specs.Searches.{aimed, handed_in}
 use Rattle.branch_tree.proofs.Staying.{growing_on}
 use Rattle.box_search.proofs.Extending.{low_box}
 use Rattle.branch_tree.proofs.Sides.{split_link_small, split_module_small}

@@ -1,7 +1,5 @@
 use Rattle.std.proofs.Common.{List, codes, subst, ◌∙◌, ℕ}
-use Rattle.model_reader.specs.Failures.{SpellsFailures}
-use Rattle.model_reader.specs.FailuresReading.{failures_of}
-use Rattle.model_reader.specs.FaultWords.{failures_word}
+use Rattle.model_reader.specs.Terms.{SpellsFailures, failures_of, failures_word}
 use Rattle.plan_terms.specs.Terms.{Link, States}
 use Rattle.check_answers.specs.declared.status.Status.TheVariants.{BadFailures}
 use Rattle.fault_messages.specs.FailuresMessages.{failures_message}

@@ -1,7 +1,5 @@
 use Rattle.std.proofs.Common.{codes}
-use Rattle.model_reader.specs.FaultWords.{model_word}
-use Rattle.model_reader.specs.ModelReading.{model_of}
-use Rattle.model_reader.specs.Models.{SpellsModel}
+use Rattle.model_reader.specs.Terms.{model_word, model_of, SpellsModel}
 use Rattle.model_reader.specs.declared.model.Model.{Model}
 use Rattle.check_answers.specs.declared.status.Status.TheVariants.{BadModel}
 use Rattle.input_files.proofs.Refusing.{reading_refused}

@@ -1,6 +1,5 @@
 use Rattle.std.proofs.Common.{codes}
-use Rattle.plan_report.specs.Terms.{known_of, SpellsReport}
-use Rattle.plan_types.specs.declared.report.Report.{Report}
+use Rattle.plan_report.specs.Terms.{known_of, SpellsReport, Report}
 use Rattle.report_reader.specs.ReadingReport.{report_of}
 use Rattle.report_words.specs.Terms.{report_kind_word}
 use Rattle.check_answers.specs.declared.status.Status.TheVariants.{BadReport}

@@ -1,7 +1,6 @@
 use Rattle.std.proofs.Common.{◌≡◌, ◌∙◌, [], ◌∷◌, Some, ap, arith, length, slice_get, subst, sym}
 use Rattle.plan_terms.specs.Terms.{Notes, Case}
-use Rattle.plan_types.specs.declared.report.Outcome.{Outcome}
-use Rattle.plan_types.specs.declared.report.Report.{Report}
+use Rattle.plan_report.specs.Terms.{Outcome, Report}
 use Rattle.session_run.specs.Transcripts.{IsTranscript}
 use Rattle.lone_plan.specs.LonePlans.{plan_commands}
 use Rattle.lone_plan.proofs.Alone.{has_one, planned, refused}

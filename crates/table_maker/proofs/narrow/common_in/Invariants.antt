@@ -1,7 +1,6 @@
 use Rattle.std.proofs.Common.{ℕ, ◌<◌}
 use Rattle.std.specs.Int.{◌∣◌}
-use Rattle.line_check.specs.Inequalities.{module_number, need_of}
-use Rattle.line_check.specs.Lines.{capped}
+use Rattle.line_check.specs.Terms.{module_number, need_of, capped}
 use Rattle.table_maker.proofs.narrow.common_in.Given as goal
 
 -- the number so far divides what is needed, and what the modules of the links so far give

@@ -1,6 +1,5 @@
 use Rattle.std.proofs.Common.{ℕ, ◌<◌}
-use Rattle.tree_check.specs.Proofs.{EmptiesBox}
-use Rattle.tree_check.specs.Testing.{names_in}
+use Rattle.tree_check.specs.Terms.{EmptiesBox, names_in}
 use Rattle.box_search.proofs.known.Known.emptied_by.Given as goal
 
 -- no earlier cut empties the box

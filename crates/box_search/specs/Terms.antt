@@ -1,0 +1,10 @@
+-- The words of this crate, with the types of boxes and proofs, passed on from one place to other crates. Declares nothing.
+pub use Rattle.box_search.specs.Causes.{HasFreeValue, HasPlanValue, IsUnsettled, lines_of_plan}
+pub use Rattle.box_search.specs.Finds.{AreCheaperCounts, AreLow, HaveCounts, IsFoundAt, IsLeafTwig, IsOpenBox, IsSearchBox, IsSettledNode, IsTwigOf, is_split, node_of}
+pub use Rattle.box_search.specs.Searches.{Extends, HasLearned, IsAim, IsKnown, IsOwnCert, IsSearch, IsSoundEntry, aimed, handed_in, most_entries}
+pub use Rattle.tree_check.specs.declared.boxes.Span.{Span}
+pub use Rattle.tree_check.specs.declared.proof.BoxCert.{BoxCert}
+pub use Rattle.tree_check.specs.declared.proof.Node.{Node}
+pub use Rattle.tree_check.specs.declared.proof.Node.TheVariants.{Closed, Empty, Spent, Split, Stuck}
+pub use Rattle.tree_check.specs.declared.proof.Proof.{Proof}
+pub use Rattle.tree_check.specs.declared.proof.Verdict.{Verdict}
