@@ -1,10 +1,13 @@
 -- the rows of all roles as the ratio test compares them, and the pick that it makes
-use Rattle.std.proofs.Common.{◌≡◌, ℕ, ◌<◌, ◌≤◌, ◌+◌, ◌-◌, Bool, true, false, refl, sym, ap, arith, cond, ℤ, pos, ◌*ℤ◌, ◌<ℤ◌}
-use Rattle.simplex_law.specs.Terms.{dot, unit_vector, ColumnOf}
+use Rattle.std.proofs.Common.{◌≡◌, ◌≢◌, ℕ, ◌<◌, ◌≤◌, ◌+◌, ◌-◌, Bool, true, false, refl, sym, ap, arith, cond, ltb, ⊎_elim, subst, lt-ltb, le-ltb, ℤ, pos, ◌*ℤ◌, ◌<ℤ◌}
+use Rattle.net_core.proofs.Library.{cases_lt, ints}
+use Rattle.simplex_law.specs.Terms.{dot, unit_vector, ColumnOf, IsNoLater}
 use Rattle.key_law.specs.Keys.{key_part, left_column}
-use Rattle.key_law.specs.KeyRows.{full_kept, full_key, key_nums, key_dot}
+use Rattle.key_law.specs.KeyRows.{full_kept, full_key, cost, key_nums, key_dot}
 use Rattle.key_law.specs.Kept.{IsKept}
-use Rattle.key_law.specs.Ties.{IsRoleRow}
+use Rattle.key_law.specs.Ties.{ComesFirst, IsRoleRow}
+use Rattle.key_law.specs.Turns.{IsKeyPick}
+use Rattle.key_law.proofs.Firsts.{comes_first}
 use Rattle.key_law.proofs.Kept.{row_product, key_row_product}
 use Rattle.key_law.proofs.Spread.{is_spread}
 
@@ -26,6 +29,13 @@ module _ {N : Type 0} {links demands : ℕ} {bound : ℕ → ℤ} {basis : ℕ �
 
   abbrev step_of : Bool → ℕ → (ℕ → ℤ) → ℤ
   step_of t r a = cond t (dot links (kept r) (left_column links demands basis place a)) (key_dot links demands basis place kept (weight (r - links)) (all (r - links)) (r - links) a)
+
+  -- the products of all roles' rows
+  pub role_product : (r : ℕ) (a : ℕ → ℤ) → r < links + demands → dot (links + demands) (row_of (ltb r links) r) a ≡ step_of (ltb r links) r a
+  role_product r a l = ⊎_elim
+      (λ lt. subst (λ t. dot (links + demands) (row_of t r) a ≡ step_of t r a) (sym (lt-ltb r links lt)) (row_product h r a))
+      (λ ge. subst (λ t. dot (links + demands) (row_of t r) a ≡ step_of t r a) (sym (le-ltb r links ge)) (key_row_product h (weight (r - links)) (all (r - links)) (r - links) (omega (arith, ge, l)) a))
+      (cases_lt r links)
 
   module _ (a : ℕ → ℤ) (r : ℕ) (nums : ℕ → ℤ) (lowest factor times : ℤ) (pf : pos 0 <ℤ factor) (pt : pos 0 <ℤ times) where
     -- a positive product, and numbers in the ratio of the link entries and it
@@ -73,3 +83,38 @@ module _ {N : Type 0} {links demands : ℕ} {bound : ℕ → ℤ} {basis : ℕ �
           numbers = f.1;
           pivot = f.2;
         }
+
+    -- a role's row as the ratio test has it
+    pub role_candidate : r < links + demands → Facts (ltb r links) → Goal (ltb r links)
+    role_candidate l f = ⊎_elim
+        (λ lt. subst Goal (sym (lt-ltb r links lt)) (of_block lt (subst Facts (lt-ltb r links lt) f)))
+        (λ ge. subst Goal (sym (le-ltb r links ge)) (of_key ge l (subst Facts (le-ltb r links ge) f)))
+        (cases_lt r links)
+
+  -- the role that comes before all others whose product is positive leaves
+  pub first_role : (c : ColumnOf N) (r : ℕ) → r < links + demands → cost links demands basis place prices prices_den c <ℤ pos 0 → pos 0 <ℤ step_of (ltb r links) r c.entry
+      → ((i : ℕ) → i < links + demands → i ≢ r → pos 0 <ℤ step_of (ltb i links) i c.entry
+      → IsNoLater (links + demands) bound (row_of (ltb r links) r) (step_of (ltb r links) r c.entry) (row_of (ltb i links) i) (step_of (ltb i links) i c.entry))
+      → IsKeyPick links demands bound basis place kept den prices prices_den (λ d. key_nums links demands basis place kept (weight d) d) all c r
+  first_role c r l gains some ratio = record {
+    inside = l;
+    positive = subst (λ x. pos 0 <ℤ x) (sym (role_product r c.entry l)) some;
+    gains = gains;
+    ratio = λ i li ne more.
+        subst (λ x. IsNoLater (links + demands) bound (row_of (ltb r links) r) x (row_of (ltb i links) i) (dot (links + demands) (row_of (ltb i links) i) c.entry)) (sym (role_product r c.entry l))
+        (subst (λ x. IsNoLater (links + demands) bound (row_of (ltb r links) r) (step_of (ltb r links) r c.entry) (row_of (ltb i links) i) x) (sym (role_product i c.entry li))
+        (ratio i li ne (subst (λ x. pos 0 <ℤ x) (role_product i c.entry li) more)));
+  }
+
+  -- it may be found by values, link entries and roles
+  pub picked_role : (c : ColumnOf N) (r : ℕ) → r < links + demands → cost links demands basis place prices prices_den c <ℤ pos 0 → pos 0 <ℤ step_of (ltb r links) r c.entry
+      → ((i : ℕ) → i < links + demands → i ≢ r → pos 0 <ℤ step_of (ltb i links) i c.entry
+      → ComesFirst links (step_of (ltb r links) r bound) (step_of (ltb r links) r c.entry) (step_of (ltb i links) i bound) (step_of (ltb i links) i c.entry)
+      (links_of (ltb r links) r) (step_of (ltb r links) r c.entry) (links_of (ltb i links) i) (step_of (ltb i links) i c.entry) r i)
+      → IsKeyPick links demands bound basis place kept den prices prices_den (λ d. key_nums links demands basis place kept (weight d) d) all c r
+  picked_role c r l gains some first = first_role c r l gains some (λ i li ne more. comes_first (same r l some) (same i li more) (first i li ne more))
+    where
+      same : (i : ℕ) → i < links + demands → pos 0 <ℤ step_of (ltb i links) i c.entry
+          → IsRoleRow links demands (key_part links demands basis place) bound c.entry i (step_of (ltb i links) i bound) (step_of (ltb i links) i c.entry)
+          (links_of (ltb i links) i) (step_of (ltb i links) i c.entry) (target_of (ltb i links) i) (links_of (ltb i links) i) (den_of (ltb i links) i) (row_of (ltb i links) i)
+      same i li more = role_candidate c.entry i (links_of (ltb i links) i) (step_of (ltb i links) i c.entry) (pos 1) (pos 1) (omega (arith, ints)) (omega (arith, ints)) li (more, λ k lk. refl, refl)

@@ -1,10 +1,12 @@
 -- what a new key changes of products and values
 use Rattle.std.proofs.Common.{◌≡◌, ◌≢◌, ℕ, ◌<◌, ◌+◌, refl, sym, ap, ◌∙◌, arith, ℤ, pos, ◌-ℤ◌, ◌*ℤ◌}
-use Rattle.net_core.proofs.Library.{*ℤ-zero, ints}
+use Rattle.net_core.proofs.Library.{*ℤ-zero, *ℤ_comm, ints}
 use Rattle.simplex_law.specs.Terms.{int_sum, dot, unit_vector, ColumnOf}
-use Rattle.simplex_law.proofs.Lemmas.{minus_left, moved_out, sum-same, sum-minus, sum-times, sum-one, dot-same, unit-other}
+use Rattle.simplex_law.proofs.Lemmas.{minus_left, moved_out, sum-same, sum-minus, sum-times, sum-one, dot-same, unit-other, unit-same}
 use Rattle.key_law.specs.Keys.{difference, key_part, left_column}
+use Rattle.key_law.specs.KeyRows.{key_nums, key_dot, HaveWeights}
 use Rattle.key_law.specs.Kept.{IsKept}
+use Rattle.key_law.proofs.Kept.{key_at_block, key_nums_product}
 use Rattle.key_law.proofs.Owned.{owned_difference}
 
 module _ (links demands : ℕ) (keys others : ℕ → ℕ → ℤ) (d : ℕ) (ld : d < demands) (same : (e k : ℕ) → e < demands → e ≢ d → others e k ≡ keys e k) where
@@ -52,3 +54,20 @@ module _ {N : Type 0} {links demands : ℕ} {bound : ℕ → ℤ} {basis : ℕ �
     where
       nothing : (b : ℤ) {x z : ℤ} → z ≡ pos 0 → x -ℤ (b *ℤ z) ≡ x
       nothing b {x} {z} e = ap (λ y. x -ℤ (b *ℤ y)) e ∙ (ap (λ y. x -ℤ y) (*ℤ-zero b) ∙ omega (arith, ints))
+
+  -- and the old key's row has the products and the value that it had as a key's
+  pub exchange_key_product : (weight : ℕ → ℤ) (all : ℤ) (a : ℕ → ℤ) → HaveWeights links demands basis place den weight d all
+      → dot links (key_nums links demands basis place kept weight d) (difference links demands others a) ≡ key_dot links demands basis place kept weight all d a
+  exchange_key_product weight all a weights =
+      key_turn_product links demands (key_part links demands basis place) others d ld same (key_nums links demands basis place kept weight d) a ((basis (place i)).entry) owned (λ k l. is k)
+      ∙ together (a (links + d)) _ _ _ (key_nums_product links demands basis place role h.roles h.keys kept den weight all (λ j lj k lk. h.rows j k lj lk) d (left_column links demands basis place a))
+      (key_at_block links demands basis place role h.roles h.keys kept den weight all (λ j lj k lk. h.rows j k lj lk) d i weights li
+      ∙ (ap (λ x. pos 0 -ℤ (x *ℤ all)) (owned d ld ∙ unit-same d) ∙ once))
+    where
+      once : pos 0 -ℤ (pos 1 *ℤ all) ≡ pos 0 -ℤ all
+      once = omega (arith, ints)
+
+      together : (b x y s : ℤ) → x ≡ pos 0 -ℤ s → y ≡ pos 0 -ℤ all → x -ℤ (b *ℤ y) ≡ (all *ℤ b) -ℤ s
+      together b x y s e f =
+          let g : b *ℤ y ≡ (b *ℤ pos 0) -ℤ (b *ℤ all) = ap (λ z. b *ℤ z) f ∙ minus_left (pos 0) all b in
+          omega (arith, ints, e, g, *ℤ-zero b, *ℤ_comm all b)

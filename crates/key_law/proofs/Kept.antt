@@ -156,6 +156,9 @@ module _ {N : Type 0} (links demands : ℕ) (basis : ℕ → ColumnOf N) (place 
 
 -- a demand with no column in the block: any weights and any denominator do, and its key's row takes nothing from the block's
 module _ {N : Type 0} (links demands : ℕ) (basis : ℕ → ColumnOf N) (place : ℕ → ℕ) (weight : ℕ → ℤ) (all : ℤ) (d : ℕ) (alone : (j : ℕ) → j < links → (basis (place j)).entry (links + d) ≡ pos 0) where
+  pub alone_weights : (den : ℕ → ℤ) → HaveWeights links demands basis place den weight d all
+  alone_weights den i l = ap (λ x. x *ℤ (weight i *ℤ den i)) (alone i l) ∙ (zero-*ℤ (weight i *ℤ den i) ∙ sym (ap (λ x. x *ℤ all) (alone i l) ∙ zero-*ℤ all))
+
   pub alone_key_dot : (kept : ℕ → ℕ → ℤ) (a : ℕ → ℤ) → key_dot links demands basis place kept weight all d a ≡ all *ℤ a (links + d)
   alone_key_dot kept a = nothing (sum-none-of links _ (λ i l. ap (λ x. (x *ℤ weight i) *ℤ dot links (kept i) (left_column links demands basis place a)) (alone i l)
       ∙ (ap (λ x. x *ℤ dot links (kept i) (left_column links demands basis place a)) (zero-*ℤ (weight i)) ∙ zero-*ℤ (dot links (kept i) (left_column links demands basis place a)))))

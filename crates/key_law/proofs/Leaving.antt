@@ -1,16 +1,16 @@
 -- a key leaves that has other basic columns of its demand, and what the products are then
-use Rattle.std.proofs.Common.{◌≡◌, ◌≢◌, ℕ, ◌<◌, ◌+◌, refl, sym, ap, ◌∙◌, subst, ℤ, ◌-ℤ◌, ◌*ℤ◌}
+use Rattle.std.proofs.Common.{◌≡◌, ◌≢◌, ℕ, ◌<◌, ◌+◌, refl, sym, ap, ◌∙◌, arith, subst, ℤ, ◌-ℤ◌, ◌*ℤ◌}
 use Rattle.simplex_law.specs.Terms.{dot, put, ColumnOf, IsPick}
 use Rattle.simplex_law.proofs.Lemmas.{pick_again, dot-same, row_unique}
 use Rattle.key_law.proofs.Kept.{prices_row}
 use Rattle.key_law.specs.Keys.{swap, key_part, left_column}
 use Rattle.key_law.specs.Kept.{IsKept}
-use Rattle.key_law.specs.KeyRows.{full_prices, role_nums, AreKeyRows}
-use Rattle.key_law.specs.Turns.{IsLoneKey, IsExchanged}
+use Rattle.key_law.specs.KeyRows.{full_prices, key_nums, key_dot, role_nums, AreKeyRows}
+use Rattle.key_law.specs.Turns.{IsBlockTurned, IsLoneKey, IsExchanged}
 use Rattle.key_law.proofs.Exchange.{exchanged, swap_first, swap_second, different, key_at}
-use Rattle.key_law.proofs.Change.{key_turn_product, exchange_product}
+use Rattle.key_law.proofs.Change.{key_turn_product, exchange_product, exchange_key_product}
 use Rattle.key_law.proofs.Roles.{role_tableau}
-use Rattle.key_law.proofs.Turns.{new_key, old_key}
+use Rattle.key_law.proofs.Turns.{block_turned, new_key, old_key}
 use Rattle.checked_fraction.proofs.Products.{cancelled}
 
 module _ {N : Type 0} {links demands : ℕ} {bound : ℕ → ℤ} {basis : ℕ → ColumnOf N} {place role : ℕ → ℕ} {kept next : ℕ → ℕ → ℤ} {den next_den prices weight : ℕ → ℤ} {prices_den all : ℤ}
@@ -27,6 +27,14 @@ module _ {N : Type 0} {links demands : ℕ} {bound : ℕ → ℤ} {basis : ℕ �
       (full_prices links demands basis (λ r. place (swap i (links + d) r)) prices prices_den) prices_den c (place (swap i (links + d) i))
   exchanged_pick = pick_again (links + demands) bound basis _ _ _ _ _ _ _ _ c (place (swap i (links + d) i)) (role_tableau h k) (role_tableau (exchanged h x) o)
       (subst (λ p. IsPick (links + demands) bound (λ j. role_nums links demands basis place kept den of_keys of_den (role j)) (full_prices links demands basis place prices prices_den) prices_den c p) same_place pick)
+
+  -- so its row of the block is the pivot
+  pub exchanged_turned : {last : ℕ → ℕ → ℤ} {last_den later : ℕ → ℤ} {later_den : ℤ}
+      → IsBlockTurned links demands basis (λ r. place (swap i (links + d) r)) c i next last next_den last_den prices later prices_den later_den
+      → IsKept links demands bound (put basis (place r) c) (λ r. place (swap i (links + d) r)) (λ j. swap i (links + d) (role j)) last last_den later later_den
+  exchanged_turned {last} {last_den} {later} {later_den} t =
+      subst (λ p. IsKept links demands bound (put basis p c) (λ r. place (swap i (links + d) r)) (λ j. swap i (links + d) (role j)) last last_den later later_den) (sym same_place)
+      (block_turned (exchanged h x) o c i (omega (arith, x.row_in)) exchanged_pick x.row_in t)
 
 -- what an exchange and a new key do to products, and so to values
 module _ {N : Type 0} {links demands : ℕ} {bound : ℕ → ℤ} {basis : ℕ → ColumnOf N} {place role : ℕ → ℕ} {kept next : ℕ → ℕ → ℤ} {den next_den prices weight : ℕ → ℤ} {prices_den all : ℤ}
@@ -49,6 +57,10 @@ module _ {N : Type 0} {links demands : ℕ} {bound : ℕ → ℤ} {basis : ℕ �
   exchanged_prices k lk = cancelled prices_den _ _ h.above
       (row_unique (links + demands) (λ j. (basis j).entry) h.whole.nums h.whole.den h.whole.tableau.filling.0 h.whole.tableau.filling.1 (λ j. (basis j).gain) _ _ prices_den prices_den k
       h.whole.tableau.filling.2 (prices_row (exchanged h x)) (prices_row h) lk)
+
+  -- and the old key's row has those of the key
+  pub exchanged_key_product : (a : ℕ → ℤ) → dot links (key_nums links demands basis place kept weight d) (left_column links demands basis (λ r. place (swap i (links + d) r)) a) ≡ key_dot links demands basis place kept weight all d a
+  exchanged_key_product a = exchange_key_product h i d x.row_in x.demand_in x.owned others is_other same_other weight all a x.weights
 
 module _ {N : Type 0} {links demands : ℕ} {bound : ℕ → ℤ} {basis : ℕ → ColumnOf N} {place role : ℕ → ℕ} {kept : ℕ → ℕ → ℤ} {den prices : ℕ → ℤ} {prices_den : ℤ}
     {of_keys : ℕ → ℕ → ℤ} {of_den : ℕ → ℤ} (h : IsKept links demands bound basis place role kept den prices prices_den) (k : AreKeyRows links demands basis place of_keys of_den)

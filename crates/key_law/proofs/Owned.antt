@@ -1,8 +1,8 @@
 -- what the keys leave of a column of one demand, and of none
-use Rattle.std.proofs.Common.{◌≡◌, ℕ, ◌<◌, ◌+◌, ap, ◌∙◌, arith, ℤ, pos, ◌-ℤ◌, ◌*ℤ◌}
+use Rattle.std.proofs.Common.{◌≡◌, ◌≢◌, ℕ, ◌<◌, ◌+◌, ap, ◌∙◌, arith, ℤ, pos, ◌-ℤ◌, ◌*ℤ◌}
 use Rattle.net_core.proofs.Library.{*ℤ_comm, zero-*ℤ, ints}
 use Rattle.simplex_law.specs.Terms.{int_sum, dot, unit_vector}
-use Rattle.simplex_law.proofs.Lemmas.{minus_left, sum-same, sum-none, sum-unit, sum-minus}
+use Rattle.simplex_law.proofs.Lemmas.{minus_left, sum-same, sum-none, sum-unit, sum-minus, unit-other}
 use Rattle.key_law.specs.Keys.{difference, left_target}
 
 module _ (links demands : ℕ) (keys : ℕ → ℕ → ℤ) (a : ℕ → ℤ) where
@@ -21,6 +21,10 @@ module _ (links demands : ℕ) (keys : ℕ → ℕ → ℤ) (a : ℕ → ℤ) wh
     pub owned_product : (nums : ℕ → ℤ) → dot links nums (difference links demands keys a) ≡ dot links nums a -ℤ dot links nums (keys d)
     owned_product nums = sum-same links _ (λ k. (nums k *ℤ a k) -ℤ (nums k *ℤ keys d k)) (λ k l. ap (λ x. nums k *ℤ x) (owned_difference k) ∙ minus_left (a k) (keys d k) (nums k))
         ∙ sum-minus links (λ k. nums k *ℤ a k) (λ k. nums k *ℤ keys d k)
+
+    -- the column has no entry in another demand
+    pub owned_apart : (e : ℕ) → e < demands → d ≢ e → a (links + e) ≡ pos 0
+    owned_apart e l ne = owned e l ∙ unit-other d e ne
 
   module _ (free : (e : ℕ) → e < demands → a (links + e) ≡ pos 0) where
     no_sum : (f : ℕ → ℤ) → int_sum demands (λ e. a (links + e) *ℤ f e) ≡ pos 0

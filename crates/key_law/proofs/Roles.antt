@@ -1,11 +1,12 @@
 -- rows by their roles make a tableau, and a pick over the roles is a pick over its rows
-use Rattle.std.proofs.Common.{◌≡◌, ℕ, ◌<◌, ◌≤◌, ◌+◌, ◌-◌, sym, ap, arith, cond, ltb, ⊎_elim, subst, lt-ltb, le-ltb, ℤ, pos, ◌*ℤ◌, ◌<ℤ◌}
+use Rattle.std.proofs.Common.{◌≡◌, ℕ, ◌<◌, ◌≤◌, ◌+◌, ◌-◌, sym, ap, ◌∙◌, arith, cond, ltb, ⊎_elim, subst, lt-ltb, le-ltb, ℤ, pos, ◌*ℤ◌, ◌<ℤ◌}
 use Rattle.net_core.proofs.Library.{cases_lt}
-use Rattle.simplex_law.specs.Terms.{unit_vector, ColumnOf, IsRow, IsTableau}
+use Rattle.simplex_law.specs.Terms.{dot, unit_vector, ColumnOf, IsRow, IsTableau, IsPick, IsRatioLe}
 use Rattle.simplex_law.proofs.Lemmas.{same_tableau, weights}
 use Rattle.key_law.specs.Kept.{IsKept}
 use Rattle.key_law.specs.KeyRows.{full_kept, full_prices, full_key, key_nums, HaveWeights, role_nums, AreKeyRows}
-use Rattle.key_law.proofs.Kept.{kept_row, prices_row, key_row}
+use Rattle.key_law.specs.Turns.{IsKeyPick}
+use Rattle.key_law.proofs.Kept.{kept_row, prices_row, cost_product, key_row}
 
 -- the denominators of the rows by role; those of the keys are given
 abbrev pub role_den : ℕ → (ℕ → ℤ) → (ℕ → ℤ) → ℕ → ℤ
@@ -61,3 +62,15 @@ module _ {N : Type 0} {links demands : ℕ} {bound : ℕ → ℤ} {basis : ℕ �
       (λ j l. subst (λ x. IsRow (links + demands) (λ i. (basis i).entry) (unit_vector x) (rows_of (role j)) (dens_of (role j))) (h.roles.back j l) (role_row (role j) (h.roles.role_in j l)).0)
       (λ j l. (role_row (role j) (h.roles.role_in j l)).1)
       (prices_row h) h.above
+
+  -- and a pick
+  pub role_pick : (c : ColumnOf N) (r : ℕ) → IsKeyPick links demands bound basis place kept den prices prices_den of_keys of_den c r
+      → IsPick (links + demands) bound (λ j. rows_of (role j)) (full_prices links demands basis place prices prices_den) prices_den c (place r)
+  role_pick c r p = record {
+    inside = h.roles.place_in r p.inside;
+    positive = subst (λ x. pos 0 <ℤ dot (links + demands) (rows_of x) c.entry) (sym (h.roles.there r p.inside)) p.positive;
+    gains = subst (λ x. x <ℤ pos 0) (sym (cost_product h c)) p.gains;
+    ratio = λ j l ne more.
+        subst (λ x. IsRatioLe (links + demands) bound c.entry (rows_of x) (rows_of (role j))) (sym (h.roles.there r p.inside))
+        (p.ratio (role j) (h.roles.role_in j l) (λ e. ne (sym (h.roles.back j l) ∙ ap place e)) more);
+  }
