@@ -174,7 +174,7 @@ fn make_coarse(alloc: Global, aim: &Aim, search: &mut Search) -> Result<(), NoMe
     push_aside(alloc, aim, search, lines)
 }
 
-/// Puts divided lines last that the point of a box's program misses, at most so many.
+/// Puts divided lines last that the point of a box's program misses, at most this number.
 fn push_divided(
     alloc: Global,
     aim: &Aim,
@@ -201,7 +201,7 @@ fn before(tested: &[Tested], first: usize) -> &[Tested] {
     &tested[..first.min(tested.len())]
 }
 
-/// Puts table lines last that a point misses, at most so many.
+/// Puts table lines last that a point misses, at most this number.
 fn push_tables(
     alloc: Global,
     aim: &Aim,
@@ -257,7 +257,7 @@ fn push_missed(
     push_divided(alloc, aim, search, boxed, solution, most)
 }
 
-/// What a round of lines comes to.
+/// The outcome of a round of lines.
 #[derive(Drop)]
 enum Made {
     /// The optimum of the program with the lines.

@@ -1,4 +1,4 @@
--- what a search for a branch tree comes to: a proof, and the cause of each of its nodes
+-- the outcome of a search for a branch tree: a proof, and the cause of each of its nodes
 use Rattle.std.specs.Prelude.{◌≡◌, ℕ, ◌+◌, ◌*◌, ◌^◌, ◌≤◌, ◌<◌, ◌↔◌, List, All, Contains, length, take}
 use Rattle.plan_terms.specs.Terms.{Case, CutLine, IsCut, capacities}
 use Rattle.plan_types.specs.declared.plan.Plan.{Plan}
@@ -38,7 +38,7 @@ abbrev pub IsCertificateOfLeaves : Case → Proof → Type 0
 IsCertificateOfLeaves p proof = (i value : ℕ) (leaf : IsOpenAt p proof i value)
     → IsBoxCertificate p.links leaf.box proof.plan.certificate.den (lines_of_plan p.links proof.plan.certificate)
 
--- What a search for a branch tree comes to: the given plan or a cheaper one, and a proof that is accepted and whose nodes have their
+-- The outcome of a search for a branch tree: the given plan or a cheaper one, and a proof that is accepted and whose nodes have their
 -- causes. All its cuts are cuts of the case, the handed-in ones first. Its tree has as many splits as the limit says at most, and, where
 -- all modules cost something, fewer than a tree has room for. Each open leaf is worth less than the plan costs. A value is told exactly
 -- where some leaf is open; it is at least the plan's bound where the plan's certificate is one of all open leaves.

@@ -64,7 +64,7 @@ fn first_cuts(cuts: List<CutLine>, most: usize) -> List<CutLine>
     List::from_vec(all)
 }
 
-/// What is known; or, where there are more entries than so many, as many of the first cuts alone.
+/// What is known; or, where there are more entries than this number, this number of the first cuts alone.
 fn first_known(
     alloc: Global,
     instance: &Instance,
@@ -167,7 +167,7 @@ fn proved<'a, G: Gate>(
     }
 }
 
-/// How many cuts and lines are kept at most, where so many cuts were handed in: with lines there is room for cuts of node sets, for a
+/// How many cuts and lines are kept at most, where this number of cuts was handed in: with lines there is room for cuts of node sets, for a
 /// coarse line of each handed-in cut, and for one that table lines are made over of each cut.
 fn room_for(handed: usize, divides: bool) -> usize
     requires { handed ≤ 8192 }

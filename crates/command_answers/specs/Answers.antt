@@ -1,4 +1,4 @@
--- what each command comes to once its files are read: a status, and a text
+-- the outcome of each command once its files are read: a status, and a text
 use Rattle.std.specs.Prelude.{◌≡◌, ℕ, ◌+◌, ◌⊎◌, List, [], ◌∷◌, ◌++◌, All, codes, decimal, length}
 use Rattle.plan_terms.specs.Terms.{Notes, Three, Case}
 use Rattle.plan_report.specs.Terms.{known_to, SpellsReport, report_text, Plan, Quality, Tight, Loose, Planned, Report}
@@ -43,7 +43,7 @@ pub record IsPlanReport (p : Case) (notes : Notes) (text : List ℕ) : Type 0 wh
   pub alone : report.outcomes ≡ Planned 1 1 plan ∷ []
   pub printed : IsPrintedReport p notes plan_commands report text
 
--- what planning comes to, unless memory runs out: a text that spells the report of a plan, or the first separation
+-- the outcome of planning, unless memory runs out: a text that spells the report of a plan, or the first separation
 abbrev pub EndsPlan : Case → Notes → Status → List ℕ → Type 0
 EndsPlan p notes status text =
     ((status ≡ Done) × ((planned : IsPlanReport p notes text) × SpellsReport (known_to p) text planned.report))
@@ -60,7 +60,7 @@ pub record IsPrintedTrim (p : Case) (notes : Notes) (text : List ℕ) : Type 0 w
   pub printed : text ≡ report_text (known_to p) (whole_report report) ++ block_lines p.links p.demands blocks
   pub spelled : SpellsReport (known_to p) text (whole_report report)
 
--- what trimming comes to, unless memory runs out: such a text, or the first separation
+-- the outcome of trimming, unless memory runs out: such a text, or the first separation
 abbrev pub EndsTrim : Case → Notes → Status → List ℕ → Type 0
 EndsTrim p notes status text = ((status ≡ Done) × IsPrintedTrim p notes text) ⊎ ((status ≡ NotSurvivable) × NamesFirstSeparation p text)
 
@@ -82,7 +82,7 @@ abbrev pub EndsCharged : ℕ → Case → Notes → Status → List ℕ → Type
 EndsCharged limit p notes status text =
     ((status ≡ Done) × IsPrintedProof p notes limit text) ⊎ ((status ≡ NotSurvivable) × NamesFirstSeparation p text)
 
--- What a proof comes to, unless memory runs out: the line that a module costs nothing, or what it comes to where all cost something.
+-- The outcome of a proof, unless memory runs out: the line that a module costs nothing, or the outcome where all cost something.
 abbrev pub EndsProve : ℕ → Case → Notes → Status → List ℕ → Type 0
 EndsProve limit p notes status text =
     ((status ≡ BadNetwork) × (AreCharged p.links → ⊥) × (text ≡ free_module_line))
@@ -103,7 +103,7 @@ pub record NamesImportFault (p : Case) (notes : Notes) (file : FlowFile) (text :
   pub first : HasImportFault p notes file fault
   pub printed : text ≡ import_fault_line p fault
 
--- What importing a file comes to, unless memory runs out: the report with its design, its first fault, or the first separation of the case.
+-- The outcome of importing a file, unless memory runs out: the report with its design, its first fault, or the first separation of the case.
 abbrev pub EndsImported : Case → Notes → FlowFile → Status → List ℕ → Type 0
 EndsImported p notes file status text =
     ((status ≡ Done) × IsPrintedImport p notes file text)

@@ -1,4 +1,4 @@
--- what a run for people comes to: its status, the text that it prints, and the message beside it
+-- the outcome of a run for people: its status, the text that it prints, and the message beside it
 use Rattle.std.specs.Prelude.{◌≡◌, ℕ, ◌⊎◌, List, [], ◌++◌, Option, String, codes}
 use Rattle.std.specs.Global.{Global}
 use Rattle.plan_terms.specs.Terms.{Case, Demand, Network, Notes}
@@ -58,22 +58,22 @@ SaysApart net demands status message =
     × ((line : List ℕ) × (names : NamesFirstSeparation (with_states net demands []) line)
     × (message ≡ apart_words names.first.separates.demand.name ++ line))
 
--- What a failure list of a network comes to: a demand is separated where nothing fails, or the text has the failure of each link that alone
+-- The outcome of a failure list of a network: a demand is separated where nothing fails, or the text has the failure of each link that alone
 -- separates none, and no other, so that the network survives them all.
 abbrev pub ListsFailures : Network → List Demand → Status → List ℕ → List ℕ → Type 0
 ListsFailures net demands status text message =
     ((text ≡ []) × SaysApart net demands status message)
     ⊎ ((status ≡ Done) × IsFailureList net demands text × (message ≡ []))
 
--- What it comes to for a file: the file ends the run with a message, or it is the list of the network that the file spells.
+-- The outcome for a file: the file ends the run with a message, or it is the list of the network that the file spells.
 abbrev pub EndsFailures : Option Files → List ℕ → Status → List ℕ → List ℕ → Type 0
 EndsFailures files name status text message =
     ((text ≡ []) × FailsAtFile files input_limit name BadNetwork (ShowsNetworkFault name) status message)
     ⊎ ((net : Network) × (demands : List Demand) × Fetched files input_limit name SpellsNetwork (net, demands)
     × ListsFailures net demands status text message)
 
--- What the view of a report's file comes to in a form, of plans for a case: it isn't fetched, which ends the run with a message, or it is what
--- its bytes come to.
+-- The outcome of the view of a report's file in a form, of plans for a case: it isn't fetched, which ends the run with a message, or it is the outcome
+-- of its bytes.
 abbrev pub ViewsFile : Option Files → ViewForm → List ℕ → List ℕ → Case → Notes → Status → List ℕ → List ℕ → Type 0
 ViewsFile files form network name p notes status text message =
     ((text ≡ []) × FailsAtFetch files report_limit name status message)
@@ -93,21 +93,21 @@ LacksForm p (asked.Values sheet) status message = ⊥
 LacksForm p (asked.State name) status message = LacksState p.listed name status message
 LacksForm p (asked.Picture name) status message = LacksState p.listed name status message
 
--- What the view comes to that is asked for: there is no such state, or it is the view of the report's file in the form that is asked for.
+-- The outcome of the view that is asked for: there is no such state, or it is the view of the report's file in the form that is asked for.
 abbrev pub ViewsAsked : Option Files → AskedForm → List ℕ → List ℕ → Case → Notes → Status → List ℕ → List ℕ → Type 0
 ViewsAsked files form network name p notes status text message =
     ((text ≡ []) × LacksForm p form status message)
     ⊎ ((shown : ViewForm) × AsksForm p form shown × ViewsFile files shown network name p notes status text message)
 
--- What it comes to for files: one of them ends the run with a message, or it is the view of the report for the case that they spell.
+-- The outcome for files: one of them ends the run with a message, or it is the view of the report for the case that they spell.
 abbrev pub EndsView : Option Files → CaseWords → List ℕ → AskedForm → Status → List ℕ → List ℕ → Type 0
 EndsView files w name form = EndsAfterCase files w (ViewsAsked files form w.files.network name)
 
--- What a plan comes to for files: one of them ends the run with a message, or it is what a plan comes to for the case that they spell.
+-- The outcome of a plan for files: one of them ends the run with a message, or it is the outcome of a plan for the case that they spell.
 abbrev pub EndsFrontPlan : Option Files → AskedPlan → Status → List ℕ → List ℕ → Type 0
 EndsFrontPlan files asked = EndsAfterCase files asked.case (EndsPlanForPeople asked.case.files.network asked.splits asked.report)
 
--- what a command comes to
+-- the outcome of a command
 abbrev pub EndsFrontCommand : Option Files → FrontCommand → Status → List ℕ → List ℕ → Type 0
 EndsFrontCommand files Help status text message = (status ≡ Done) × (text ≡ help_text) × (message ≡ [])
 EndsFrontCommand files (HelpOn topic) status text message = (status ≡ Done) × (text ≡ topic_help topic) × (message ≡ [])
@@ -118,7 +118,7 @@ EndsFrontCommand files (Plan asked) status text message = EndsFrontPlan files as
 
 -- ---- a run
 
--- What a run comes to, with its whole text and message: memory runs out, which needs no cause, or the words are no command, or they are one.
+-- The outcome of a run, with its whole text and message: memory runs out, which needs no cause, or the words are no command, or they are one.
 abbrev pub EndsFront : List (String Global) → Option Files → Status → List ℕ → List ℕ → Type 0
 EndsFront words files status text message =
     ((status ≡ NoMemory) × (text ≡ []) × (message ≡ memory_message))

@@ -87,7 +87,8 @@ fn answer_words<R: Threads + Wait + Sync, S: Shelf, T: Teller + Sync>(
 
 /// Carries out the command that the words give: reads its file from the shelf, prints its text to a sink, and says what is wrong to the one
 /// beside it. Where something is wrong it prints nothing, or, where writing fails, the beginning of the text. A plan tells the teller how far
-/// it is, unless the words ask for quiet, and may never return.
+/// it is, unless the words ask for quiet, and may never return. It takes the time and the memory of the command and of the readers of its
+/// files, and memory for its texts.
 ///
 /// ```text
 /// let mut shelf = MemShelf::new(files, List::new(alloc));   // with the triangle's network under the name t.txt
@@ -103,7 +104,7 @@ pub fn run<R: Threads + Wait + Sync, S: Shelf, K: Sink, E: Sink, T: Teller + Syn
     beside: &mut E,
     teller: &T,
 ) -> Status
-    // What the run comes to has its cause in the words and the files, reading fails only where the shelf counts it, and text and message
+    // The outcome of the run has its cause in the words and the files, reading fails only where the shelf counts it, and text and message
     // are written. The files stay as they are, and no count of faults falls.
     ensures outcome { (status : Status) × (text : List ℕ) × (message : List ℕ) × EndsFront words.now (S.files shelf.old) status text message
         × KeepsShelf S.files S.faults (status ≡ Status.ReadFault) shelf.old shelf.new

@@ -1,4 +1,4 @@
--- the files of a planning for people, read one after another, and what each may come to
+-- the files of a planning for people, read one after another, and the possible outcomes of each
 use Rattle.std.specs.Prelude.{◌≡◌, ◌≢◌, ℕ, ◌⊎◌, ◌++◌, Bool, true, false, List, [], Option}
 use Rattle.plan_terms.specs.Terms.{Case, Demand, Link, Listed, Network, Notes}
 use Rattle.outside_io.specs.Outside.{Files}
@@ -55,7 +55,7 @@ FailsAtInputs files w status message =
     × (((w.files.model ≢ default) × FailsAtFile files input_limit w.files.model BadModel (ShowsModelFault w.files.model) status message)
     ⊎ ((model : Model) × HasModel files w.files model × FailsAtFailures files w read.links model.reconfigure status message)))
 
--- One of the files ends the run with a message and no text, or they are all read, and it comes to this, of the case that they spell and the
+-- One of the files ends the run with a message and no text, or they are all read, and this is the outcome, of the case that they spell and the
 -- notes of its settled network.
 abbrev pub EndsAfterCase : Option Files → CaseWords → (Case → Notes → Status → List ℕ → List ℕ → Type 0) → Status → List ℕ → List ℕ → Type 0
 EndsAfterCase files w EndsWith status text message =

@@ -34,7 +34,7 @@ fn fault_words(fault: ReadFault) -> &'static [u8]
     }
 }
 
-/// The content of a file of at most so many bytes.
+/// The content of a file of at most this number of bytes.
 pub(crate) fn fetch_file<S: Shelf>(
     alloc: Global,
     limit: u64,
@@ -103,7 +103,7 @@ pub fn load_network<S: Shelf>(
     network_of(alloc, name, bytes.items())
 }
 
-/// The network and the demands of a file, and where the nodes stand, as far as it says. It takes the time of both readers.
+/// The network and the demands of a file, and where the nodes are, as far as it says. It takes the time of both readers.
 pub(crate) fn load_placed_network<S: Shelf>(
     alloc: Global,
     name: &str,

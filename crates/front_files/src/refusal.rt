@@ -24,7 +24,7 @@ pub struct FaultyFile<'a> {
     pub at: u64,
 }
 
-/// The end of a run with this message, if there was memory for it.
+/// The end of a run with this message, if there was memory for it. It takes constant time, and no memory.
 pub fn told(status: Status, message: Result<Bytes, NoMemory>) -> Halt
     ensures { MatchResult message (λ m. Halts (λ s t. (s ≡ status) × (t ≡ m)) result) (λ _. result ≡ Halt.NoMemory) }
 {

@@ -1,4 +1,4 @@
--- what a plan for people comes to: a status, a text, and a message beside it
+-- the outcome of a plan for people: a status, a text, and a message beside it
 use Rattle.std.specs.Prelude.{◌≡◌, ℕ, ◌≤◌, ◌<◌, ◌⊎◌, Bool, true, false, Option, None, Some, List, [], ◌++◌, All, codes, length, slice_get, take}
 use Rattle.plan_terms.specs.Terms.{Case, Link, Notes}
 use Rattle.plan_report.specs.Terms.{SpellsReport, known_to, report_text, Outcome}
@@ -27,14 +27,14 @@ IsDefaultLimit nodes limit =
     ⊎ ((20 < nodes) × (nodes ≤ 40) × (limit ≡ 10))
     ⊎ ((40 < nodes) × (limit ≡ 0))
 
--- the number of splits that somebody says, and else that of so many nodes
+-- the number of splits that somebody says, and else the number for this number of nodes
 abbrev pub IsLimitOf : Option ℕ → ℕ → ℕ → Type 0
 IsLimitOf None nodes limit = IsDefaultLimit nodes limit
 IsLimitOf (Some splits) nodes limit = limit ≡ splits
 
 -- ---- a plan
 
--- what a tree of so many boxes with this verdict tells of the cost
+-- what a tree of this number of boxes with this verdict tells of the cost
 abbrev pub cost_told : ℕ → Verdict → CostProof
 cost_told boxes verdict.Cheapest = Cheapest boxes
 cost_told boxes (verdict.Above least) = Above boxes least
@@ -48,7 +48,7 @@ abbrev pub told_outcomes : ProvedReport → List Outcome
 told_outcomes r = (whole_report (proved_report r)).outcomes
 
 -- The text is the view of the report with what its proof tells; or, where the report is wanted, it is the report's with the lines of the proof,
--- it spells the report, and the first block of the view stands beside it.
+-- it spells the report, and the first block of the view is beside it.
 abbrev pub PrintsReport : List ℕ → Bool → Case → ProvedReport → List ℕ → List ℕ → Type 0
 PrintsReport network false p r text message = IsReportView network p (told_outcomes r) (told_of_proof r.proof) text × (message ≡ [])
 PrintsReport network true p r text message =
@@ -100,19 +100,19 @@ SaysFreeLink network links message = (e : ℕ) × (link : Link) × IsFirstFreeLi
 
 -- ---- all
 
--- What a plan comes to where all modules cost something: its texts, or a message of all separations.
+-- The outcome of a plan where all modules cost something: its texts, or a message of all separations.
 abbrev pub EndsChargedPlan : List ℕ → ℕ → Bool → Case → Notes → Status → List ℕ → List ℕ → Type 0
 EndsChargedPlan network limit wanted p notes status text message =
     ((status ≡ Done) × PrintsPlan network limit wanted p notes text message)
     ⊎ ((status ≡ NotSurvivable) × (text ≡ []) × SaysSeparations network p message)
 
--- What a plan with a branch tree of at most so many splits comes to: a module costs nothing, or what it comes to where all cost something.
+-- The outcome of a plan with a branch tree of at most this number of splits: a module costs nothing, or the outcome where all cost something.
 abbrev pub EndsPlanWithin : List ℕ → ℕ → Bool → Case → Notes → Status → List ℕ → List ℕ → Type 0
 EndsPlanWithin network limit wanted p notes status text message =
     ((status ≡ BadNetwork) × (text ≡ []) × SaysFreeLink network p.links message)
     ⊎ (AreCharged p.links × EndsChargedPlan network limit wanted p notes status text message)
 
--- What a plan for people comes to, unless memory runs out. The network's file has this name, somebody says how many splits there are at most, or
+-- The outcome of a plan for people, unless memory runs out. The network's file has this name, somebody says how many splits there are at most, or
 -- it is by default, and the report is wanted or its view.
 abbrev pub EndsPlanForPeople : List ℕ → Option ℕ → Bool → Case → Notes → Status → List ℕ → List ℕ → Type 0
 EndsPlanForPeople network splits wanted p notes status text message =

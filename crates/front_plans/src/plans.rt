@@ -132,7 +132,7 @@ fn answer_free(
     free_answer(alloc, network, link.name.bytes())
 }
 
-/// The answer of a plan with a branch tree of at most so many splits.
+/// The answer of a plan with a branch tree of at most this number of splits.
 fn plan_within<R: Threads + Wait + Sync, G: Gate + Sync>(
     rt: &R,
     alloc: Global,
@@ -152,7 +152,7 @@ fn plan_within<R: Threads + Wait + Sync, G: Gate + Sync>(
 }
 
 /// A plan of a problem whose network's file has this name, for people: it is planned by one plan command of caller 1, trimmed, and made cheaper,
-/// and a branch tree over cuts and lines that are made of them tells how near to the cheapest it is. The tree has at most so many splits as
+/// and a branch tree over cuts and lines that are made of them tells how near to the cheapest it is. The tree has at most as many splits as
 /// somebody says, at most 9,999, and else as many as `default_splits` says; with 0 it is its root alone. It may never return.
 ///
 /// The text is the view of the plan. Where the report is wanted, it is the report with the lines of its tree, and the message the view's first

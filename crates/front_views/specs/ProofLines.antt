@@ -23,7 +23,7 @@ use Rattle.view_text.specs.declared.proof.CostProof.{CostProof}
 use Rattle.view_text.specs.declared.proof.CostProof.TheVariants.{Nothing, Cheapest, Above}
 use Rattle.front_files.specs.Messages.{HasNoNotes, ShowsFault}
 
--- where the report ends, below which its comment lines stand
+-- where the report ends, below which its comment lines follow
 abbrev pub lines_begin : List ℕ → ℕ
 lines_begin bytes = end_after 0 (tokens_from 0 bytes)
 
@@ -39,7 +39,7 @@ SpellsPlanTree p plan bytes t = SpellsTree (known_to p) plan.demands (lines_begi
 abbrev pub proof_by : Plan → ReadTree → Proof
 proof_by plan t = record { plan = plan; cuts = t.cuts; lines = t.lines; tree = t.tree; verdict = t.verdict }
 
--- what a tree of so many boxes with this verdict shows of the cost
+-- what a tree of this number of boxes with this verdict shows of the cost
 abbrev pub told_by : ℕ → Verdict → CostProof
 told_by boxes verdict.Cheapest = Cheapest boxes
 told_by boxes (verdict.Above least) = Above boxes least
@@ -49,7 +49,7 @@ abbrev pub ShowsByTree : Case → Plan → List ℕ → CostProof → Type 0
 ShowsByTree p plan bytes proof =
     (t : ReadTree) × SpellsPlanTree p plan bytes t × IsAcceptedProof (case_of_plan p plan) (proof_by plan t) × (proof ≡ told_by (length t.tree) t.verdict)
 
--- The lines below the report of a plan show this of its cost: no line of a tree stands there, and they show nothing, or a tree that holds.
+-- The lines below the report of a plan show this of its cost: no line of a tree is there, and they show nothing, or a tree that holds.
 abbrev pub ReadsPlanProof : Case → Plan → List ℕ → CostProof → Type 0
 ReadsPlanProof p plan bytes proof = ((HasTreeLine bytes → ⊥) × (proof ≡ Nothing)) ⊎ ShowsByTree p plan bytes proof
 
@@ -74,7 +74,7 @@ ShowsNoTree name p plan =
 abbrev pub end_wrong : ℕ → ℕ → List ℕ
 end_wrong nodes k = cond (nat_eq k nodes) (codes "a node is missing after the last one") (codes "its last line doesn't follow from its nodes")
 
--- what is wrong with a tree of so many nodes, of which a check rejects node k
+-- what is wrong with a tree of this number of nodes, of which a check rejects node k
 abbrev pub tree_wrong : ℕ → ℕ → List ℕ
 tree_wrong nodes k = cond (nat_lt k nodes) (codes "line " ++ decimal (k + 1) ++ codes " of its nodes doesn't hold") (end_wrong nodes k)
 
@@ -94,7 +94,7 @@ FailsAtTree name p plan bytes status message =
     ((status ≡ ends.BadReport) × ShowsNoTree name p plan bytes message)
     ⊎ ((status ≡ ends.Rejected) × ((t : ReadTree) × SpellsPlanTree p plan bytes t × TellsRejectedTree name p plan t message))
 
--- a line of a tree stands there, and they fail so
+-- a line of a tree is there, and they fail so
 abbrev pub FailsAtPlanLines : List ℕ → Case → Plan → List ℕ → Status → List ℕ → Type 0
 FailsAtPlanLines name p plan bytes status message = HasTreeLine bytes × FailsAtTree name p plan bytes status message
 

@@ -1,4 +1,4 @@
--- what the bytes of a report come to: its view, or a message
+-- the outcome of the bytes of a report: its view, or a message
 use Rattle.std.specs.Prelude.{◌≡◌, ℕ, ◌⊎◌, List, [], ◌++◌, Err, codes}
 use Rattle.plan_terms.specs.Terms.{Case, Notes}
 use Rattle.plan_report.specs.Terms.{SpellsReport, known_to, Report}
@@ -38,19 +38,19 @@ SaysFinding name p notes r finding message = (line : List ℕ) × IsJudged p not
 abbrev pub TellsFinding : List ℕ → Case → Notes → Report → List ℕ → Type 0
 TellsFinding name p notes r message = (outcome : ℕ) × (finding : Finding) × IsFirstOfReport notes p r outcome finding × SaysFinding name p notes r finding message
 
--- What an accepted report comes to in a form, whose bytes these are: a message of the lines below it, or its view, with what they show.
+-- The outcome of an accepted report in a form, whose bytes these are: a message of the lines below it, or its view, with what they show.
 abbrev pub ViewsAccepted : ViewForm → List ℕ → List ℕ → Case → Report → List ℕ → Status → List ℕ → List ℕ → Type 0
 ViewsAccepted form network name p r bytes status text message =
     ((text ≡ []) × FailsAtLines name p r.outcomes bytes status message)
     ⊎ ((status ≡ Done) × (message ≡ []) × ((proof : CostProof) × ReadsProof p r.outcomes bytes proof × HasForm form network p r.outcomes proof text))
 
--- what a report comes to: a message of its first finding, or it is accepted
+-- the outcome of a report: a message of its first finding, or it is accepted
 abbrev pub ViewsReport : ViewForm → List ℕ → List ℕ → Case → Notes → Report → List ℕ → Status → List ℕ → List ℕ → Type 0
 ViewsReport form network name p notes r bytes status text message =
     ((status ≡ Rejected) × (text ≡ []) × TellsFinding name p notes r message)
     ⊎ (IsAcceptedReport p notes r × ViewsAccepted form network name p r bytes status text message)
 
--- What the bytes of a report's file come to: a message of their first fault, or what the report that they spell comes to. The view is of the
+-- The outcome of the bytes of a report's file: a message of their first fault, or the outcome of the report that they spell. The view is of the
 -- network's file of the first name, and a message of the report's file of the second.
 abbrev pub EndsReport : ViewForm → List ℕ → List ℕ → Case → Notes → List ℕ → Status → List ℕ → List ℕ → Type 0
 EndsReport form network name p notes bytes status text message =

@@ -1,4 +1,4 @@
-//! What the bytes of a report come to for people: its view once it is checked, or a message of what is wrong with it.
+//! What people are told of the bytes of a report: its view once it is checked, or a message of what is wrong with it.
 //!
 //! ```text
 //! // of a report that was made for the problem

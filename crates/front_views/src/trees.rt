@@ -15,10 +15,10 @@ use text_kit::write::put_decimal;
 use tree_check::{Proof, TreeAnswer, Verdict, check_tree};
 use view_text::CostProof;
 
-/// There is no memory for a tree of so many nodes.
+/// There is no memory for a tree of this number of nodes.
 const MOST_NODES: usize = u32::MAX as usize;
 
-/// What a tree of so many boxes shows with this verdict.
+/// What a tree of this number of boxes shows with this verdict.
 fn told_by(boxes: u32, verdict: Verdict) -> CostProof
     ensures { result ≡ told_by boxes verdict }
 {
@@ -37,7 +37,7 @@ fn put_node(text: &mut Bytes, node: u32) -> Result<(), NoMemory>
     text.append(b" of its nodes doesn't hold")
 }
 
-/// What is wrong past so many nodes.
+/// What is wrong past this number of nodes.
 fn end_wrong(nodes: usize, node: u32) -> &'static [u8]
     ensures { result.now ≡ end_wrong nodes node }
 {
@@ -48,7 +48,7 @@ fn end_wrong(nodes: usize, node: u32) -> &'static [u8]
     }
 }
 
-/// Puts what is wrong with a tree of so many nodes last, of which this one is rejected.
+/// Puts what is wrong with a tree of this number of nodes last, of which this one is rejected.
 fn put_wrong(text: &mut Bytes, nodes: usize, node: u32) -> Result<(), NoMemory>
     ensures { OnOk result (text.new ≡ text.old ++ tree_wrong nodes node) }
 {
@@ -58,7 +58,7 @@ fn put_wrong(text: &mut Bytes, nodes: usize, node: u32) -> Result<(), NoMemory>
     text.append(end_wrong(nodes, node))
 }
 
-/// What is said of a tree of so many nodes, of which this one is rejected.
+/// What is said of a tree of this number of nodes, of which this one is rejected.
 fn tree_message(alloc: Global, name: &str, nodes: usize, node: u32) -> Result<Bytes, NoMemory>
     ensures { IfOk result (λ m. m ≡ tree_message name.now nodes node) }
 {

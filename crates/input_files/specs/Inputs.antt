@@ -1,4 +1,4 @@
--- the files of a plan, read one after another, and what each may come to
+-- the files of a plan, read one after another, and the possible outcomes of each
 use Rattle.std.specs.Prelude.{◌≡◌, ◌≢◌, ℕ, ◌^◌, ◌⊎◌, Bool, true, false, List, [], ◌∷◌, ◌++◌, Option, Err, codes}
 use Rattle.plan_terms.specs.Terms.{Case, Demand, Link, Network, Notes, Places, Listed, settled_links, settled_notes}
 use Rattle.outside_io.specs.Outside.{Fetches, Files}
@@ -28,7 +28,7 @@ input_limit = 2 ^ 24
 abbrev pub report_limit : ℕ
 report_limit = 2 ^ 28
 
--- the file is fetched, with at most so many bytes, and this holds of its bytes
+-- the file is fetched, with at most this number of bytes, and this holds of its bytes
 abbrev pub Fetched : {X : Type 0} → Option Files → ℕ → List ℕ → (List ℕ → X → Type 0) → X → Type 0
 Fetched files limit name Holds x = (bytes : List ℕ) × Fetches files name limit fetch.Found bytes × Holds bytes x
 
@@ -119,7 +119,7 @@ HasInputs files w net demands listed =
     × HasStates files w read.links model.reconfigure listed
     × IsSettled model.charge read net
 
--- One of the files that every command has ends the run, or they are all read, and it comes to this, of the case that they spell and
+-- One of the files that every command has ends the run, or they are all read, and this is the outcome, of the case that they spell and
 -- the notes of its settled network.
 abbrev pub EndsAfterInputs : Option Files → PlanWords → (Case → Notes → Status → List ℕ → Type 0) → Status → List ℕ → Type 0
 EndsAfterInputs files w EndsWith status text =

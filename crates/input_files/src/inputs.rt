@@ -170,7 +170,8 @@ fn load_states<S: Shelf>(
 }
 
 /// What the files of a planning spell, with the setup costs of the network's links charged or dropped as the model says. They are
-/// read one after another, and the first that is not read ends the run.
+/// read one after another, and the first that is not read ends the run. It takes the time and the memory of their readers, and
+/// memory for the bytes of one file at a time.
 pub fn load_problem<S: Shelf>(
     alloc: Global,
     files: &PlanFiles,

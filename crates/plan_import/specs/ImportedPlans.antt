@@ -1,4 +1,4 @@
--- what an import comes to: a plan with another tool's design, or the first fault
+-- the outcome of an import: a plan with another tool's design, or the first fault
 use Rattle.std.specs.Prelude.{◌≡◌, ◌≢◌}
 use Rattle.plan_terms.specs.Terms.{Notes, Case, capacities}
 use Rattle.plan_types.specs.declared.report.Report.{Report}

@@ -5,7 +5,7 @@ use Rattle.std.specs.Str.Parse.{IsNumeral, digits_value}
 use Rattle.input_files.specs.InputWords.{PlanWords, default}
 
 -- a command: a plan for files, a session of a script, the check of a report, a trimmed plan for files, a plan for files with its branch tree
--- of so many splits at most, the import of a file of flows, or a sample of a seed with so many nodes
+-- of this number of splits at most, the import of a file of flows, or a sample of a seed with this number of nodes
 pub data Command : Type 0 where
   Plan : PlanWords → Command
   Session : PlanWords → List ℕ → Command
@@ -15,7 +15,7 @@ pub data Command : Type 0 where
   Import : PlanWords → List ℕ → Command
   Sample : ℕ → ℕ → Command
 
--- a word that may stand for a file: it isn't empty and doesn't begin with `-`
+-- a word that may name a file: it isn't empty and doesn't begin with `-`
 abbrev pub may_be_file : List ℕ → Bool
 may_be_file [] = false
 may_be_file (b ∷ bytes) = not (b == 45)
@@ -32,7 +32,7 @@ abbrev pub AreFourFiles : List (List ℕ) → PlanWords → List ℕ → Type 0
 AreFourFiles (n ∷ m ∷ f ∷ l ∷ []) w last = (w ≡ record { network = n; model = m; failures = f }) × (last ≡ l)
 AreFourFiles _ w last = ⊥
 
--- one or more digits, at most so many, that write this number
+-- one or more digits, at most this number, that write this number
 pub record IsNumberWord (most n : ℕ) (word : List ℕ) : Type 0 where
   pub numeral : IsNumeral 10 word
   pub short : length word ≤ most
@@ -48,7 +48,7 @@ abbrev pub AreProof : List (List ℕ) → ℕ → PlanWords → Type 0
 AreProof [] limit w = ⊥
 AreProof (l ∷ files) limit w = IsNumberWord 4 limit l × (1 ≤ limit) × (limit ≤ 9999) × AreFiles files w
 
--- each of the words may stand for a file
+-- each of the words may name a file
 abbrev pub MayBeFiles : List (String Global) → Type 0
 MayBeFiles words = All (λ word. may_be_file (string_bytes word) ≡ true) words
 

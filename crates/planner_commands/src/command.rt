@@ -8,7 +8,7 @@ ghost use Rattle.input_files.specs.Stops.{named};
 use crate::words::{Command, FourFiles, ProofWords, SampleWords};
 use input_files::{DEFAULT, PlanFiles};
 
-/// Whether a word may stand for a file.
+/// Whether a word may name a file.
 fn may_be_file(word: &str) -> bool
     ensures { result ≡ may_be_file word.now }
 {
@@ -18,7 +18,7 @@ fn may_be_file(word: &str) -> bool
     }
 }
 
-/// Whether all words may stand for files.
+/// Whether all words may name files.
 fn all_may_be_files(words: &[String]) -> bool
     ensures { IsTrue result ↔ MayBeFiles words.now }
 {
@@ -77,7 +77,7 @@ fn begins_with_plus(word: &str) -> bool
     }
 }
 
-/// The number that a word of digits writes, of which there are at most so many; none where it is no such word, or the number is
+/// The number that a word of digits writes, of which there are at most this number; none where it is no such word, or the number is
 /// 2^64 or more.
 fn number_word(word: &str, most: usize) -> Option<u64>
     ensures { MatchOption result ((n : ℕ) → n < 2 ^ 64 → IsNumberWord most n word.now → ⊥) (λ n. IsNumberWord most n word.now) }

@@ -175,7 +175,8 @@ fn answer_words<Rt: Threads + Wait + Sync, S: Shelf, G: Gate + Sync>(
 }
 
 /// Carries out the command that the words give: reads its files from the shelf, and writes its text to the sink. Nothing is
-/// written where reading failed or memory ran out. It may never return, since callers wait for each other.
+/// written where reading failed or memory ran out. It may never return, since callers wait for each other. It takes the time and
+/// the memory of the command and of the readers of its files, and memory for its text.
 ///
 /// ```text
 /// let mut shelf = MemShelf::new(files, List::new(alloc));                 // with the triangle's network under the name t.txt
@@ -190,7 +191,7 @@ pub fn run<Rt: Threads + Wait + Sync, S: Shelf, K: Sink, G: Gate + Sync>(
     out: &mut K,
     gate: &G,
 ) -> Status
-    // What the run comes to has its cause in the words and the files, reading fails only where the shelf counts it, and the
+    // The outcome of the run has its cause in the words and the files, reading fails only where the shelf counts it, and the
     // text is written. The files stay as they are, and no count of faults falls.
     ensures outcome { (status : Status) × (text : List ℕ) × Ends words.now (S.files shelf.old) status text
         × KeepsShelf S.files S.faults (status ≡ Status.ReadFault) shelf.old shelf.new

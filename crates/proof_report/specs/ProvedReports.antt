@@ -1,4 +1,4 @@
--- what a proof comes to: the report of a plan with its branch tree, or the first separation
+-- the outcome of a proof: the report of a plan with its branch tree, or the first separation
 use Rattle.std.specs.Prelude.{◌≡◌, ◌≢◌, ℕ, ◌≤◌, ◌++◌, List, [], All, AllPairs, Contains, flat_map, length, map}
 use Rattle.plan_terms.specs.Terms.{Case, CutLine, IsAble, Notes, total_cost}
 use Rattle.plan_report.specs.Terms.{Certificate, Plan}
@@ -51,7 +51,7 @@ pub record IsTrimmedOnce (p : Case) (notes : Notes) (r : PlannedReport) : Type 0
   pub blocks : List Block
   pub trimmed : IsTrimmedReport p notes r blocks
 
--- ---- what it comes to
+-- ---- its outcome
 
 -- The report is a transcript of one plan command, its one outcome is the proof's plan, and no finding holds of it. The proof is one of
 -- the trimmed plan by a search with this limit that begins with the cuts of the pool and of the plan's certificate; with a limit of 0 its

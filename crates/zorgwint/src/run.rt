@@ -29,7 +29,7 @@ pub fn run<R: Threads + Wait + Sync, S: Shelf, K: Sink, E: Sink, T: Teller + Syn
     beside: &mut E,
     teller: &T,
 ) -> Status
-    // What the run comes to has its cause in the words and the files, reading fails only where the shelf counts it, and text and message
+    // The outcome of the run has its cause in the words and the files, reading fails only where the shelf counts it, and text and message
     // are written. The files stay as they are, and no count of faults falls.
     ensures outcome { (status : Status) × (text : List ℕ) × (message : List ℕ) × EndsFront words.now (S.files shelf.old) status text message
         × KeepsShelf S.files S.faults (status ≡ Status.ReadFault) shelf.old shelf.new

@@ -23,7 +23,7 @@ pub record IsTriable (links : List Link) (cost : ℕ) (box : TreeBox) (c : Choic
   pub choice : IsCheapChoice links cost box c
   pub low : (c.at ≤ 2 ^ 44) ⊎ (c.at ≡ (span_at box c.place.link c.place.module).least)
 
--- a span of several counts stands at this place
+-- a span of several counts is at this place
 abbrev pub IsFreeSpan : List Span → ℕ → Type 0
 IsFreeSpan spans m = (s : Span) × (slice_get spans m ≡ Some s) × (IsFixedSpan s → ⊥)
 

@@ -18,7 +18,7 @@ use Rattle.branch_tree.specs.declared.growth.Turn.TheVariants as turn
 use Rattle.branch_tree.specs.declared.tree.Tree.{Tree}
 use Rattle.box_search.specs.declared.twigs.Twig.{Twig}
 
--- places of a tree of the case with so many splits
+-- places of a tree of the case with this number of splits
 pub record IsGrowing (p : Case) (plan : Plan) (handed : List CutLine) (tested : List Tested) (n : ℕ) (twigs : List Twig) : Type 0 where
   pub placed : AreTwigsOf (IsTwigOf p plan handed tested n) (whole_box p.links ∷ []) twigs
   pub splits : twig_splits twigs ≡ n

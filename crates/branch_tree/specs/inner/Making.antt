@@ -11,7 +11,7 @@ use Rattle.branch_tree.specs.inner.Showing.{all_shown, verdict_of}
 use Rattle.box_search.specs.declared.known.Known.{Known}
 use Rattle.box_search.specs.declared.twigs.Twig.{Twig}
 
--- the same entries, so many at most; or so many of the first cuts alone
+-- the same entries, at most this number; or this number of the first cuts alone
 abbrev pub AreFirstOf : ℕ → List Entry → Known → Type 0
 AreFirstOf most entries k = ((k.entries ≡ entries) × (length entries ≤ most)) ⊎ (k.entries ≡ map entry.Cut (take most (cuts_among entries)))
 
@@ -23,7 +23,7 @@ pub record IsProofMade (plan : Plan) (entries : List Entry) (twigs : List Twig) 
   pub tree : proof.tree ≡ map (moved_node (place_of entries)) (map node_of twigs)
   pub verdict : proof.verdict ≡ verdict_of (all_shown plan.cost twigs)
 
--- what a search comes to, without further lines where none are made
+-- the outcome of a search, without further lines where none are made
 pub record IsProofWith (p : Case) (divides : Bool) (given : Plan) (handed : List CutLine) (limit : ℕ) (proof : Proof) : Type 0 where
   pub proof_is : IsProofOf p given handed limit proof
   pub plain : divides ≡ false → proof.lines ≡ []
