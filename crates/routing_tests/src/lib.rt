@@ -1,4 +1,4 @@
-//! Tests of cuts round sets of nodes, of routings in one state, of the best certificates of cuts, and of the plans that cover shares.
+//! Tests of cuts round sets of nodes, of routings in one state and those that are mended, of the best certificates, and of plans that cover shares.
 #![tactic(auto)]
 
 #[cfg(test)]
@@ -7,6 +7,8 @@ mod certificates;
 mod fixtures;
 #[cfg(test)]
 mod imports;
+#[cfg(test)]
+mod mendings;
 #[cfg(test)]
 mod routings;
 #[cfg(test)]

@@ -1,0 +1,180 @@
+use crate::fixtures::{TRIANGLE, with_single_failures};
+use flow_mending::mended;
+use net_core::{Caps, Flow, LinkId, List, Problem, RouteTask, Routing, StateId, Surviving};
+use std::alloc::Global;
+use worked_networks::DemandRow;
+
+/// A path in the triangle, by the nodes that it passes.
+#[derive(Clone, Copy)]
+enum Way {
+    Ac,
+    Bc,
+    Abc,
+    Bac,
+}
+
+/// A demand, a path of it, and the number of a flow.
+type FlowRow = (u32, Way, u128);
+
+/// Demands of the triangle, a state, the capacities of AB, BC and AC, the denominator and the flows of an earlier routing, and those of the
+/// mended one over the same denominator.
+#[derive(Clone, Copy)]
+struct Mending {
+    demands: &'static [DemandRow],
+    state: u32,
+    caps: [u128; 3],
+    den: u64,
+    earlier: &'static [FlowRow],
+    mended: Option<&'static [FlowRow]>,
+}
+
+/// From A to C.
+const ONE_DEMAND: &[DemandRow] = &[(0, 2, 6000)];
+
+/// From A to C and from B to C.
+const TWO_DEMANDS: &[DemandRow] = &[(0, 2, 3000), (1, 2, 1000)];
+
+/// What is missing goes over AB and BC, the only other path of A and C, or over BC, that of B and C. In state 3 the link AC fails. The links
+/// of C have 5.00 for 6.00 in the second row, and 3.999 for 4.00 in the last one, so no routing carries the demands.
+const MENDINGS: [Mending; 6] = [
+    Mending {
+        demands: ONE_DEMAND,
+        state: 0,
+        caps: [4000, 4000, 2000],
+        den: 1,
+        earlier: &[(0, Way::Ac, 4000), (0, Way::Abc, 2000)],
+        mended: Some(&[(0, Way::Ac, 2000), (0, Way::Abc, 2000), (0, Way::Abc, 2000)]),
+    },
+    Mending {
+        demands: ONE_DEMAND,
+        state: 0,
+        caps: [4000, 3000, 2000],
+        den: 1,
+        earlier: &[(0, Way::Ac, 4000), (0, Way::Abc, 2000)],
+        mended: None,
+    },
+    Mending {
+        demands: ONE_DEMAND,
+        state: 3,
+        caps: [6000, 6000, 6000],
+        den: 1,
+        earlier: &[(0, Way::Ac, 6000)],
+        mended: Some(&[(0, Way::Abc, 6000)]),
+    },
+    Mending {
+        demands: &[(0, 2, 1)],
+        state: 3,
+        caps: [1, 1, 1],
+        den: 2,
+        earlier: &[(0, Way::Ac, 1), (0, Way::Abc, 1)],
+        mended: Some(&[(0, Way::Abc, 1), (0, Way::Abc, 1)]),
+    },
+    Mending {
+        demands: TWO_DEMANDS,
+        state: 3,
+        caps: [3000, 4000, 4000],
+        den: 1,
+        earlier: &[(0, Way::Ac, 3000), (1, Way::Bac, 1000)],
+        mended: Some(&[(0, Way::Abc, 3000), (1, Way::Bc, 1000)]),
+    },
+    Mending {
+        demands: TWO_DEMANDS,
+        state: 3,
+        caps: [3000, 3999, 4000],
+        den: 1,
+        earlier: &[(0, Way::Ac, 3000), (1, Way::Bac, 1000)],
+        mended: None,
+    },
+];
+
+/// The links of a path, where AB, BC and AC are the links 0, 1 and 2.
+fn links(way: Way) -> &'static [LinkId] {
+    match way {
+        Way::Ac => &[LinkId(2)],
+        Way::Bc => &[LinkId(1)],
+        Way::Abc => &[LinkId(0), LinkId(1)],
+        Way::Bac => &[LinkId(0), LinkId(2)],
+    }
+}
+
+/// The flows of rows.
+fn flows(alloc: Global, rows: &[FlowRow]) -> Option<List<Flow>> {
+    let mut flows = List::new(alloc);
+    for i in 0..rows.len() {
+        let path = List::from_slice(alloc, links(rows[i].1)).ok()?;
+        let flow = Flow {
+            demand: rows[i].0,
+            path,
+            num: rows[i].2,
+        };
+        flows.push(flow).ok()?;
+    }
+    Some(flows)
+}
+
+/// Whether the routing has these flows, in this order, over the denominator.
+fn has_flows(routing: &Routing, den: u64, rows: &[FlowRow]) -> bool {
+    let flows = routing.flows.items();
+    if routing.den != den || flows.len() != rows.len() {
+        return false;
+    }
+    for i in 0..rows.len() {
+        let (demand, way, num) = rows[i];
+        let flow = &flows[i];
+        if flow.demand != demand || flow.path.items() != links(way) || flow.num != num {
+            return false;
+        }
+    }
+    true
+}
+
+/// Whether a routing is mended as the row says.
+fn is_mended(alloc: Global, task: &RouteTask, earlier: &Routing, row: &Mending) -> bool {
+    match (mended(alloc, task, earlier), row.mended) {
+        (Ok(Some(routing)), Some(rows)) => has_flows(&routing, row.den, rows),
+        (Ok(None), None) => true,
+        _ => false,
+    }
+}
+
+/// Whether the row's earlier routing is mended as it says, in a problem whose demands are the row's.
+fn is_mended_in(alloc: Global, p: &Problem, row: &Mending) -> bool {
+    let Ok(nums) = List::from_slice(alloc, &row.caps) else {
+        return false;
+    };
+    let Some(flows) = flows(alloc, row.earlier) else {
+        return false;
+    };
+    if row.state >= p.states.count() || nums.len() != p.net.links().len() {
+        return false;
+    }
+    let task = RouteTask {
+        graph: Surviving {
+            net: &p.net,
+            states: &p.states,
+            state: StateId(row.state),
+        },
+        demands: &p.demands,
+        caps: &Caps { scale: 1, nums },
+    };
+    let earlier = Routing {
+        den: row.den,
+        flows,
+    };
+    is_mended(alloc, &task, &earlier, row)
+}
+
+/// The same in the triangle, each of whose links fails alone.
+fn is_mended_there(alloc: Global, row: &Mending) -> bool {
+    match with_single_failures(alloc, 3, &TRIANGLE, row.demands) {
+        Some(p) => is_mended_in(alloc, &p, row),
+        None => false,
+    }
+}
+
+#[test]
+fn routings_are_mended_as_by_hand(rt: HostRuntime) {
+    for i in 0..MENDINGS.len() {
+        assert!(rt; is_mended_there(rt.alloc(), &MENDINGS[i]), "row {i}");
+    }
+}
