@@ -3,7 +3,8 @@ use Rattle.std.specs.Prelude.{◌≡◌, ℕ, ◌+◌, ◌*◌, ◌^◌, ◌≤�
 use Rattle.plan_terms.specs.Terms.{AreCounts, AreWithinLimits, Case, CutLine, Evidence, Link, capacities, total_cost}
 use Rattle.plan_types.specs.declared.plan.Plan.{Plan}
 use Rattle.able_counts.specs.AbleTests.{AreRoutingsWithin, IsWideSomewhere, whole_caps}
-use Rattle.line_check.specs.Terms.{entry, names_by, Tested}
+use Rattle.line_check.specs.Terms.{entry, names_by}
+use Rattle.line_check.specs.declared.tested.Tested.{Tested}
 use Rattle.tree_check.specs.Terms.{IsFixedBox, least_counts, TreeBox, HasBoxValue, module_costs, HoldsNode, IsEvidenceAt}
 use Rattle.tree_check.specs.declared.proof.Node.{Node}
 use Rattle.tree_check.specs.declared.proof.Node.TheVariants.{Split, Closed, Empty, Spent, Stuck}

@@ -8,7 +8,10 @@ use Rattle.plan_swaps.specs.Swaps.{IsCheaperPlan}
 use Rattle.tree_check.specs.Terms.{whole_box, HasBoxValue, HasOpenValue, HoldAllNodes, HoldsNode, IsOpenAt, VerdictFollows, IsWhole, TreeBox, boxes_left, sides_of}
 use Rattle.box_search.specs.Terms.{BoxCert, Node, Split, Closed, Empty, Spent, Stuck, Proof, Verdict, is_split, HasPlanValue, IsSettledNode, IsTwigOf, node_of}
 use Rattle.tree_check.specs.declared.proof.Verdict.TheVariants.{Cheapest, Above}
-use Rattle.line_check.specs.Terms.{NamesLine, sources_of, AreTested, names_by, Inequality, Line, Tested}
+use Rattle.line_check.specs.Terms.{NamesLine, sources_of, AreTested, names_by}
+use Rattle.line_check.specs.declared.inequality.Inequality.{Inequality}
+use Rattle.line_check.specs.declared.line.Line.{Line}
+use Rattle.line_check.specs.declared.tested.Tested.{Tested}
 use Rattle.proof_order.specs.Orders.{cuts_among, lines_among, moved_certificate, moved_line, moved_node, place_of, source_of}
 use Rattle.proof_order.specs.declared.entry.Entry.{Entry}
 use Rattle.proof_order.proofs.NamesKept.{names_are_kept}

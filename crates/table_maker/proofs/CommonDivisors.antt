@@ -5,7 +5,8 @@ use Rattle.std.proofs.lemmas.Nat.Gcd.{dvd_trans}
 use Rattle.std.specs.Int.{IsGcd, ◌∣◌}
 use Rattle.net_core.proofs.Library.{cases_eq, cases_lt}
 use Rattle.plan_terms.specs.Terms.{Link}
-use Rattle.line_check.specs.Terms.{module_number, Inequality, capped}
+use Rattle.line_check.specs.Terms.{module_number, capped}
+use Rattle.line_check.specs.declared.inequality.Inequality.{Inequality}
 
 -- what divides a positive number is positive
 pub divisor_positive : (n d : ℕ) → 0 < n → d ∣ n → 0 < d

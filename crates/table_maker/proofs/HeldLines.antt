@@ -1,7 +1,11 @@
 -- lines that a test says hold
 use Rattle.std.proofs.Common.{◌≡◌, ℕ, ◌*◌, ◌≤◌, ◌<◌, List, All, IsTrue, false, refl, inr}
 use Rattle.plan_terms.specs.Terms.{Case}
-use Rattle.line_check.specs.Terms.{need_of, IsTestedAs, Line, Table, TableKind, Tested}
+use Rattle.line_check.specs.Terms.{need_of, IsTestedAs}
+use Rattle.line_check.specs.declared.line.Line.{Line}
+use Rattle.line_check.specs.declared.line.Line.TheVariants.{Table}
+use Rattle.line_check.specs.declared.line.TableKind.{TableKind}
+use Rattle.line_check.specs.declared.tested.Tested.{Tested}
 use Rattle.table_maker.specs.Made.{IsMissedTable, IsNarrowLine, MayCarryTable, given_at, line_over}
 use Rattle.table_maker.specs.inner.Weighing.{IsLightTable}
 use Rattle.table_maker.specs.declared.task.Part.{Part}

@@ -3,7 +3,12 @@ use Rattle.std.specs.Int.{◌∣◌}
 use Rattle.std.specs.Prelude.{◌≡◌, ◌⊎◌, ℕ, ◌*◌, ◌^◌, ◌≤◌, ◌<◌, false, List, [], ◌∷◌, All, Contains, IsTrue, length, sum_by}
 use Rattle.std.proofs.Common.{inr}
 use Rattle.plan_terms.specs.Terms.{Case, Link, case_of}
-use Rattle.line_check.specs.Terms.{entry, module_number, need_of, names_by, test_at, Inequality, Line, Divided, Table, TableKind, Tested, IsMadeOf, capped, divided_up}
+use Rattle.line_check.specs.Terms.{entry, module_number, need_of, names_by, test_at, IsMadeOf, capped, divided_up}
+use Rattle.line_check.specs.declared.inequality.Inequality.{Inequality}
+use Rattle.line_check.specs.declared.line.Line.{Line}
+use Rattle.line_check.specs.declared.line.Line.TheVariants.{Divided, Table}
+use Rattle.line_check.specs.declared.line.TableKind.{TableKind}
+use Rattle.line_check.specs.declared.tested.Tested.{Tested}
 use Rattle.table_maker.specs.declared.task.Part.{Part}
 use Rattle.table_maker.specs.declared.task.TableTask.{TableTask}
 

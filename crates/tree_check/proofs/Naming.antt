@@ -5,7 +5,9 @@ use Rattle.net_core.proofs.Library.{All-from_recursion, recursion_from_All}
 use Rattle.master_bound.specs.declared.answer.Multiplier.{Multiplier}
 use Rattle.plan_terms.proofs.Lemmas.{bound_unique}
 use Rattle.plan_terms.specs.Terms.{Case, Link}
-use Rattle.line_check.specs.Terms.{AreNamedBy, WeightedLine, Inequality, Tested, IsSoundAt, names_by, test_at, weighed}
+use Rattle.line_check.specs.Terms.{AreNamedBy, WeightedLine, IsSoundAt, names_by, test_at, weighed}
+use Rattle.line_check.specs.declared.inequality.Inequality.{Inequality}
+use Rattle.line_check.specs.declared.tested.Tested.{Tested}
 use Rattle.tree_check.specs.BoxValues.{HasBoxValue, IsBoxValue, value_gains, value_losses}
 use Rattle.tree_check.specs.Proofs.{HasOpenValue, HoldsNode}
 use Rattle.tree_check.specs.Trees.{TreeBox}

@@ -7,7 +7,8 @@ use Rattle.master_bound.specs.declared.answer.Multiplier.{Multiplier}
 use Rattle.tree_check.specs.Boxes.{AreInBox}
 use Rattle.tree_check.specs.BoxValues.{HasBoxValue}
 use Rattle.tree_check.specs.Laws.{CheapestHolds, IsSplitIfAny, OpenLeavesHold}
-use Rattle.line_check.specs.Terms.{AreNamedBy, MeetsLine, WeightedLine, sources_of, Inequality}
+use Rattle.line_check.specs.Terms.{AreNamedBy, MeetsLine, WeightedLine, sources_of}
+use Rattle.line_check.specs.declared.inequality.Inequality.{Inequality}
 use Rattle.tree_check.specs.Proofs.{HoldsNode, IsAcceptedProof, IsOpenAt, VerdictFollows, names_of}
 use Rattle.tree_check.specs.Trees.{IsNodeOf, TreeBox, sides_of}
 use Rattle.tree_check.specs.declared.proof.BoxCert.{BoxCert}

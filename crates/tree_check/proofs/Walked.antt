@@ -4,7 +4,9 @@ use Rattle.net_core.proofs.Library.{All-append, All-cons, All-nil, All-tail, cas
 use Rattle.plan_checker.specs.Terms.{IsLeastPlace}
 use Rattle.plan_terms.specs.Terms.{AreCounts, Case, Link, case_of}
 use Rattle.tree_check.specs.Boxes.{beyond, least_counts, lower_side, span_at, up_to, upper_side, whole_box}
-use Rattle.line_check.specs.Terms.{sources_of, AreTested, names_by, Inequality, Tested}
+use Rattle.line_check.specs.Terms.{sources_of, AreTested, names_by}
+use Rattle.line_check.specs.declared.inequality.Inequality.{Inequality}
+use Rattle.line_check.specs.declared.tested.Tested.{Tested}
 use Rattle.tree_check.specs.Proofs.{FailsAtNode, HasOpenValue, HoldsAtNode, HoldsNode, IsAcceptedProof, IsLeastValue, IsOpenAt, IsUnfounded, VerdictFollows, names_of}
 use Rattle.tree_check.specs.Trees.{IsNodeOf, IsWhole, TreeBox, boxes_left, sides_of}
 use Rattle.tree_check.specs.declared.nodes.Held.{Held}

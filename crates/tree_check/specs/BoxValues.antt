@@ -3,7 +3,8 @@ use Rattle.std.specs.Prelude.{◌≡◌, ◌≢◌, ℕ, ◌+◌, ◌-◌, ◌*�
 use Rattle.std.specs.List.{list_any}
 use Rattle.plan_terms.specs.Terms.{IsBound, Link, sum_below}
 use Rattle.tree_check.specs.Boxes.{span_at, spans_of}
-use Rattle.line_check.specs.Terms.{AreNamedBy, WeightedLine, entry, module_number, module_price, over_modules, Inequality}
+use Rattle.line_check.specs.Terms.{AreNamedBy, WeightedLine, entry, module_number, module_price, over_modules}
+use Rattle.line_check.specs.declared.inequality.Inequality.{Inequality}
 use Rattle.tree_check.specs.declared.boxes.Span.{Span}
 use Rattle.tree_check.specs.declared.proof.BoxCert.{BoxCert}
 

@@ -3,7 +3,8 @@ use Rattle.std.specs.Prelude.{◌≡◌, ℕ, ◌≤◌, List, [], All}
 use Rattle.plan_terms.specs.Terms.{AreCounts, Case, IsAble, Link, total_cost}
 use Rattle.tree_check.specs.Boxes.{AreInBox, IsSplitOf}
 use Rattle.tree_check.specs.BoxValues.{IsBoxValue, IsEmptiedBy}
-use Rattle.line_check.specs.Terms.{MeetsLine, WeightedLine, Inequality}
+use Rattle.line_check.specs.Terms.{MeetsLine, WeightedLine}
+use Rattle.line_check.specs.declared.inequality.Inequality.{Inequality}
 use Rattle.tree_check.specs.Proofs.{IsAcceptedProof}
 use Rattle.tree_check.specs.Trees.{IsNodeOf, IsWhole, TreeBox, sides_of}
 use Rattle.tree_check.specs.declared.proof.Node.{Node}

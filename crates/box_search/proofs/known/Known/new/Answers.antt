@@ -1,6 +1,7 @@
 use Rattle.std.proofs.Common.{◌∙◌, List, subst}
 use Rattle.plan_terms.specs.Terms.{CutLine, case_of}
-use Rattle.line_check.specs.Terms.{sources_of, AreTested, Line}
+use Rattle.line_check.specs.Terms.{sources_of, AreTested}
+use Rattle.line_check.specs.declared.line.Line.{Line}
 use Rattle.box_search.proofs.Knowing.{known_cuts}
 use Rattle.box_search.proofs.known.Known.new.Goals as goal
 
