@@ -1,3 +1,5 @@
+ghost use Rattle.std.specs.Prelude.{◌≡◌, ◌+◌, ◌<◌, length};
+
 use crate::fixtures::{TRIANGLE, with_single_failures};
 use flow_mending::mended;
 use net_core::{Caps, Flow, LinkId, List, Problem, RouteTask, Routing, StateId, Surviving};
@@ -137,6 +139,29 @@ fn is_mended(alloc: Global, task: &RouteTask, earlier: &Routing, row: &Mending) 
     }
 }
 
+/// Whether the earlier routing is mended as the row says, within these capacities.
+fn is_mended_within<'a>(
+    alloc: Global,
+    p: &'a Problem,
+    caps: &'a Caps,
+    earlier: &Routing,
+    row: &Mending,
+) -> bool
+    requires state { row.now.state < length p.now.states.listed + 1 }
+    requires caps { length caps.now.nums ≡ length p.now.net.links }
+{
+    let task = RouteTask {
+        graph: Surviving {
+            net: &p.net,
+            states: &p.states,
+            state: StateId(row.state),
+        },
+        demands: &p.demands,
+        caps,
+    };
+    is_mended(alloc, &task, earlier, row)
+}
+
 /// Whether the row's earlier routing is mended as it says, in a problem whose demands are the row's.
 fn is_mended_in(alloc: Global, p: &Problem, row: &Mending) -> bool {
     let Ok(nums) = List::from_slice(alloc, &row.caps) else {
@@ -148,20 +173,11 @@ fn is_mended_in(alloc: Global, p: &Problem, row: &Mending) -> bool {
     if row.state >= p.states.count() || nums.len() != p.net.links().len() {
         return false;
     }
-    let task = RouteTask {
-        graph: Surviving {
-            net: &p.net,
-            states: &p.states,
-            state: StateId(row.state),
-        },
-        demands: &p.demands,
-        caps: &Caps { scale: 1, nums },
-    };
     let earlier = Routing {
         den: row.den,
         flows,
     };
-    is_mended(alloc, &task, &earlier, row)
+    is_mended_within(alloc, p, &Caps { scale: 1, nums }, &earlier, row)
 }
 
 /// The same in the triangle, each of whose links fails alone.
