@@ -3,7 +3,7 @@ use Rattle.std.proofs.Common.{◌≡◌, ◌≢◌, ℕ, ◌^◌, ◌<◌, ◌�
 use Rattle.net_core.proofs.Library.{All-cons, All-nil, slice_get_within, get_or_from_slice_get}
 use Rattle.plan_terms.specs.Terms.{Demand, LinkId, Caps, Flow, Routing, AreDemands, IsDemand, Graph, Joins, IsFlow, Leads, last_node}
 use Rattle.plan_report.specs.Terms.{IsFlowInForm, IsRoutingInForm}
-use Rattle.flow_router.specs.Answers.{IsRouted}
+use Rattle.separator.specs.Terms.{IsRouted}
 
 module _ (g : Graph) where
   links_known : (a : ℕ) (es : List LinkId) (cs : List ℕ) → Leads (Joins g) a es cs → All (λ e. e.0 < length g.links) es

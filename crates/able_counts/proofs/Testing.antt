@@ -4,7 +4,7 @@ use Rattle.net_core.proofs.Library.{cases_lt, slice_get_within}
 use Rattle.plan_terms.specs.Terms.{Caps, CutLine, Routing, Case, graph_in, AreDemands, Joins, IsCut, Carries, IsSurvivable}
 use Rattle.net_core.proofs.Lists.{some_same}
 use Rattle.route_law.specs.Terms.{AreJoined}
-use Rattle.flow_router.specs.Answers.{IsRouted}
+use Rattle.separator.specs.Terms.{IsRouted}
 use Rattle.able_counts.proofs.FoundForms.{routing_found}
 use Rattle.able_counts.specs.AbleTests.{AreKeptOrWithin, AreRoutingsWithin, IsRoutingOf, IsRoutingWithin, IsStopAt}
 use Rattle.able_counts.specs.declared.stop.Stop.{Stop}

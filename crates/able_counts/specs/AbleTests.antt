@@ -3,7 +3,7 @@ use Rattle.std.specs.Prelude.{◌≡◌, ℕ, ◌+◌, ◌≤◌, List, Some, �
 use Rattle.plan_terms.specs.Terms.{Caps, Routing, Case, graph_in, Joins, AreCounts, AreWithinLimits, capacities, IsCut, Carries, Violates, Evidence}
 use Rattle.plan_report.specs.Terms.{IsRoutingInForm}
 use Rattle.route_law.specs.Terms.{IsLowestRouting}
-use Rattle.flow_router.specs.Answers.{IsEvidenceHere}
+use Rattle.separator.specs.Terms.{IsEvidenceHere}
 use Rattle.able_counts.specs.declared.able_test.AbleTest.{AbleTest}
 use Rattle.able_counts.specs.declared.stop.Stop.{Stop}
 use Rattle.able_counts.specs.declared.stop.Stop.TheVariants.{Cut, Wide}

@@ -1,1 +1,2 @@
 pub mod AbleTests
+pub mod Terms

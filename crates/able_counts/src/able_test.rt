@@ -9,8 +9,8 @@ use crate::routed::state_stop;
 use crate::stop::{Stop, discard, is_cut, later};
 use module_choice::capacities;
 use net_core::{Caps, Copied, Counts, CutLine, Instance, List, NoMemory, Routing, StateId};
+use separator::warm_routing::WarmRouter;
 use std::alloc::Global;
-use warm_routing::WarmRouter;
 
 /// What was learned of counts of modules: cuts, and for each state the last routing.
 /// What it answers is said of the counts alone; what it keeps makes the next answer cheaper.

@@ -18,4 +18,5 @@ mod routed;
 mod stop;
 
 pub use able_test::AbleTest;
+pub use separator;
 pub use stop::Stop;

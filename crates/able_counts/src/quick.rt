@@ -3,9 +3,9 @@ ghost use Rattle.plan_terms.specs.Terms.{case_of};
 ghost use Rattle.able_counts.specs.AbleTests.{IsRoutingOf, IsRoutingWithin, IsStopAt};
 
 use crate::stop::Stop;
-use flow_mending::{is_within, mended};
 use net_core::{Caps, Instance, NoMemory, RouteTask, Routing, StateId};
 use node_sets::grown_set;
+use separator::flow_mending::{is_within, mended};
 use separator::line_of;
 use std::alloc::Global;
 

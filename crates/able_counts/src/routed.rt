@@ -2,18 +2,18 @@ ghost use Rattle.std.specs.Prelude.{◌≡◌, ◌⊎◌, ◌^◌, ◌+◌, ◌<
 ghost use Rattle.plan_terms.specs.Terms.{case_of, graph_in, Caps as CapsOf, Demand, Graph, IsSurvivable};
 ghost use Rattle.route_law.specs.Terms.{AreJoined};
 ghost use Rattle.separator.specs.Findings.{IsFinding};
-ghost use Rattle.warm_routing.specs.WarmAnswers.{IsWarmAnswer};
+ghost use Rattle.separator.specs.Terms.{IsWarmAnswer};
 ghost use Rattle.able_counts.specs.AbleTests.{IsRoutingOf, IsRoutingWithin, IsStopAt};
 
 use crate::stop::Stop;
-use flow_mending::is_within;
-use flow_router::RouteAnswer;
 use net_core::{
     Caps, Copied, Flow, Instance, List, NoMemory, RouteColumn, RouteTask, Routing, StateId,
 };
+use separator::flow_mending::is_within;
+use separator::flow_router::RouteAnswer;
+use separator::warm_routing::{WarmAnswer, WarmRouter};
 use separator::{line_of, separate_state};
 use std::alloc::Global;
-use warm_routing::{WarmAnswer, WarmRouter};
 
 /// A kept basis is given so many turns.
 const TURNS: u32 = 1_000;

@@ -1,4 +1,5 @@
 pub mod Histories
+pub mod Lemmas
 pub mod Reports
 pub mod Shares
 pub mod Snapshots

@@ -8,7 +8,7 @@ use Rattle.plan_types.specs.declared.quality.Quality.{Quality}
 use Rattle.plan_types.specs.declared.quality.Quality.TheVariants.{Tight}
 use Rattle.cut_pool.specs.declared.snapshot.Snapshot.{Snapshot}
 use Rattle.plan_law.specs.LoosePlans.{HasQuality}
-use Rattle.planner.specs.SnapshotPlans.{IsSnapshotPlan}
+use Rattle.session_run.specs.Terms.{IsSnapshotPlan}
 use Rattle.plan_checker.specs.Terms.{HoldNone, plan_findings, IsTight}
 use Rattle.acceptance.specs.Laws.{SnapshotPlansAreAccepted}
 use Rattle.acceptance.proofs.Shares.{tight_by_share}

@@ -9,8 +9,8 @@ use Rattle.plan_types.specs.declared.report.Outcome.{Outcome}
 use Rattle.plan_types.specs.declared.report.Outcome.TheVariants.{Planned, Unsurvivable}
 use Rattle.plan_types.specs.declared.report.Report.{Report}
 use Rattle.cut_pool.specs.Terms.{cut_of_line, cuts_of, demands_left, version_left, case_left}
-use Rattle.separator.specs.Separators.{IsFullHistory, IsSpotIn}
-use Rattle.planner.proofs.Histories.{cuts_both}
+use Rattle.session_run.specs.Terms.{IsFullHistory, IsSpotIn}
+use Rattle.session_run.proofs.Lemmas.{cuts_both}
 use Rattle.plan_checker.specs.Terms.{HoldNone, IsTight}
 use Rattle.report_checker.specs.Outcomes.{IsBelowAllAble, SeparatesNamed, case_at, outcome_findings}
 use Rattle.report_checker.specs.ReportFindings.{HasNoFinding, whole_findings}

@@ -7,7 +7,7 @@ use Rattle.plan_types.specs.declared.plan.Plan.{Plan}
 use Rattle.plan_types.specs.declared.quality.Fractional.{Fractional}
 use Rattle.plan_types.specs.declared.quality.Quality.TheVariants.{Tight}
 use Rattle.cut_pool.specs.declared.snapshot.Snapshot.{Snapshot}
-use Rattle.planner.specs.SnapshotPlans.{IsSnapshotPlan}
+use Rattle.session_run.specs.Terms.{IsSnapshotPlan}
 use Rattle.plan_checker.specs.Terms.{HoldNone, plan_findings, IsTight}
 
 -- A plan for the demands of the case has no finding where it carries them, is costed and certified, has cuts outside the pool

@@ -1,3 +1,4 @@
 pub mod Laws
 pub mod Reports
+pub mod Terms
 pub mod Transcripts

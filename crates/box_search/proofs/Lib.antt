@@ -3,6 +3,7 @@ pub mod Extending
 pub mod FreeValues
 pub mod Knowing
 pub mod LeastCosts
+pub mod Lemmas
 pub mod Loads
 pub mod Looking
 pub mod Lowering

@@ -4,7 +4,7 @@ use Rattle.std.proofs.lemmas.List.{get_or_append_left, get_or_default, get_or_pu
 use Rattle.std.specs.List.{AllZip}
 use Rattle.net_core.proofs.Library.{cases_lt, All-cons, All-head, All-nil, All-push, All-tail, sum_by-cons}
 use Rattle.plan_terms.specs.Terms.{AreCounts, AreWithinLimits, IsModule, Link, Module, capacities, modules_capacity}
-use Rattle.trim_plan.specs.Trimmed.{AreAtMost}
+use Rattle.plan_swaps.specs.Terms.{AreAtMost}
 use Rattle.box_search.specs.inner.Lowering.{HaveRoomFor, IsLoweredLink, modules_at}
 
 -- ---- the counts of a link

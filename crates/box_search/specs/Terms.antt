@@ -1,7 +1,10 @@
 -- The words of this crate, with the types of boxes and proofs, passed on from one place to other crates. Declares nothing.
+pub use Rattle.able_counts.specs.AbleTests.{IsTestOf, IsWideSomewhere, whole_caps}
 pub use Rattle.box_search.specs.Causes.{HasFreeValue, HasPlanValue, IsUnsettled, lines_of_plan}
 pub use Rattle.box_search.specs.Finds.{AreCheaperCounts, AreLow, HaveCounts, IsFoundAt, IsLeafTwig, IsOpenBox, IsSearchBox, IsSettledNode, IsTwigOf, is_split, node_of}
 pub use Rattle.box_search.specs.Searches.{Extends, HasLearned, IsAim, IsKnown, IsOwnCert, IsSearch, IsSoundEntry, aimed, handed_in, most_entries}
+pub use Rattle.plan_swaps.specs.Swaps.{IsCheaperPlan}
+pub use Rattle.plan_swaps.specs.Terms.{IsRoutedPlan, Place}
 pub use Rattle.tree_check.specs.declared.boxes.Span.{Span}
 pub use Rattle.tree_check.specs.declared.proof.BoxCert.{BoxCert}
 pub use Rattle.tree_check.specs.declared.proof.Node.{Node}

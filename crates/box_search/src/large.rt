@@ -3,10 +3,10 @@ ghost use Rattle.plan_terms.specs.Terms.{AreCounts, IsSurvivable, capacities, ca
 ghost use Rattle.able_counts.specs.AbleTests.{AreRoutingsWithin, IsRoutingWithin, IsStopAt, whole_caps};
 
 use able_counts::Stop;
+use able_counts::separator::{line_of, separate_state};
 use flow_router::RouteAnswer;
 use module_choice::capacities;
 use net_core::{Caps, Counts, Instance, List, NoMemory, Routing, StateId};
-use separator::{line_of, separate_state};
 use std::alloc::Global;
 
 /// A routing of a state within capacities, or why there is none.

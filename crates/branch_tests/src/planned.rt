@@ -1,14 +1,13 @@
 //! Plans that the tests begin with.
 ghost use Rattle.std.specs.Prelude.{IfSome, length};
 ghost use Rattle.plan_terms.specs.Terms.{AreDemands, case, case_of, IsSurvivable};
-ghost use Rattle.session_run.specs.Transcripts.{IsTranscript};
-ghost use Rattle.lone_plan.specs.LonePlans.{plan_commands, whole_report};
+ghost use Rattle.proof_report.specs.Terms.{IsTranscript, plan_commands, whole_report};
 ghost use Rattle.trim_plan.specs.Trimmed.{IsRoutedPlan};
 
-use lone_plan::{LonePlan, PlannedReport, plan_once};
 use net_core::{Instance, NoMemory};
 use outside_io::OpenGate;
 use plan_types::Plan;
+use proof_report::lone_plan::{LonePlan, PlannedReport, plan_once};
 use std::alloc::Global;
 use std::sync::Wait;
 use std::thread::Threads;

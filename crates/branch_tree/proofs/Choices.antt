@@ -4,8 +4,7 @@ use Rattle.net_core.proofs.Library.{cases_eq, get_or_from_slice_get, length-map,
 use Rattle.plan_terms.specs.Terms.{AreCounts, IsModule, Link, sum_below}
 use Rattle.tree_check.specs.Terms.{IsFixedSpan, IsSplitOf, any_count, least_counts, span_at, spans_of, module_costs, TreeBox}
 use Rattle.line_check.specs.Inequalities.{entry, module_number, over_modules}
-use Rattle.box_search.specs.Terms.{Span, AreLow}
-use Rattle.trim_plan.specs.declared.lowered.Place.{Place}
+use Rattle.box_search.specs.Terms.{Span, AreLow, Place}
 use Rattle.branch_tree.specs.declared.choice.Choice.{Choice}
 use Rattle.branch_tree.specs.inner.Choosing.{HasFreePlace, IsSplittable, IsTriable}
 use Rattle.branch_tree.specs.inner.Growing.{IsChoiceOf}

@@ -4,9 +4,8 @@ use Rattle.net_core.proofs.Library.{cases_Bool, length-map, slice_get_within, su
 use Rattle.plan_terms.specs.Terms.{Case, CutLine, IsCut}
 use Rattle.plan_types.specs.Terms.{IsCertifiedPlan}
 use Rattle.plan_types.specs.declared.plan.Plan.{Plan}
-use Rattle.plan_swaps.specs.Swaps.{IsCheaperPlan}
+use Rattle.box_search.specs.Terms.{IsCheaperPlan, BoxCert, Node, Split, Closed, Empty, Spent, Stuck, Proof, Verdict, is_split, HasPlanValue, IsSettledNode, IsTwigOf, node_of}
 use Rattle.tree_check.specs.Terms.{whole_box, HasBoxValue, HasOpenValue, HoldAllNodes, HoldsNode, IsOpenAt, VerdictFollows, IsWhole, TreeBox, boxes_left, sides_of}
-use Rattle.box_search.specs.Terms.{BoxCert, Node, Split, Closed, Empty, Spent, Stuck, Proof, Verdict, is_split, HasPlanValue, IsSettledNode, IsTwigOf, node_of}
 use Rattle.tree_check.specs.declared.proof.Verdict.TheVariants.{Cheapest, Above}
 use Rattle.line_check.specs.Terms.{NamesLine, sources_of, AreTested, names_by}
 use Rattle.line_check.specs.declared.inequality.Inequality.{Inequality}

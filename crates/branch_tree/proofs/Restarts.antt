@@ -5,15 +5,12 @@ use Rattle.net_core.proofs.Library.{All-cons, All-head, All-nil, All-tail}
 use Rattle.plan_terms.specs.Terms.{Case, CutLine, IsCut, IsSurvivable}
 use Rattle.plan_types.specs.Terms.{IsCertifiedPlan}
 use Rattle.plan_types.specs.declared.plan.Plan.{Plan}
-use Rattle.plan_swaps.specs.Swaps.{IsCheaperPlan}
-use Rattle.box_search.specs.Terms.{BoxCert, Node, Proof, AreCheaperCounts, Extends, HasLearned, IsAim, IsKnown, IsOwnCert, IsSearch, IsSoundEntry, aimed, handed_in, most_entries, node_of}
+use Rattle.box_search.specs.Terms.{IsCheaperPlan, BoxCert, Node, Proof, AreCheaperCounts, Extends, HasLearned, IsAim, IsKnown, IsOwnCert, IsSearch, IsSoundEntry, aimed, handed_in, most_entries, node_of, IsRoutedPlan, IsTestOf as IsAbleTestOf}
 use Rattle.proof_order.specs.Orders.{cuts_among, moved_line, moved_node, place_of}
 use Rattle.proof_order.specs.declared.entry.Entry.{Entry}
 use Rattle.proof_order.specs.declared.entry.Entry.TheVariants as entry
-use Rattle.trim_plan.specs.Trimmed.{IsRoutedPlan}
-use Rattle.trim_plan.proofs.Plans.{routed_with}
+use Rattle.box_search.proofs.Lemmas.{routed_with}
 use Rattle.branch_tree.specs.Proving.{AreHandedCuts, IsProofOf}
-use Rattle.able_counts.specs.AbleTests.{IsTestOf as IsAbleTestOf}
 use Rattle.branch_tree.specs.inner.Growing.{IsGrownTree}
 use Rattle.branch_tree.specs.inner.Making.{AreFirstOf, IsProofMade, IsProofWith}
 use Rattle.box_search.specs.declared.aim.Aim.{Aim}

@@ -1,3 +1,4 @@
 pub mod Proving
 pub mod FewSplits
+pub mod Terms
 pub mod inner

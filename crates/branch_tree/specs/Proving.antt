@@ -2,11 +2,9 @@
 use Rattle.std.specs.Prelude.{◌≡◌, ℕ, ◌+◌, ◌*◌, ◌^◌, ◌≤◌, ◌<◌, ◌↔◌, List, All, Contains, length, take}
 use Rattle.plan_terms.specs.Terms.{Case, CutLine, IsCut, capacities}
 use Rattle.plan_types.specs.declared.plan.Plan.{Plan}
-use Rattle.able_counts.specs.AbleTests.{IsWideSomewhere, whole_caps}
-use Rattle.plan_swaps.specs.Swaps.{IsCheaperPlan}
+use Rattle.box_search.specs.Terms.{IsWideSomewhere, whole_caps, IsCheaperPlan, BoxCert, Node, Split, Spent, Stuck, Proof, IsUnsettled, lines_of_plan}
 use Rattle.tree_check.specs.Terms.{IsFixedBox, least_counts, IsNodeOf, TreeBox, IsBoxCertificate, module_costs, IsAcceptedProof, IsOpenAt}
 use Rattle.line_check.specs.Inequalities.{entry}
-use Rattle.box_search.specs.Terms.{BoxCert, Node, Split, Spent, Stuck, Proof, IsUnsettled, lines_of_plan}
 use Rattle.tree_check.specs.declared.proof.Verdict.TheVariants.{Above}
 use Rattle.branch_tree.specs.FewSplits.{AreCharged, split_number, split_room}
 

@@ -6,14 +6,14 @@ ghost use Rattle.branch_tree.specs.inner.Choosing.{HasFreePlace, IsCheapChoice, 
 ghost use Rattle.box_search.specs.Terms.{HasFreeValue, AreLow, IsSearchBox, IsKnown, aimed};
 ghost use Rattle.branch_tree.specs.inner.Growing.{IsChoiceOf};
 
-use box_program::spans::is_fixed;
-use box_program::{Amount, Solution};
+use box_search::box_program::spans::is_fixed;
+use box_search::box_program::{Amount, Solution};
+use box_search::trim_plan::Place;
 use box_search::{Aim, Known, OpenBox};
 use net_core::{List, Module, NoMemory};
 use std::alloc::Global;
 use tree_check::boxes::{is_split, lower_side, span_at, upper_side};
 use tree_check::{Boxed, Span};
-use trim_plan::Place;
 
 /// How many modules are tried at each split.
 const TRIED: usize = 8;

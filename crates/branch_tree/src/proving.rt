@@ -1,21 +1,19 @@
 ghost use Rattle.std.specs.Prelude.{◌≡◌, ℕ, List, [], ◌+◌, ◌^◌, ◌≤◌, ◌<◌, IfOk, false, length, map, take};
 ghost use Rattle.plan_terms.specs.Terms.{AreDemands, IsAble, IsSurvivable, case, case_of, total_cost};
 ghost use Rattle.plan_types.specs.Terms.{IsCertifiedPlan};
-ghost use Rattle.trim_plan.specs.Trimmed.{IsRoutedPlan};
-ghost use Rattle.plan_swaps.specs.Swaps.{IsCheaperPlan};
+ghost use Rattle.box_search.specs.Terms.{IsRoutedPlan, IsCheaperPlan, AreCheaperCounts, IsKnown, IsOwnCert, IsSearch, handed_in};
 ghost use Rattle.branch_tree.specs.FewSplits.{AreCharged};
 ghost use Rattle.branch_tree.specs.Proving.{AreHandedCuts, IsProofOf};
-ghost use Rattle.box_search.specs.Terms.{AreCheaperCounts, IsKnown, IsOwnCert, IsSearch, handed_in};
 ghost use Rattle.branch_tree.specs.inner.Making.{AreFirstOf, IsProofMade, IsProofWith};
 
 use crate::growth::{Growth, grown};
 use crate::own::own_cert;
 use crate::tree::{Tree, finished};
-use able_counts::AbleTest;
+use box_search::able_counts::AbleTest;
+use box_search::plan_swaps::swap;
 use box_search::{Aim, Cheaper, Known, MOST_FURTHER, MOST_SET_CUTS, Search, empty_cert};
 use net_core::{Copied, CutLine, Instance, List, Network, NoMemory, States};
 use outside_io::Gate;
-use plan_swaps::swap;
 use plan_types::Plan;
 use proof_order::{Entry, Ordered, in_order};
 use std::alloc::Global;

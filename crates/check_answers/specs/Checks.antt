@@ -2,7 +2,7 @@
 use Rattle.std.specs.Prelude.{◌≡◌, ℕ, ◌⊎◌, List, All, length}
 use Rattle.plan_terms.specs.Terms.{Notes, Case}
 use Rattle.plan_types.specs.declared.report.Report.{Report}
-use Rattle.plan_checker.specs.declared.finding.Finding.{Finding}
+use Rattle.report_checker.specs.Terms.{Finding}
 use Rattle.report_checker.specs.Outcomes.{IsAcceptedOutcome, IsBelowAllAble}
 use Rattle.report_checker.specs.ReportFindings.{HasNoFinding, IsFirstOfReport}
 use Rattle.check_answers.specs.Findings.{accepted_line, rejected_line}

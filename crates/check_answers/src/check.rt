@@ -8,9 +8,9 @@ use crate::answer::Answer;
 use crate::finding::{accepted_line, rejected_line};
 use crate::status::Status;
 use net_core::{NoMemory, Problem};
-use plan_checker::{CheckAnswer, Finding};
 use plan_types::Report;
 use report_checker::check_report;
+use report_checker::plan_checker::{CheckAnswer, Finding};
 use std::alloc::Global;
 
 /// The answer to a report without a finding.

@@ -4,8 +4,8 @@ ghost use Rattle.check_answers.specs.Findings.{demands_of_outcome, demands_there
 
 use net_core::{Bytes, Demand, Link, List, NoMemory, Places};
 use part_names::{demand_name, link_name};
-use plan_checker::Finding;
 use plan_types::Outcome;
+use report_checker::plan_checker::Finding;
 use std::alloc::Global;
 use text_kit::write::{put_decimal, put_money_word};
 

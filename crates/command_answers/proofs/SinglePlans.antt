@@ -2,10 +2,9 @@
 use Rattle.std.proofs.Common.{◌≡◌, ℕ, ◌++◌, List, [], ◌∷◌, codes, decimal, refl, sym, subst, inl, inr}
 use Rattle.plan_terms.specs.Terms.{Notes, Case}
 use Rattle.plan_report.specs.Terms.{state_name, known_to, SpellsReport, report_text}
-use Rattle.session_run.specs.Transcripts.{IsTranscript}
-use Rattle.lone_plan.specs.LonePlans.{IsSeparationOf, plan_commands, whole_report}
-use Rattle.lone_plan.specs.declared.planned.PlannedReport.{PlannedReport}
-use Rattle.lone_plan.proofs.Accepted.{lone_plans_are_accepted}
+use Rattle.plan_import.specs.Terms.{IsTranscript, plan_commands, PlannedReport}
+use Rattle.proof_report.specs.Terms.{IsSeparationOf, whole_report}
+use Rattle.plan_import.proofs.Lemmas.{lone_plans_are_accepted}
 use Rattle.check_answers.specs.Separations.{NamesFirstSeparation}
 use Rattle.command_answers.specs.Answers.{EndsPlan, IsPlanReport, IsSummary, summary}
 use Rattle.check_answers.specs.declared.status.Status.{Status}

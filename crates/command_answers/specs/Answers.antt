@@ -5,17 +5,12 @@ use Rattle.plan_report.specs.Terms.{known_to, SpellsReport, report_text, Plan, Q
 use Rattle.report_checker.specs.Outcomes.{IsBelowAllAble}
 use Rattle.report_checker.specs.ReportFindings.{HasNoFinding}
 use Rattle.session_script.specs.declared.script.Command.{Command}
-use Rattle.session_run.specs.Transcripts.{IsTranscript}
+use Rattle.plan_import.specs.Terms.{IsTranscript, PlannedReport, plan_commands}
 use Rattle.sample_net.specs.Samples.{sample_demands, sample_links, sample_nodes, with_single_failures}
 use Rattle.flow_file.specs.declared.flow.FlowFile.{FlowFile}
 use Rattle.flow_import.specs.declared.fault.ImportFault.{ImportFault}
-use Rattle.lone_plan.specs.declared.planned.PlannedReport.{PlannedReport}
-use Rattle.lone_plan.specs.LonePlans.{plan_commands, whole_report}
+use Rattle.proof_report.specs.Terms.{whole_report, Block, block_lines, IsTrimmedReport, AreCharged}
 use Rattle.plan_import.specs.ImportedPlans.{HasImportFault, IsImportedReport}
-use Rattle.trim_plan.specs.declared.trimming.Block.{Block}
-use Rattle.trimmed_report.specs.BlockLines.{block_lines}
-use Rattle.trimmed_report.specs.TrimmedReports.{IsTrimmedReport}
-use Rattle.branch_tree.specs.FewSplits.{AreCharged}
 use Rattle.proof_report.specs.ProvedReports.{IsProvedReport, proved_report, proof_text}
 use Rattle.proof_report.specs.declared.ending.ProvedReport.{ProvedReport}
 use Rattle.text_kit.specs.Terms.{money_word}

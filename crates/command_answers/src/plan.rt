@@ -1,14 +1,14 @@
 ghost use Rattle.std.specs.Prelude.{◌≡◌, ◌++◌, ◌∷◌, [], IfOk, codes, decimal};
 ghost use Rattle.plan_terms.specs.Terms.{case, case_of};
 ghost use Rattle.plan_report.specs.Terms.{known_of, IsReportInForm, state_name, SpellsReport, report_text};
-ghost use Rattle.session_run.specs.Transcripts.{IsTranscript};
-ghost use Rattle.lone_plan.specs.LonePlans.{IsLoneAnswer, IsSeparationOf, plan_commands, whole_report};
+ghost use Rattle.plan_import.specs.Terms.{IsTranscript, IsLoneAnswer, plan_commands};
+ghost use Rattle.proof_report.specs.Terms.{IsSeparationOf, whole_report};
 ghost use Rattle.command_answers.specs.Answers.{EndsPlan};
 
 use check_answers::{Answer, Status};
-use lone_plan::{LonePlan, PlannedReport, plan_once};
 use net_core::{Instance, Name, Network, NoMemory, Problem, StateId, States};
 use outside_io::Gate;
+use plan_import::lone_plan::{LonePlan, PlannedReport, plan_once};
 use plan_report::write_report;
 use plan_types::Report;
 use separation_texts::separated_line;

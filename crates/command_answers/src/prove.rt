@@ -1,8 +1,7 @@
 ghost use Rattle.std.specs.Prelude.{◌≡◌, ◌≤◌, ◌<◌, ◌↔◌, All, IfOk, IsTrue};
 ghost use Rattle.plan_terms.specs.Terms.{case, case_of};
-ghost use Rattle.lone_plan.specs.LonePlans.{IsSeparationOf};
+ghost use Rattle.proof_report.specs.Terms.{IsSeparationOf, AreCharged};
 ghost use Rattle.proof_report.specs.ProvedReports.{IsProofEnding, IsProvedReport};
-ghost use Rattle.branch_tree.specs.FewSplits.{AreCharged};
 ghost use Rattle.command_answers.specs.Answers.{EndsProve, EndsCharged, free_module_line};
 ghost use Rattle.check_answers.specs.declared.status.Status.{Status};
 

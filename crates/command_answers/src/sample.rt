@@ -1,17 +1,17 @@
 ghost use Rattle.std.specs.Prelude.{◌≡◌, ◌≤◌, ◌+◌, ◌++◌, IfOk, OnOk, decimal, length};
 ghost use Rattle.plan_terms.specs.Terms.{AreDemands, Three, case_of, IsSurvivable};
 ghost use Rattle.sample_net.specs.Samples.{no_notes, sample_demands, sample_links, sample_nodes, with_single_failures};
-ghost use Rattle.session_run.specs.Transcripts.{IsTranscript};
-ghost use Rattle.lone_plan.specs.LonePlans.{plan_commands, whole_report};
+ghost use Rattle.plan_import.specs.Terms.{IsTranscript, plan_commands};
+ghost use Rattle.proof_report.specs.Terms.{whole_report};
 ghost use Rattle.text_kit.specs.Terms.{money_word};
 ghost use Rattle.command_answers.specs.Answers.{IsSummary, quality_word, raw_lines, sample_case, size_line, summary};
 ghost use Rattle.check_answers.specs.declared.status.Status.{Status};
 
 use check_answers::{Answer, Status};
-use lone_plan::{LonePlan, PlannedReport, plan_once};
 use model_reader::single_links;
 use net_core::{Bytes, Demands, Instance, List, Network, NoMemory, Places};
 use outside_io::OpenGate;
+use plan_import::lone_plan::{LonePlan, PlannedReport, plan_once};
 use plan_types::{Plan, Quality};
 use sample_net::{network_text, sample};
 use sndlib_reader::{ReadRefusal, read_network};

@@ -9,7 +9,7 @@ use crate::plan::reported;
 use check_answers::{Answer, Status};
 use net_core::{NoMemory, Problem};
 use outside_io::Gate;
-use session_run::run_session;
+use plan_import::session_run::run_session;
 use session_script::Script;
 use std::alloc::Global;
 use std::sync::Wait;

@@ -1,19 +1,18 @@
 ghost use Rattle.std.specs.Prelude.{IfOk};
 ghost use Rattle.plan_terms.specs.Terms.{case, case_of};
-ghost use Rattle.lone_plan.specs.LonePlans.{IsSeparationOf};
-ghost use Rattle.trimmed_report.specs.TrimmedReports.{IsTrimEnding, IsTrimmedReport};
+ghost use Rattle.proof_report.specs.Terms.{IsSeparationOf, IsTrimEnding, IsTrimmedReport};
 ghost use Rattle.command_answers.specs.Answers.{EndsTrim};
 
 use crate::plan::separated;
 use check_answers::{Answer, Status};
-use lone_plan::PlannedReport;
 use net_core::{Instance, List, Name, NoMemory, Problem, StateId};
 use outside_io::Gate;
+use plan_import::lone_plan::PlannedReport;
+use proof_report::trim_plan::Block;
+use proof_report::trimmed_report::{TrimEnding, trim_once, write_trimmed};
 use std::alloc::Global;
 use std::sync::Wait;
 use std::thread::Threads;
-use trim_plan::Block;
-use trimmed_report::{TrimEnding, trim_once, write_trimmed};
 
 /// The answer of a trimmed plan: its report, and a comment line for each block.
 fn answer_trimmed(

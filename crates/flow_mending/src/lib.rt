@@ -9,5 +9,6 @@ pub mod reach;
 
 pub use counting::if_routed;
 pub use dividing::lowest;
+pub use flow_router;
 pub use loads::is_within;
 pub use mending::{bounded, mended};

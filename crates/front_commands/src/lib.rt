@@ -9,3 +9,5 @@ mod usage;
 mod view;
 
 pub use check_answers::Status;
+pub use front_plans;
+pub use front_views;

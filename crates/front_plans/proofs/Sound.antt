@@ -6,7 +6,7 @@ use Rattle.plan_terms.specs.Terms.{AreDemands, Case, CutLine, Demand, Notes}
 use Rattle.plan_types.specs.Terms.{IsCertifiedPlan}
 use Rattle.plan_report.specs.Terms.{Plan, Outcome, Planned}
 use Rattle.plan_view.specs.Terms.{IsSoundPlan}
-use Rattle.lone_plan.proofs.PlansOf.{lone_plans_carry}
+use Rattle.proof_report.proofs.Lemmas.{lone_plans_carry}
 use Rattle.tree_check.specs.declared.proof.Verdict.{Verdict}
 use Rattle.tree_check.specs.declared.proof.Verdict.TheVariants.{Cheapest, Above}
 use Rattle.proof_report.proofs.Certain.{certified_certain}

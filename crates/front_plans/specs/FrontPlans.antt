@@ -2,11 +2,10 @@
 use Rattle.std.specs.Prelude.{◌≡◌, ℕ, ◌≤◌, ◌<◌, ◌⊎◌, Bool, true, false, Option, None, Some, List, [], ◌++◌, All, codes, length, slice_get, take}
 use Rattle.plan_terms.specs.Terms.{Case, Link, Notes}
 use Rattle.plan_report.specs.Terms.{SpellsReport, known_to, report_text, Outcome}
-use Rattle.lone_plan.specs.LonePlans.{whole_report}
+use Rattle.proof_report.specs.Terms.{whole_report, AreCharged}
 use Rattle.tree_check.specs.declared.proof.Proof.{Proof}
 use Rattle.tree_check.specs.declared.proof.Verdict.{Verdict}
 use Rattle.tree_check.specs.declared.proof.Verdict.TheVariants as verdict
-use Rattle.branch_tree.specs.FewSplits.{AreCharged}
 use Rattle.proof_report.specs.ProvedReports.{IsLinedReport, proof_text, proved_report}
 use Rattle.proof_report.specs.declared.ending.ProvedReport.{ProvedReport}
 use Rattle.check_answers.specs.Separations.{NamesFirstSeparation}

@@ -1,5 +1,5 @@
 ghost use Rattle.std.specs.Prelude.{◌≡◌, ℕ, ◌<◌, ◌↔◌, [], All, IfOk, IsTrue, MatchOption};
-ghost use Rattle.branch_tree.specs.FewSplits.{AreCharged};
+ghost use Rattle.proof_report.specs.Terms.{AreCharged};
 ghost use Rattle.check_answers.specs.declared.status.Status.{Status};
 ghost use Rattle.front_plans.specs.FrontPlans.{IsFirstFreeLink, free_link_message};
 

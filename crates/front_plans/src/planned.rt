@@ -1,6 +1,6 @@
 ghost use Rattle.std.specs.Prelude.{◌≡◌, ◌++◌, ◌∷◌, ◌<◌, ◌^◌, [], All, IfOk, false, length, true};
 ghost use Rattle.plan_report.specs.Terms.{SpellsReport, known_to, report_text, Outcome};
-ghost use Rattle.lone_plan.specs.LonePlans.{whole_report};
+ghost use Rattle.proof_report.specs.Terms.{whole_report};
 ghost use Rattle.view_text.specs.Terms.{HasSoundPlan, HoldsOfSingle, IsFirstBlock, IsReportView, problem_case};
 ghost use Rattle.proof_report.specs.ProvedReports.{IsLinedReport, proof_text, proved_report};
 ghost use Rattle.check_answers.specs.declared.status.Status.{Status};

@@ -1,7 +1,6 @@
 ghost use Rattle.std.specs.Prelude.{ℕ, ◌≤◌, IfOk, IfSome};
 ghost use Rattle.view_text.specs.Terms.{problem_case};
-ghost use Rattle.branch_tree.specs.FewSplits.{AreCharged};
-ghost use Rattle.lone_plan.specs.LonePlans.{IsSeparationOf};
+ghost use Rattle.proof_report.specs.Terms.{AreCharged, IsSeparationOf};
 ghost use Rattle.proof_report.specs.ProvedReports.{IsLinedEnding, IsLinedReport};
 ghost use Rattle.front_plans.specs.FrontPlans.{EndsChargedPlan, EndsPlanForPeople, EndsPlanWithin, IsFirstFreeLink};
 

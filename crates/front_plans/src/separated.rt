@@ -1,7 +1,7 @@
 ghost use Rattle.std.specs.Prelude.{◌≡◌, ◌++◌, ◌∷◌, [], IfOk, OnOk, codes, decimal};
 ghost use Rattle.plan_terms.specs.Terms.{case_of};
 ghost use Rattle.plan_report.specs.Terms.{state_name};
-ghost use Rattle.lone_plan.specs.LonePlans.{IsSeparationOf};
+ghost use Rattle.proof_report.specs.Terms.{IsSeparationOf};
 ghost use Rattle.check_answers.specs.declared.status.Status.{Status};
 ghost use Rattle.front_plans.specs.FrontPlans.{SaysSeparations, separated_words};
 

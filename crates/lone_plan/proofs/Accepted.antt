@@ -5,9 +5,7 @@ use Rattle.plan_terms.specs.Terms.{Demand, Notes, Routing, Case}
 use Rattle.plan_types.specs.Terms.{IsCarryingPlan}
 use Rattle.plan_report.specs.Terms.{AreRoutingsInForm, IsOutcomeInForm, IsReportInForm, known_to, Plan, Planned, Report}
 use Rattle.plan_checker.specs.Terms.{HoldNone}
-use Rattle.report_checker.specs.Outcomes.{IsBelowAllAble, case_at, outcome_findings}
-use Rattle.report_checker.specs.ReportFindings.{HasNoFinding}
-use Rattle.session_run.specs.Transcripts.{IsTranscript}
+use Rattle.acceptance.specs.Terms.{IsBelowAllAble, case_at, outcome_findings, HasNoFinding, IsTranscript}
 use Rattle.acceptance.specs.Reports.{IsSoundOutcomeOf, IsSoundPlanOf}
 use Rattle.acceptance.proofs.Reports.{outcome_none}
 use Rattle.acceptance.proofs.Sound.{none_prop}

@@ -5,7 +5,7 @@ use Rattle.plan_terms.specs.Terms.{Demand, StateId, Entry, Edited, Pooled, Notes
 use Rattle.plan_report.specs.Terms.{Plan, Outcome, Planned, Unsurvivable, Report}
 use Rattle.cut_pool.specs.Terms.{Dated, demands_left, left_by}
 use Rattle.session_script.specs.declared.script.Act.TheVariants as acts
-use Rattle.session_run.specs.Transcripts.{IsOutcomeAfter, IsTranscript, RunsFrom, acts_of, outcome_caller, edit_asked, edit_made, outcomes_of}
+use Rattle.acceptance.specs.Terms.{IsOutcomeAfter, IsTranscript, RunsFrom, acts_of, outcome_caller, edit_asked, edit_made, outcomes_of}
 use Rattle.lone_plan.specs.LonePlans.{IsSeparationOf, plan_commands}
 
 -- ---- callers

@@ -3,7 +3,7 @@ use Rattle.net_core.proofs.Library.{∥∥₁_elim, ∥∥₁_map, props}
 use Rattle.plan_terms.specs.Terms.{Case, graph_in, capacities}
 use Rattle.plan_types.specs.Terms.{IsCarryingPlan}
 use Rattle.plan_types.specs.declared.plan.Plan.{Plan}
-use Rattle.share_covers.proofs.Certain.{carries_certain}
+use Rattle.acceptance.proofs.Lemmas.{carries_certain}
 
 pub carrying_certain : (p : Case) (plan : Plan) → ∥ IsCarryingPlan p plan ∥₁ → IsCarryingPlan p plan
 carrying_certain p plan told = record {

@@ -9,10 +9,9 @@ use Rattle.plan_law.specs.LoosePlans.{HasQuality, IsLooseBy, IsLooseByWidth, Kee
 use Rattle.plan_law.specs.WorkedLists.{Round}
 use Rattle.cut_pool.specs.declared.snapshot.Snapshot.{Snapshot}
 use Rattle.cut_pool.specs.Terms.{case_left}
-use Rattle.planner.specs.SnapshotPlans.{IsSnapshotPlan}
+use Rattle.acceptance.specs.Terms.{IsSnapshotPlan, IsOutcomeAfter, IsPlanBetween, IsPlanned, IsTranscript, RunsFrom}
 use Rattle.session_script.specs.declared.script.Act.{Act}
 use Rattle.session_script.specs.declared.script.Act.TheVariants as acts
-use Rattle.session_run.specs.Transcripts.{IsOutcomeAfter, IsPlanBetween, IsPlanned, IsTranscript, RunsFrom}
 use Rattle.plan_types.specs.Terms.{outcome_position}
 use Rattle.lone_plan.specs.declared.planned.PlannedReport.{PlannedReport}
 use Rattle.lone_plan.specs.Designs.{CheaperRedesignsArePlans}

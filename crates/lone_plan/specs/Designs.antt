@@ -4,7 +4,7 @@ use Rattle.plan_terms.specs.Terms.{Notes, Routing, Case, IsSurvivable}
 use Rattle.plan_types.specs.Terms.{IsCarryingPlan, IsCostedPlan}
 use Rattle.plan_report.specs.Terms.{IsPlanInForm, known_to, Plan}
 use Rattle.route_law.specs.Terms.{IsLowestRouting}
-use Rattle.session_run.specs.Transcripts.{IsTranscript}
+use Rattle.acceptance.specs.Terms.{IsTranscript}
 use Rattle.lone_plan.specs.declared.planned.PlannedReport.{PlannedReport}
 use Rattle.lone_plan.specs.LonePlans.{IsSoundDesign, plan_commands, redesigned, redesigned_plan, whole_report}
 

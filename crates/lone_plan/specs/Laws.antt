@@ -2,9 +2,7 @@
 use Rattle.std.specs.Prelude.{ℕ, List, All}
 use Rattle.plan_terms.specs.Terms.{Notes, Routing, Case}
 use Rattle.plan_report.specs.Terms.{IsReportInForm, known_to, Report}
-use Rattle.report_checker.specs.Outcomes.{IsBelowAllAble}
-use Rattle.report_checker.specs.ReportFindings.{HasNoFinding}
-use Rattle.session_run.specs.Transcripts.{IsTranscript}
+use Rattle.acceptance.specs.Terms.{IsBelowAllAble, HasNoFinding, IsTranscript}
 use Rattle.lone_plan.specs.declared.planned.PlannedReport.{PlannedReport}
 use Rattle.lone_plan.specs.LonePlans.{IsSoundDesign, plan_commands, redesigned, redesigned_plan, whole_report}
 

@@ -1,3 +1,4 @@
 pub mod LonePlans
 pub mod Laws
 pub mod Designs
+pub mod Terms

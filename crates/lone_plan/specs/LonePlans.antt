@@ -6,7 +6,7 @@ use Rattle.plan_types.specs.declared.report.Outcome.TheVariants as outcome
 use Rattle.plan_report.specs.Terms.{AreRoutingsInForm, known_to, Plan, Report}
 use Rattle.session_script.specs.declared.script.Act.TheVariants as act
 use Rattle.session_script.specs.declared.script.Command.{Command}
-use Rattle.session_run.specs.Transcripts.{IsTranscript}
+use Rattle.acceptance.specs.Terms.{IsTranscript}
 use Rattle.lone_plan.specs.declared.lone.LonePlan.{LonePlan}
 use Rattle.lone_plan.specs.declared.lone.LonePlan.TheVariants.{Planned, Separated}
 use Rattle.lone_plan.specs.declared.planned.PlannedReport.{PlannedReport}

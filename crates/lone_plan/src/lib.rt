@@ -6,5 +6,6 @@ pub mod law;
 mod lone;
 mod planned;
 
+pub use acceptance::session_run;
 pub use lone::{LonePlan, plan_once};
 pub use planned::PlannedReport;

@@ -1,13 +1,13 @@
 ghost use Rattle.std.specs.Prelude.{IfOk};
 ghost use Rattle.plan_terms.specs.Terms.{Case, case_of, Notes as Noted};
-ghost use Rattle.session_run.specs.Transcripts.{IsTranscript};
+ghost use Rattle.acceptance.specs.Terms.{IsTranscript};
 ghost use Rattle.lone_plan.specs.LonePlans.{IsLoneAnswer, plan_commands};
 
 use crate::planned::PlannedReport;
+use acceptance::session_run::{run_session, single_plan};
 use net_core::{Copied, Instance, Name, NoMemory, StateId};
 use outside_io::Gate;
 use plan_types::{Outcome, Report};
-use session_run::{run_session, single_plan};
 use std::alloc::Global;
 use std::sync::Wait;
 use std::thread::Threads;

@@ -4,7 +4,7 @@ use Rattle.net_core.proofs.Library.{∥∥₁_elim, props, get_or_default, All-w
 use Rattle.plan_terms.specs.Terms.{Demand, Flow, Routing, Case, graph_in, AreDemands, Joins, IsNetwork, sum_below, AreCounts, AreWithinLimits, capacities, total_cost, Carries, sent}
 use Rattle.net_core.proofs.Sums.{below-le, below-one, below-same, below-swapped, sums-same}
 use Rattle.plan_report.specs.Terms.{IsFlowInForm, IsRoutingInForm, known_to, Plan}
-use Rattle.planner.proofs.InForm.{cost_low, of_list, path_in_form}
+use Rattle.lone_plan.proofs.Lemmas.{cost_low, of_list, path_in_form}
 use Rattle.flow_file.specs.declared.flow.FlowFile.{FlowFile}
 use Rattle.flow_file.specs.declared.flow.LinkFlow.{LinkFlow}
 use Rattle.flow_file.specs.FlowFiles.{AreLinkFlows, IsFlowFile, IsLinkFlow}

@@ -2,7 +2,7 @@
 use Rattle.std.proofs.Common.{◌≢◌, refl, length, ⊎_elim}
 use Rattle.plan_terms.specs.Terms.{Notes, Case, AreDemands, IsNetwork, capacities}
 use Rattle.plan_report.specs.Terms.{known_to}
-use Rattle.session_run.specs.Transcripts.{IsTranscript}
+use Rattle.lone_plan.specs.Terms.{IsTranscript}
 use Rattle.flow_file.specs.declared.flow.FlowFile.{FlowFile}
 use Rattle.flow_file.specs.FlowFiles.{IsFlowFile}
 use Rattle.flow_import.specs.declared.fault.ImportFault.{ImportFault}

@@ -1,2 +1,3 @@
 pub mod Designs
 pub mod Endings
+pub mod Lemmas

@@ -2,7 +2,7 @@
 use Rattle.std.specs.Prelude.{◌≡◌, ◌≢◌}
 use Rattle.plan_terms.specs.Terms.{Notes, Case, capacities}
 use Rattle.plan_types.specs.declared.report.Report.{Report}
-use Rattle.session_run.specs.Transcripts.{IsTranscript}
+use Rattle.lone_plan.specs.Terms.{IsTranscript}
 use Rattle.flow_file.specs.declared.flow.FlowFile.{FlowFile}
 use Rattle.flow_import.specs.declared.fault.ImportFault.{ImportFault}
 use Rattle.flow_import.specs.declared.fault.ImportFault.TheVariants.{NoMemory}

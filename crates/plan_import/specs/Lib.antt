@@ -1,1 +1,2 @@
 pub mod ImportedPlans
+pub mod Terms

@@ -4,3 +4,5 @@
 mod ending;
 
 pub use ending::{ImportEnding, import_plan};
+pub use lone_plan;
+pub use lone_plan::session_run;

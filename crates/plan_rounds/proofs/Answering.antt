@@ -3,7 +3,7 @@ use Rattle.std.proofs.Common.{◌≡◌, ◌≢◌, ℕ, ◌+◌, ◌<◌, ◌�
 use Rattle.net_core.proofs.Library.{cases_lt, map-append, All-head, All-nil, All-push, All-tail, All-weaker, all_pairs_push}
 use Rattle.std.proofs.lemmas.List.{append-nil, append_assoc, length-append, length-map}
 use Rattle.plan_terms.specs.Terms.{Entry, Caps, CutLine, Routing, Case, graph_in, HasShortLengths}
-use Rattle.flow_router.specs.Answers.{IsRouted}
+use Rattle.separator.specs.Terms.{IsRouted}
 use Rattle.cut_pool.specs.Terms.{cut_of_line}
 use Rattle.separator.specs.Separators.{AreStateAnswers, AreViolatedStates, IsAnswerOf, IsSeparatingCut, cut_answered, cuts_answered}
 use Rattle.separator.specs.declared.answers.Separated.{Separated}

@@ -1,5 +1,6 @@
 pub mod Answering
 pub mod Bounding
+pub mod Lemmas
 pub mod Listing
 pub mod Multiplying
 pub mod Opening

@@ -10,7 +10,7 @@ use Rattle.plan_types.specs.declared.quality.Quality.TheVariants.{Tight, Loose}
 use Rattle.plan_types.specs.declared.quality.Share.{Share}
 use Rattle.route_law.specs.Terms.{flows_times, IsRouteEvidence}
 use Rattle.route_law.proofs.Lemmas.{divided_are_wide, divided_are_carried, divided_are_violated}
-use Rattle.flow_router.specs.Answers.{IsEvidenceHere, IsRouted}
+use Rattle.separator.specs.Terms.{IsEvidenceHere, IsRouted}
 use Rattle.master_law.specs.Terms.{IsLeastShare, IsMasterEvidence, IsSameCut, AreUnitPairs, share_caps, share_cost}
 use Rattle.master_bound.specs.Answers.{IsBestOf, IsEvidenceOf}
 use Rattle.master_bound.specs.declared.answer.Best.{Best}

@@ -7,7 +7,7 @@ use Rattle.simplex_law.specs.Terms.{IsWide}
 use Rattle.route_law.specs.Terms.{caps_times, flows_times, IsRouteEvidence, IsLowestRouting, flow_times, over_times, route_bound, route_rows, route_slack, scaled_need}
 use Rattle.route_law.proofs.Lemmas.{divided_are_wide, carried_lowest, divided_are_carried, beside_after, number_evidence}
 use Rattle.master_law.proofs.Shared.{divides_common}
-use Rattle.flow_router.specs.Answers.{IsRouted}
+use Rattle.separator.specs.Terms.{IsRouted}
 use Rattle.plan_rounds.specs.inner.Answered.{AreRoutedStates, IsEvidenceOfState}
 use Rattle.plan_rounds.specs.inner.Sharing.{AreSlackNames, AreUndivided, HasWideNeed, IsUndivided, at_caps}
 use Rattle.separator.proofs.Seeing.{get_more}

@@ -9,7 +9,7 @@ use Rattle.plan_types.specs.declared.quality.Fractional.{Fractional}
 use Rattle.plan_types.specs.declared.quality.Quality.{Quality}
 use Rattle.plan_types.specs.declared.quality.Quality.TheVariants.{Tight, Loose}
 use Rattle.route_law.specs.Terms.{IsRouteEvidence}
-use Rattle.flow_router.specs.Answers.{IsRouted}
+use Rattle.separator.specs.Terms.{IsRouted}
 use Rattle.cut_pool.specs.Terms.{cut_of_line, cuts_of}
 use Rattle.master_law.specs.Terms.{IsLeastShare, IsMasterEvidence, share_caps, share_cost}
 use Rattle.master_bound.specs.Answers.{IsBestOf}

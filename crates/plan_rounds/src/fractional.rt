@@ -1,7 +1,7 @@
 ghost use Rattle.std.specs.Prelude.{◌≡◌, ◌*◌, ◌+◌, ◌<◌, ◌≤◌, ◌^◌, All, IfOk, IfSome, MatchOption, None, length};
 ghost use Rattle.plan_terms.specs.Terms.{graph_in, case_of, DemandSlack, LinkSlack};
 ghost use Rattle.simplex_law.specs.Terms.{AreNames, slack_basis};
-ghost use Rattle.flow_router.specs.Answers.{IsEvidenceHere};
+ghost use Rattle.separator.specs.Terms.{IsEvidenceHere};
 ghost use Rattle.route_law.specs.Terms.{caps_times, beside};
 ghost use Rattle.plan_rounds.specs.inner.Answered.{AreRoutedStates, IsEvidenceOfState};
 ghost use Rattle.plan_rounds.specs.inner.Sharing.{AreSlackNames, HasWideNeed, IsQualityAt, at_caps};

@@ -22,4 +22,6 @@ mod sorting;
 mod undivided;
 mod wide_rounds;
 
+pub use master_bound;
 pub use rounds::{Worked, work_rounds};
+pub use separator;

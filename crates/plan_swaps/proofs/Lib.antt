@@ -1,3 +1,4 @@
+pub mod Lemmas
 pub mod Shapes
 pub mod Starting
 pub mod Swapped

@@ -2,7 +2,7 @@
 use Rattle.std.proofs.Common.{◌≡◌, ◌≤◌, refl, ℕ, Some, slice_get}
 use Rattle.plan_terms.specs.Terms.{Case, Routing, capacities}
 use Rattle.plan_types.specs.declared.plan.Plan.{Plan}
-use Rattle.able_counts.specs.AbleTests.{IsRoutingOf}
+use Rattle.trim_plan.specs.Terms.{IsRoutingOf}
 use Rattle.trim_plan.specs.Trimmed.{IsRoutedPlan}
 use Rattle.trim_plan.proofs.Plans.{plan_routings, routed_with}
 use Rattle.plan_swaps.specs.declared.kept.Kept.{Kept}

@@ -1,2 +1,3 @@
 pub mod Swaps
+pub mod Terms
 pub mod inner

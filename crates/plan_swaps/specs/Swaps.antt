@@ -2,8 +2,7 @@
 use Rattle.std.specs.Prelude.{ℕ, ◌≤◌, ◌⊎◌, List, All}
 use Rattle.plan_terms.specs.Terms.{Case, capacities, total_cost}
 use Rattle.plan_types.specs.declared.plan.Plan.{Plan}
-use Rattle.able_counts.specs.AbleTests.{IsStopAt, whole_caps}
-use Rattle.able_counts.specs.declared.stop.Stop.{Stop}
+use Rattle.trim_plan.specs.Terms.{IsStopAt, whole_caps, Stop}
 use Rattle.trim_plan.specs.Trimmed.{IsPlanButForCounts, IsRoutedPlan}
 
 -- The given plan with other counts, cost and routings: its routings carry the demands in each state, and it costs no more.

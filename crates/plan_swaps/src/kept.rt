@@ -1,6 +1,6 @@
 ghost use Rattle.std.specs.Prelude.{◌≤◌};
 ghost use Rattle.plan_terms.specs.Terms.{case_of, IsSurvivable};
-ghost use Rattle.able_counts.specs.AbleTests.{IsTestOf};
+ghost use Rattle.trim_plan.specs.Terms.{IsTestOf};
 ghost use Rattle.plan_swaps.specs.inner.Searching.{AreAskedCounts, AreCarryingCounts};
 
 use crate::search::Search;

@@ -13,3 +13,4 @@ mod swapping;
 mod swaps;
 
 pub use swapping::{swap, swap_from};
+pub use trim_plan;

@@ -1,6 +1,6 @@
 ghost use Rattle.std.specs.Prelude.{◌≡◌, ◌≤◌, All, OnOk};
 ghost use Rattle.plan_terms.specs.Terms.{case_of, AreCounts, AreWithinLimits, IsSurvivable, capacities, total_cost};
-ghost use Rattle.able_counts.specs.AbleTests.{AreRoutingsWithin, IsTestOf};
+ghost use Rattle.trim_plan.specs.Terms.{AreRoutingsWithin, IsTestOf};
 ghost use Rattle.plan_swaps.specs.Swaps.{AreNoCheaper};
 ghost use Rattle.plan_swaps.specs.inner.Searching.{AreCarryingCounts};
 

@@ -9,11 +9,11 @@ use crate::refusals::Refusals;
 use crate::search::Search;
 use crate::starts::try_starts;
 use crate::swaps::make_cheaper;
-use able_counts::AbleTest;
 use net_core::{Copied, Counts, Instance, List, Network, NoMemory, States};
 use plan_types::{Certificate, Plan};
 use std::alloc::Global;
 use std::mem;
+use trim_plan::able_counts::AbleTest;
 use trim_plan::dearest_first;
 
 /// The cuts of a certificate, which are met at the start.

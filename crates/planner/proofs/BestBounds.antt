@@ -7,7 +7,7 @@ use Rattle.plan_terms.proofs.Lemmas.{bound_same, lowest_positive, alone, certifi
 use Rattle.plan_report.specs.Terms.{IsCertificateLineInForm, IsSpotInForm, CertLine, Spot, Pool, Local}
 use Rattle.cut_pool.specs.Terms.{cut_of_line, cuts_of}
 use Rattle.metric_cut.specs.declared.certificate.OwnCertificate.{OwnCertificate}
-use Rattle.separator.specs.Separators.{IsSpotIn}
+use Rattle.plan_rounds.specs.Terms.{IsSpotIn}
 use Rattle.plan_rounds.specs.declared.rounds.Worked.{Worked}
 use Rattle.planner.specs.SoundPlans.{IsOwnAtMost}
 use Rattle.planner.specs.inner.Candidates.{HaveBounds, IsBestBound, IsBoundOfBest, IsBoundOfCut, IsBoundOfNone, IsOwnCertificate}

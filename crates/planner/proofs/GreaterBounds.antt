@@ -5,10 +5,7 @@ use Rattle.plan_terms.specs.Terms.{Entry, Link, CutLine, Case, IsBound, IsLowest
 use Rattle.plan_terms.proofs.Lemmas.{lowest_positive}
 use Rattle.plan_report.specs.Terms.{IsCertificateLineInForm, CertLine, Spot, Local}
 use Rattle.cut_pool.specs.Terms.{cut_of_line, cuts_of}
-use Rattle.master_bound.specs.Answers.{IsBestOf, cut_at, lines_of}
-use Rattle.master_bound.specs.declared.answer.Best.{Best}
-use Rattle.master_bound.specs.declared.answer.Multiplier.{Multiplier}
-use Rattle.separator.specs.Separators.{IsSpotIn}
+use Rattle.plan_rounds.specs.Terms.{IsBestOf, cut_at, lines_of, Best, Multiplier, IsSpotIn}
 use Rattle.plan_rounds.specs.declared.rounds.Worked.{Worked}
 use Rattle.planner.specs.declared.own_bound.CertifiedBound.{CertifiedBound}
 use Rattle.planner.specs.inner.Candidates.{IsBestBound, IsBoundOfBest}

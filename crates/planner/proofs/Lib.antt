@@ -5,6 +5,7 @@ pub mod EvidenceForms
 pub mod GreaterBounds
 pub mod Histories
 pub mod InForm
+pub mod Lemmas
 pub mod QualityForms
 pub mod SnapshotBounds
 pub mod SnapshotGiven

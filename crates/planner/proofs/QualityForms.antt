@@ -5,7 +5,7 @@ use Rattle.plan_terms.specs.Terms.{Demand, Link, Module, Caps, Flow, Routing, Ar
 use Rattle.module_prices.specs.declared.cheapest.UnitPair.{UnitPair}
 use Rattle.plan_terms.proofs.Lemmas.{product_below}
 use Rattle.plan_report.specs.Terms.{AreCapsInForm, IsFlowInForm, IsRoutingInForm, IsShareInForm, Share}
-use Rattle.flow_router.specs.Answers.{IsRouted}
+use Rattle.share_covers.specs.Terms.{IsRouted}
 use Rattle.master_law.specs.Terms.{AreUnitPairs, IsPairOfLink, share_capacities, share_caps}
 use Rattle.share_covers.specs.InstalledRoutes.{installed_caps}
 use Rattle.planner.proofs.BestBounds.{lowest_small}

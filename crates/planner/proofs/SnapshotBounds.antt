@@ -7,7 +7,7 @@ use Rattle.plan_types.specs.Terms.{lines_of_certificate}
 use Rattle.plan_report.specs.Terms.{CertLine, Spot, Pool, Local}
 use Rattle.cut_pool.specs.Terms.{cut_of_line, cuts_of}
 use Rattle.cut_pool.specs.declared.snapshot.Snapshot.{Snapshot}
-use Rattle.master_bound.specs.declared.answer.Best.{Best}
+use Rattle.plan_rounds.specs.Terms.{Best, IsFullHistory, IsSpotIn}
 use Rattle.master_law.specs.Terms.{share_cost}
 use Rattle.master_law.proofs.Greatest.{greatest_raw}
 use Rattle.master_law.proofs.Own.{bound_rises}
@@ -15,7 +15,6 @@ use Rattle.plan_law.specs.WorkedLists.{HasCut, Round, after_rounds}
 use Rattle.plan_law.proofs.Rounds.{worked_cuts}
 use Rattle.plan_rounds.specs.WorkedRounds.{AreWorkedRounds, EndsBy, IsBestAt, IsBestOfLast}
 use Rattle.plan_rounds.specs.declared.rounds.Worked.{Worked}
-use Rattle.separator.specs.Separators.{IsFullHistory, IsSpotIn}
 use Rattle.planner.specs.SnapshotPlans.{AreHeld, IsSnapshotIn}
 use Rattle.planner.specs.SoundPlans.{AreOpeningAtMost, IsAboveOwnBounds, IsOwnAtMost}
 use Rattle.planner.specs.declared.own_bound.CertifiedBound.{CertifiedBound}

@@ -12,7 +12,7 @@ use Rattle.plan_rounds.specs.declared.rounds.Worked.{Worked}
 use Rattle.plan_rounds.proofs.Rights.{right_low}
 use Rattle.share_covers.specs.declared.choice.Chosen.{Chosen}
 use Rattle.turn_lock.specs.Passes.{Seen}
-use Rattle.separator.specs.Separators.{IsSeenHistory}
+use Rattle.plan_rounds.specs.Terms.{IsSeenHistory}
 use Rattle.planner.specs.SnapshotPlans.{IsSnapshotIn, IsSnapshotPlan}
 use Rattle.planner.specs.declared.own_bound.CertifiedBound.{CertifiedBound}
 use Rattle.planner.specs.inner.Candidates.{HaveBounds}

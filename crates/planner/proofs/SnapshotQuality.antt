@@ -5,8 +5,7 @@ use Rattle.plan_terms.specs.Terms.{Evidence, Route, Master, RouteColumn, WideKin
 use Rattle.module_prices.specs.declared.cheapest.UnitPair.{UnitPair}
 use Rattle.plan_report.specs.Terms.{known_to, AreCapsInForm, IsEvidenceInForm, IsQualityInForm, IsShareInForm, Plan, Wide, Cuts, Fractional, Quality, Tight, Loose, Share}
 use Rattle.route_law.specs.Terms.{IsRouteEvidence}
-use Rattle.master_bound.specs.Answers.{IsBestOf}
-use Rattle.master_bound.specs.declared.answer.Best.{Best}
+use Rattle.plan_rounds.specs.Terms.{IsBestOf, Best}
 use Rattle.master_law.specs.Terms.{IsLeastShare, share_caps, share_cost}
 use Rattle.plan_law.specs.LoosePlans.{HasQuality, IsLooseByWidth, IsWideInState, KeepsUp}
 use Rattle.plan_law.specs.TightPlans.{AreCarriedByShare, CostsAtMostCover, CostsRawValue, IsProperShare}

@@ -8,7 +8,7 @@ use Rattle.plan_report.specs.Terms.{known_to, IsPlanInForm, IsQualityInForm, IsR
 use Rattle.route_law.specs.Terms.{IsLowestRouting}
 use Rattle.cut_pool.specs.declared.snapshot.Snapshot.{Snapshot}
 use Rattle.module_choice.specs.declared.fallback.Fallback.{Fallback}
-use Rattle.master_bound.specs.declared.answer.Best.{Best}
+use Rattle.plan_rounds.specs.Terms.{Best}
 use Rattle.plan_law.specs.LoosePlans.{HasQuality}
 use Rattle.plan_rounds.specs.WorkedRounds.{AreWorkedRounds}
 use Rattle.plan_rounds.specs.declared.rounds.Worked.{Worked}

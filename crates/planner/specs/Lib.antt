@@ -1,3 +1,4 @@
 pub mod SnapshotPlans
 pub mod SoundPlans
+pub mod Terms
 pub mod inner

@@ -8,7 +8,7 @@ use Rattle.cut_pool.specs.declared.snapshot.Snapshot.{Snapshot}
 use Rattle.plan_law.specs.LoosePlans.{IsWorkedPlan}
 use Rattle.plan_rounds.specs.WorkedRounds.{IsWorkedAlone}
 use Rattle.turn_lock.specs.Passes.{Seen}
-use Rattle.separator.specs.Separators.{IsFullHistory, IsSpotIn}
+use Rattle.plan_rounds.specs.Terms.{IsFullHistory, IsSpotIn}
 use Rattle.planner.specs.SoundPlans.{IsAboveOwnBounds, IsBelowFallback, IsLowestPlan}
 use Rattle.planner.specs.declared.answer.PlanAnswer.{PlanAnswer}
 use Rattle.planner.specs.declared.answer.PlanAnswer.TheVariants.{Planned, NotSurvivable}

@@ -1,7 +1,7 @@
 ghost use Rattle.std.specs.Prelude.{◌≡◌, IfOk, OnOk, length};
 ghost use Rattle.plan_terms.specs.Terms.{AreDemands, case, IsSurvivable};
 ghost use Rattle.plan_rounds.specs.WorkedRounds.{IsWorkedAlone};
-ghost use Rattle.separator.specs.Separators.{SeesMore};
+ghost use Rattle.plan_rounds.specs.Terms.{SeesMore};
 ghost use Rattle.planner.specs.SnapshotPlans.{IsSnapshotAnswer, IsSnapshotIn, IsSnapshotPlan, PoolsAlone};
 
 use crate::answer::PlanAnswer;
@@ -13,9 +13,9 @@ use cut_pool::Snapshot;
 use failure_states::first_separated;
 use module_choice::fallback_plan;
 use net_core::{Instance, Network, NoMemory, States};
+use plan_rounds::separator::Separate;
 use plan_rounds::{Worked, work_rounds};
 use plan_types::Plan;
-use separator::Separate;
 use std::alloc::Global;
 
 /// The plan for a snapshot where no state separates a demand.

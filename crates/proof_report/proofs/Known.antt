@@ -7,14 +7,9 @@ use Rattle.plan_terms.specs.Terms.{AreKept, Case, CertificateLine, CutLine, Dema
 use Rattle.plan_types.specs.Terms.{IsCertifiedPlan, lines_of_certificate}
 use Rattle.plan_report.specs.Terms.{IsOutcomeInForm, known_to, CertLine, Planned, Report}
 use Rattle.cut_pool.specs.Terms.{IsLegalHistory, IsPoolAfter, cut_of_line, cuts_of, demands_left}
-use Rattle.session_run.specs.Transcripts.{IsTranscript}
+use Rattle.trimmed_report.specs.Terms.{IsTranscript, IsSoundOutcomeOf, IsSoundPlanOf, PlannedReport, plan_commands, whole_report}
 use Rattle.report_checker.specs.Outcomes.{case_at}
-use Rattle.acceptance.specs.Reports.{IsSoundOutcomeOf, IsSoundPlanOf}
-use Rattle.acceptance.proofs.Histories.{history_cuts}
-use Rattle.acceptance.proofs.Transcripts.{transcript_sound}
-use Rattle.lone_plan.specs.declared.planned.PlannedReport.{PlannedReport}
-use Rattle.lone_plan.specs.LonePlans.{plan_commands, whole_report}
-use Rattle.lone_plan.proofs.Alone.{unmoved}
+use Rattle.trimmed_report.proofs.Lemmas.{history_cuts, transcript_sound, unmoved}
 use Rattle.proof_report.specs.ProvedReports.{AreHandedIn, certificate_cuts}
 
 -- the cuts of a certificate's lines

@@ -2,13 +2,8 @@
 use Rattle.std.proofs.Common.{◌≡◌, ℕ, ◌≤◌, List, arith, subst, sym}
 use Rattle.plan_terms.specs.Terms.{Case, CutLine, Demand, IsAble, Notes, total_cost}
 use Rattle.plan_report.specs.Terms.{AreRoutingsInForm, known_to, Plan}
-use Rattle.session_run.specs.Transcripts.{IsTranscript}
-use Rattle.trim_plan.specs.Trimmed.{IsRoutedPlan}
-use Rattle.lone_plan.specs.declared.planned.PlannedReport.{PlannedReport}
-use Rattle.lone_plan.specs.LonePlans.{IsSoundDesign, plan_commands, redesigned_plan, whole_report}
-use Rattle.lone_plan.proofs.Accepted.{lone_plans_are_accepted}
-use Rattle.lone_plan.proofs.CheaperKept.{cheaper_redesigns_are_plans}
-use Rattle.lone_plan.proofs.PlansOf.{lone_plans_carry}
+use Rattle.trimmed_report.specs.Terms.{IsTranscript, IsRoutedPlan, PlannedReport, IsSoundDesign, plan_commands, redesigned_plan, whole_report}
+use Rattle.trimmed_report.proofs.Lemmas.{lone_plans_are_accepted, cheaper_redesigns_are_plans, lone_plans_carry}
 use Rattle.tree_check.specs.declared.proof.Proof.{Proof}
 use Rattle.tree_check.specs.declared.proof.Verdict.TheVariants.{Cheapest, Above}
 use Rattle.branch_tree.specs.Proving.{IsProofOf}

@@ -1,1 +1,2 @@
 pub mod ProvedReports
+pub mod Terms

@@ -3,11 +3,7 @@ use Rattle.std.specs.Prelude.{◌≡◌, ◌≢◌, ℕ, ◌≤◌, ◌++◌, Li
 use Rattle.plan_terms.specs.Terms.{Case, CutLine, IsAble, Notes, total_cost}
 use Rattle.plan_report.specs.Terms.{Certificate, Plan}
 use Rattle.comment_lines.specs.Comments.{comment_line}
-use Rattle.session_run.specs.Transcripts.{IsTranscript}
-use Rattle.lone_plan.specs.declared.planned.PlannedReport.{PlannedReport}
-use Rattle.lone_plan.specs.Laws.{IsAcceptable}
-use Rattle.lone_plan.specs.LonePlans.{IsSeparationOf, plan_commands, whole_report}
-use Rattle.trim_plan.specs.declared.trimming.Block.{Block}
+use Rattle.trimmed_report.specs.Terms.{IsTranscript, PlannedReport, IsAcceptable, IsSeparationOf, plan_commands, whole_report, Block}
 use Rattle.trimmed_report.specs.TrimmedReports.{IsTrimmedReport}
 use Rattle.tree_check.specs.declared.proof.Proof.{Proof}
 use Rattle.tree_check.specs.declared.proof.Verdict.TheVariants.{Cheapest, Above}

@@ -1,14 +1,13 @@
 ghost use Rattle.std.specs.Prelude.{◌≡◌, ℕ, List, [], ◌≤◌, IfOk, false, length};
 ghost use Rattle.plan_terms.specs.Terms.{AreDemands, IsAble, IsSurvivable, case, case_of, total_cost};
 ghost use Rattle.plan_types.specs.Terms.{IsCertifiedPlan};
-ghost use Rattle.trim_plan.specs.Trimmed.{IsRoutedPlan};
+ghost use Rattle.trimmed_report.specs.Terms.{IsRoutedPlan};
 ghost use Rattle.branch_tree.specs.FewSplits.{AreCharged};
 ghost use Rattle.branch_tree.specs.Proving.{AreHandedCuts, IsProofOf};
 ghost use Rattle.proof_report.specs.ProvedReports.{IsLinedEnding, IsLinedReport, IsProofEnding, IsTrimmedOnce};
 
 use crate::handed::{handed_cuts, work_out};
 use branch_tree::{prove, prove_by_lines};
-use lone_plan::PlannedReport;
 use net_core::{CutLine, Entry, Instance, List, Name, Network, NoMemory, Notes, StateId, States};
 use outside_io::Gate;
 use plan_types::Plan;
@@ -16,6 +15,7 @@ use std::alloc::Global;
 use std::sync::Wait;
 use std::thread::Threads;
 use tree_check::{Proof, Verdict};
+use trimmed_report::lone_plan::PlannedReport;
 use trimmed_report::{TrimEnding, trim_once};
 
 /// The report of one plan command of caller 1, with the proof of its plan apart.

@@ -6,4 +6,6 @@ mod handed;
 mod writer;
 
 pub use ending::{ProofEnding, ProvedReport, prove_once, prove_once_by_lines};
+pub use trimmed_report;
+pub use trimmed_report::{lone_plan, trim_plan};
 pub use writer::{write_lined, write_proved};

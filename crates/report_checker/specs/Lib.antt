@@ -2,4 +2,5 @@ pub mod Journals
 pub mod Pools
 pub mod Outcomes
 pub mod ReportFindings
+pub mod Terms
 pub mod inner

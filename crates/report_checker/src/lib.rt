@@ -8,4 +8,5 @@ mod pool;
 mod report;
 mod walk;
 
+pub use plan_checker;
 pub use report::check_report;

@@ -1,3 +1,4 @@
+pub mod Lemmas
 pub mod Places
 pub mod Seen
 mod Desks

@@ -2,10 +2,10 @@ ghost use Rattle.std.specs.Prelude.{◌≡◌, ◌<◌, IfSome, length};
 ghost use Rattle.plan_terms.specs.Terms.{case_of, IsSurvivable};
 ghost use Rattle.hint_board.specs.Hints.{hint_links};
 
-use flow_router::RouteAnswer;
 use hint_board::HintBoard;
 use net_core::{Caps, Instance, StateId};
 use separator::KnownState;
+use separator::flow_router::RouteAnswer;
 use std::alloc::Global;
 use std::sync::Mutex;
 use std::sync::atomic::{AtomicU32, Ordering};

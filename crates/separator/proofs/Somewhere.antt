@@ -5,11 +5,9 @@ use Rattle.plan_terms.specs.Terms.{Demand, RouteColumn, LinkId, Caps, Listed, Ar
 use Rattle.plan_terms.proofs.Lemmas.{path_alike}
 use Rattle.simplex_law.specs.Terms.{ColumnOf}
 use Rattle.route_law.specs.Terms.{ArePricedLengths, ArePricedSomewhere, IsCarrying, IsRouteColumn}
-use Rattle.flow_router.specs.Answers.{IsViolatedCut}
+use Rattle.warm_routing.specs.Terms.{IsViolatedCut, IsBoundaryCut, IsFoundCutOf}
 use Rattle.metric_cut.specs.declared.cut.Cut.{Cut}
-use Rattle.node_sets.specs.Boundaries.{IsBoundaryCut}
-use Rattle.row_cuts.specs.FoundCuts.{IsFoundCutOf}
-use Rattle.row_cuts.proofs.Founds.{boundary_found}
+use Rattle.warm_routing.proofs.Lemmas.{boundary_found}
 
 -- ---- these links under other states
 

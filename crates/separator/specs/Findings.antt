@@ -1,10 +1,8 @@
 -- what is found of a state at some capacities: that they carry the demands, a cut that they violate, or evidence
 use Rattle.std.specs.Prelude.{List}
 use Rattle.plan_terms.specs.Terms.{Demand, Caps, Graph}
-pub use Rattle.row_cuts.specs.FoundCuts.{IsFoundCutOf}
-use Rattle.flow_router.specs.Answers.{IsEvidenceHere, IsRouted}
-use Rattle.flow_router.specs.declared.answer.RouteAnswer.{RouteAnswer}
-use Rattle.flow_router.specs.declared.answer.RouteAnswer.TheVariants.{Routed, Violated, Wide}
+pub use Rattle.warm_routing.specs.Terms.{IsFoundCutOf}
+use Rattle.warm_routing.specs.Terms.{IsEvidenceHere, IsRouted, RouteAnswer, Routed, Violated, Wide}
 
 module _ (g : Graph) (demands : List Demand) (caps : Caps) where
   -- a routing, a cut that the capacities violate, or evidence of this state and these capacities

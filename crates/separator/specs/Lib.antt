@@ -3,4 +3,5 @@ pub mod Rooms
 pub mod Separators
 pub mod Spots
 pub mod OneByOnes
+pub mod Terms
 pub mod inner

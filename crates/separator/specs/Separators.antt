@@ -5,7 +5,7 @@ use Rattle.plan_terms.specs.Terms.{Demand, Entry, Edited, Pooled, Network, Caps,
 use Rattle.plan_types.specs.declared.certificate.Spot.{Spot}
 use Rattle.plan_types.specs.declared.certificate.Spot.TheVariants.{Pool, Local}
 use Rattle.route_law.specs.Terms.{ArePricedSomewhere}
-use Rattle.flow_router.specs.Answers.{IsEvidenceHere, IsRouted}
+use Rattle.warm_routing.specs.Terms.{IsEvidenceHere, IsRouted}
 use Rattle.turn_lock.specs.Passes.{Seen}
 use Rattle.metric_cut.specs.Cuts.{IsCutOf}
 use Rattle.metric_cut.specs.declared.cut.Cut.{Cut}

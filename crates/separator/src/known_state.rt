@@ -4,10 +4,10 @@ ghost use Rattle.route_law.specs.Terms.{AreJoined};
 ghost use Rattle.separator.specs.Findings.{IsFinding};
 
 use crate::one_state::{route_from, separate_from};
-use flow_router::RouteAnswer;
 use net_core::{Caps, Instance, List, NoMemory, RouteColumn, RouteTask, StateId};
 use std::alloc::Global;
 use warm_routing::WarmRouter;
+use warm_routing::flow_router::RouteAnswer;
 
 /// What is kept of a state from one question to the next: the columns that its last routing program ended with, and the basis that its
 /// last question ended with. It saves work and changes no answer's meaning, so that nothing need be known of it.

@@ -35,3 +35,5 @@ pub use ranges::are_narrow;
 pub use roomy_sets::{NO_ROOM, RoomySets, set_in_state, sets_of_round};
 pub use separating::Separate;
 pub use some_states::{answers_of_both, is_cut};
+pub use warm_routing;
+pub use warm_routing::{flow_mending, flow_router};

@@ -7,8 +7,8 @@ use crate::admission::line_of;
 use crate::ranges::are_narrow;
 use metric_cut::{Cut, violated_by};
 use net_core::{Caps, Instance, List, NoMemory, RouteTask, StateId};
-use node_sets::{RoundSets, round_set};
 use std::alloc::Global;
+use warm_routing::node_sets::{RoundSets, round_set};
 
 /// The parts of a capacity that it is given more, the largest first.
 const PARTS: [u128; 5] = [8, 32, 128, 1_024, 8_192];

@@ -4,9 +4,9 @@ ghost use Rattle.route_law.specs.Terms.{AreJoined};
 ghost use Rattle.separator.specs.Findings.{IsFinding};
 
 use crate::known_state::KnownState;
-use flow_router::RouteAnswer;
 use net_core::{Caps, Instance, List, NoMemory, StateId};
 use std::alloc::Global;
+use warm_routing::flow_router::RouteAnswer;
 
 /// What is kept of the states, from state 0 on.
 #[derive(Drop)]

@@ -3,7 +3,7 @@ use Rattle.std.proofs.Common.{◌≡◌, ◌∙◌, ℕ, ◌+◌, [], ap, length
 use Rattle.net_core.proofs.Library.{All-nil}
 use Rattle.plan_terms.specs.Terms.{Edit, Entry, NoMemory, Case}
 use Rattle.plan_types.specs.declared.report.Outcome.{Outcome}
-use Rattle.separator.specs.Separators.{IsCutEntry}
+use Rattle.separation_workers.specs.Terms.{IsCutEntry}
 use Rattle.session_script.specs.declared.script.Act.TheVariants.{Change, Plan}
 use Rattle.session_script.specs.declared.script.Command.{Command}
 use Rattle.turn_lock.specs.Passes.{Seen}

@@ -7,6 +7,7 @@ mod FormProps
 mod Journals
 mod Meeting
 mod Merging
+pub mod Lemmas
 pub mod OutcomeForms
 mod Planning
 mod Replies

@@ -8,7 +8,7 @@ use Rattle.session_script.specs.declared.script.Act.{Act}
 use Rattle.session_script.specs.declared.script.Act.TheVariants.{Change, Plan}
 use Rattle.session_script.specs.declared.script.Command.{Command}
 use Rattle.session_script.specs.Terms.{IsCommandInForm, IsScript}
-use Rattle.separator.specs.Separators.{IsSpotIn}
+use Rattle.separation_workers.specs.Terms.{IsSpotIn}
 use Rattle.net_core.proofs.Lists.{get_front}
 use Rattle.planner.proofs.Histories.{cuts_both, version_few}
 use Rattle.session_run.specs.Transcripts.{IsOutcomeAfter, RunsFrom, acts_of, outcome_caller, outcomes_of}

@@ -3,16 +3,16 @@ use Rattle.std.proofs.Common.{◌≡◌, ◌∙◌, ◌<◌, [], ◌∷◌, List
 use Rattle.net_core.proofs.Library.{∥∥₁_elim, ∥∥₁_map, props, slice_get_within}
 use Rattle.plan_terms.specs.Terms.{Demand, Entry, NoMemory, Network, States, Case, AreDemands, case, IsCut, IsFirstSeparation}
 use Rattle.plan_types.specs.declared.report.Outcome.{Outcome}
-use Rattle.plan_rounds.specs.WorkedRounds.{IsWorkedAlone, IsWorkedPool}
+use Rattle.planner.specs.Terms.{IsWorkedAlone, IsWorkedPool}
 use Rattle.cut_pool.specs.declared.board.Board.{Board}
 use Rattle.cut_pool.specs.declared.snapshot.Snapshot.{Snapshot}
 use Rattle.cut_pool.specs.Terms.{IsSnapshotOf, opening_case, origin_of, cuts_of, case_left}
-use Rattle.separator.specs.Separators.{SeesMore}
+use Rattle.separation_workers.specs.Terms.{SeesMore}
 use Rattle.planner.specs.declared.answer.PlanAnswer.{PlanAnswer}
 use Rattle.planner.specs.declared.answer.PlanAnswer.TheVariants.{Planned, NotSurvivable}
 use Rattle.planner.specs.SnapshotPlans.{IsSnapshotAnswer, IsSnapshotIn, IsSnapshotPlan, PoolsAlone}
 use Rattle.planner.proofs.Histories.{version_few}
-use Rattle.separator.proofs.Seeing.{sees_none}
+use Rattle.separation_workers.proofs.Lemmas.{sees_none}
 use Rattle.turn_lock.specs.Passes.{Seen, opening_of}
 use Rattle.board_desk.specs.declared.caller.Caller.{Caller}
 use Rattle.board_desk.specs.Turns.{HasTurn, IsSameCaller, board_made, caller_seen}

@@ -7,10 +7,10 @@ use Rattle.cut_pool.specs.Terms.{cuts_of}
 use Rattle.session_script.specs.declared.script.Act.{Act}
 use Rattle.session_script.specs.declared.script.Act.TheVariants.{Change, Plan}
 use Rattle.session_script.specs.declared.script.Command.{Command}
-use Rattle.plan_rounds.specs.WorkedRounds.{IsWorkedPool}
-use Rattle.separator.specs.Separators.{IsCutEntry, IsPartOf}
-use Rattle.separator.proofs.Seeing.{part_few}
-use Rattle.plan_rounds.proofs.OwnPool.{all_cuts}
+use Rattle.planner.specs.Terms.{IsWorkedPool}
+use Rattle.separation_workers.specs.Terms.{IsCutEntry, IsPartOf}
+use Rattle.separation_workers.proofs.Lemmas.{part_few}
+use Rattle.planner.proofs.Lemmas.{all_cuts}
 use Rattle.planner.proofs.Histories.{cuts_both}
 use Rattle.session_run.specs.Transcripts.{IsOutcomeAfter, IsPlanned, RunsFrom, acts_of, outcome_caller, edit_asked, edit_made, outcomes_of}
 use Rattle.plan_types.specs.Terms.{outcome_position}

@@ -8,7 +8,7 @@ use Rattle.cut_pool.specs.Terms.{IsLegalHistory, IsPoolAfter, demands_left, vers
 use Rattle.session_script.specs.declared.script.Act.{Act}
 use Rattle.session_script.specs.declared.script.Act.TheVariants as acts
 use Rattle.session_script.specs.declared.script.Command.{Command}
-use Rattle.plan_rounds.specs.WorkedRounds.{IsWorkedPool}
+use Rattle.planner.specs.Terms.{IsWorkedPool}
 use Rattle.planner.specs.SnapshotPlans.{IsSnapshotPlan}
 
 -- ---- what a caller asks for, and what it gets

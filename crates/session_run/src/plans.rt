@@ -1,7 +1,7 @@
 ghost use Rattle.std.specs.Prelude.{IfOk, length};
 ghost use Rattle.plan_terms.specs.Terms.{AreDemands, case};
 ghost use Rattle.board_desk.specs.Turns.{IsSameCaller, caller_seen};
-ghost use Rattle.separator.specs.Separators.{SeesMore};
+ghost use Rattle.separation_workers.specs.Terms.{SeesMore};
 ghost use Rattle.separation_workers.specs.Callers.{HasSeenHistory};
 ghost use Rattle.planner.specs.SnapshotPlans.{IsSnapshotAnswer, IsSnapshotIn, PoolsAlone};
 ghost use Rattle.session_run.specs.inner.Running.{IsOfSetting, case_made};

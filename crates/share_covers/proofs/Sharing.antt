@@ -8,7 +8,7 @@ use Rattle.route_law.specs.Terms.{IsLowestRouting, flow_times, over_times}
 use Rattle.route_law.proofs.Lemmas.{carried_lowest}
 use Rattle.greedy_router.specs.Left.{IsLeft}
 use Rattle.greedy_router.specs.declared.left.Left.{Left}
-use Rattle.flow_router.specs.Answers.{IsRouted}
+use Rattle.flow_mending.specs.Terms.{IsRouted}
 use Rattle.module_prices.specs.declared.cheapest.UnitPair.{UnitPair}
 use Rattle.plan_types.specs.declared.quality.Fractional.{Fractional}
 use Rattle.plan_types.specs.declared.quality.Quality.{Quality}

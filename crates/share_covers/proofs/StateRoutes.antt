@@ -7,7 +7,7 @@ use Rattle.metric_cut.proofs.Sides.{sum_is_right}
 use Rattle.route_law.specs.Terms.{AreJoined}
 use Rattle.route_law.proofs.Lemmas.{violated_carries_nothing}
 use Rattle.module_choice.proofs.Carrying.{get_cases}
-use Rattle.flow_router.specs.Answers.{IsRouted, IsViolatedCut}
+use Rattle.flow_mending.specs.Terms.{IsRouted, IsViolatedCut}
 
 -- the routings of the first n states
 pub record AreRoutedTo (p : Case) (caps : Caps) (n : ℕ) (routings : List Routing) : Type 0 where

@@ -1,7 +1,7 @@
 -- what the states answer within capacities
 use Rattle.std.specs.Prelude.{◌≡◌, ℕ, ◌+◌, ◌≤◌, List, Some, length, slice_get}
 use Rattle.plan_terms.specs.Terms.{Evidence, Link, Caps, Routing, Case, graph_in, Joins, capacities, Carries}
-use Rattle.flow_router.specs.Answers.{IsEvidenceHere, IsRouted}
+use Rattle.flow_mending.specs.Terms.{IsEvidenceHere, IsRouted}
 use Rattle.share_covers.specs.declared.routes.InstalledRoutes.{InstalledRoutes}
 use Rattle.share_covers.specs.declared.routes.InstalledRoutes.TheVariants.{Routed, Wide, Short}
 

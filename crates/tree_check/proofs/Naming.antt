@@ -2,10 +2,9 @@
 use Rattle.std.proofs.Common.{◌≡◌, ℕ, ◌-◌, false, List, [], ◌∷◌, All, refl, ap, subst, sym, ◌∙◌}
 use Rattle.std.specs.List.{AllByRecursion}
 use Rattle.net_core.proofs.Library.{All-from_recursion, recursion_from_All}
-use Rattle.master_bound.specs.declared.answer.Multiplier.{Multiplier}
+use Rattle.line_check.specs.Terms.{Multiplier, AreNamedBy, WeightedLine, IsSoundAt, names_by, test_at, weighed}
 use Rattle.plan_terms.proofs.Lemmas.{bound_unique}
 use Rattle.plan_terms.specs.Terms.{Case, Link}
-use Rattle.line_check.specs.Terms.{AreNamedBy, WeightedLine, IsSoundAt, names_by, test_at, weighed}
 use Rattle.line_check.specs.declared.inequality.Inequality.{Inequality}
 use Rattle.line_check.specs.declared.tested.Tested.{Tested}
 use Rattle.tree_check.specs.BoxValues.{HasBoxValue, IsBoxValue, value_gains, value_losses}

@@ -2,9 +2,8 @@
 use Rattle.std.proofs.Common.{◌≡◌, ℕ, ◌+◌, ◌*◌, ◌-◌, ◌<◌, ◌≤◌, ◌^◌, List, [], ◌∷◌, Option, None, Some, MatchOption, All, length, subst, sym, arith}
 use Rattle.std.specs.List.{AllByRecursion}
 use Rattle.net_core.proofs.Library.{All-from_recursion, All-map, recursion_from_All}
-use Rattle.master_bound.specs.declared.answer.Multiplier.{Multiplier}
+use Rattle.line_check.specs.Terms.{Multiplier, WeightedLine, test_at, weighed}
 use Rattle.plan_terms.specs.Terms.{IsBound}
-use Rattle.line_check.specs.Terms.{WeightedLine, test_at, weighed}
 use Rattle.line_check.specs.declared.tested.Tested.{Tested}
 use Rattle.tree_check.specs.BoxValues.{AreNear, all_gains, all_losses, asked_right, certain_setups, given_free, value_gains, value_losses}
 use Rattle.tree_check.specs.declared.bounded.Gains.{Gains}

@@ -3,11 +3,10 @@ use Rattle.std.proofs.Common.{◌≡◌, ℕ, ◌≤◌, List, [], ◌∷◌, �
 use Rattle.std.specs.List.{AllByRecursion}
 use Rattle.net_core.proofs.Library.{All-from_recursion, slice_get_within}
 use Rattle.plan_terms.specs.Terms.{Case, IsAble, total_cost}
-use Rattle.master_bound.specs.declared.answer.Multiplier.{Multiplier}
+use Rattle.line_check.specs.Terms.{Multiplier, AreNamedBy, MeetsLine, WeightedLine, sources_of}
 use Rattle.tree_check.specs.Boxes.{AreInBox}
 use Rattle.tree_check.specs.BoxValues.{HasBoxValue}
 use Rattle.tree_check.specs.Laws.{CheapestHolds, IsSplitIfAny, OpenLeavesHold}
-use Rattle.line_check.specs.Terms.{AreNamedBy, MeetsLine, WeightedLine, sources_of}
 use Rattle.line_check.specs.declared.inequality.Inequality.{Inequality}
 use Rattle.tree_check.specs.Proofs.{HoldsNode, IsAcceptedProof, IsOpenAt, VerdictFollows, names_of}
 use Rattle.tree_check.specs.Trees.{IsNodeOf, TreeBox, sides_of}

@@ -1,10 +1,9 @@
 -- a walk, node by node, and what it ends with
 use Rattle.std.proofs.Common.{◌≡◌, ℕ, ◌+◌, ◌<◌, ◌≤◌, true, false, List, [], ◌∷◌, Option, None, Some, inl, inr, ⊎_elim, length, min, slice_get, take, refl, ap, subst, sym, ◌∙◌, arith, take_all}
 use Rattle.net_core.proofs.Library.{All-append, All-cons, All-nil, All-tail, cases_lt, false_from_ne_true, nil_from_length, slice_get_within}
-use Rattle.plan_checker.specs.Terms.{IsLeastPlace}
+use Rattle.line_check.specs.Terms.{IsLeastPlace, sources_of, AreTested, names_by}
 use Rattle.plan_terms.specs.Terms.{AreCounts, Case, Link, case_of}
 use Rattle.tree_check.specs.Boxes.{beyond, least_counts, lower_side, span_at, up_to, upper_side, whole_box}
-use Rattle.line_check.specs.Terms.{sources_of, AreTested, names_by}
 use Rattle.line_check.specs.declared.inequality.Inequality.{Inequality}
 use Rattle.line_check.specs.declared.tested.Tested.{Tested}
 use Rattle.tree_check.specs.Proofs.{FailsAtNode, HasOpenValue, HoldsAtNode, HoldsNode, IsAcceptedProof, IsLeastValue, IsOpenAt, IsUnfounded, VerdictFollows, names_of}

@@ -2,10 +2,9 @@
 use Rattle.std.specs.Prelude.{◌≡◌, ℕ, ◌+◌, ◌≤◌, ◌<◌, ◌⊎◌, ⊤, List, length}
 use Rattle.plan_terms.specs.Terms.{Case, Evidence, Route, Master, Link, capacities}
 use Rattle.plan_report.specs.Terms.{IsRouteEvidenceInForm, known_to}
-use Rattle.plan_checker.specs.Terms.{IsLeastPlace}
+use Rattle.line_check.specs.Terms.{IsLeastPlace, NamesLine, sources_of}
 use Rattle.tree_check.specs.Boxes.{IsFixedBox, IsSplitOf, least_counts}
 use Rattle.tree_check.specs.BoxValues.{HasBoxValue, IsEmptiedBy}
-use Rattle.line_check.specs.Terms.{NamesLine, sources_of}
 use Rattle.line_check.specs.declared.inequality.Inequality.{Inequality}
 use Rattle.tree_check.specs.Trees.{IsNodeOf, IsWhole, TreeBox}
 use Rattle.tree_check.specs.declared.proof.BoxCert.{BoxCert}

@@ -1,4 +1,5 @@
 pub mod Dearest
+pub mod Terms
 pub mod Trimmed
 pub mod Laws
 pub mod inner

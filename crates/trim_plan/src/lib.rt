@@ -18,6 +18,7 @@ mod lowered;
 mod sparing;
 mod trimming;
 
+pub use able_counts;
 pub use able_counts::Stop;
 pub use dearest::{Priced, dearest_first};
 pub use lowered::{Place, module_count, one_less};

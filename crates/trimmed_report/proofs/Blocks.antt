@@ -3,9 +3,7 @@ use Rattle.std.proofs.Common.{ℕ, List, All}
 use Rattle.net_core.proofs.Library.{All-weaker}
 use Rattle.plan_terms.specs.Terms.{Caps, Case, Evidence, Route, Master, graph_in}
 use Rattle.flow_router.specs.Answers.{IsEvidenceHere}
-use Rattle.able_counts.specs.AbleTests.{IsStopAt}
-use Rattle.able_counts.specs.declared.stop.Stop.{Stop}
-use Rattle.able_counts.specs.declared.stop.Stop.TheVariants.{Cut, Wide}
+use Rattle.trim_plan.specs.Terms.{IsStopAt, Stop, Cut, Wide}
 use Rattle.trim_plan.specs.Trimmed.{IsBlockAt, IsTrimmedBy}
 use Rattle.trim_plan.specs.declared.trimming.Block.{Block}
 use Rattle.report_comments.specs.ReportComments.{IsOfRouting}

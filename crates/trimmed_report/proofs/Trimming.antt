@@ -2,7 +2,7 @@
 use Rattle.std.proofs.Common.{List, sym, subst}
 use Rattle.plan_terms.specs.Terms.{Demand, Notes, Case}
 use Rattle.plan_report.specs.Terms.{AreRoutingsInForm, known_to, Plan}
-use Rattle.session_run.specs.Transcripts.{IsTranscript}
+use Rattle.lone_plan.specs.Terms.{IsTranscript}
 use Rattle.trim_plan.specs.Trimmed.{IsRoutedPlan, IsTrimming}
 use Rattle.trim_plan.specs.declared.trimming.Trimmed.{Trimmed}
 use Rattle.lone_plan.specs.declared.planned.PlannedReport.{PlannedReport}

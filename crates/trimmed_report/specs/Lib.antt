@@ -1,2 +1,3 @@
 pub mod BlockLines
+pub mod Terms
 pub mod TrimmedReports

@@ -1,7 +1,7 @@
 -- what a trimming comes to: the report of a plan from which no module can be spared, or the first separation
 use Rattle.std.specs.Prelude.{List}
 use Rattle.plan_terms.specs.Terms.{Notes, Case}
-use Rattle.session_run.specs.Transcripts.{IsTranscript}
+use Rattle.lone_plan.specs.Terms.{IsTranscript}
 use Rattle.trim_plan.specs.declared.trimming.Block.{Block}
 use Rattle.trim_plan.specs.Trimmed.{IsTrimmedBy}
 use Rattle.lone_plan.specs.declared.planned.PlannedReport.{PlannedReport}

@@ -1,13 +1,13 @@
 ghost use Rattle.std.specs.Prelude.{◌∷◌, [], All, OnOk, map};
-ghost use Rattle.able_counts.specs.declared.stop.Stop.TheVariants.{Cut as CutStop};
+ghost use Rattle.trim_plan.specs.Terms.{Cut as CutStop};
 ghost use Rattle.comment_lines.specs.Comments.{AddsLines, AddsSpaced};
 ghost use Rattle.trimmed_report.specs.BlockLines.{IsTold, block_items, stop_items};
 
-use able_counts::Stop;
 use comment_lines::puts::{put_field, put_lengths, put_whole, put_word};
 use net_core::{Bytes, CutLine, Demand, Link, NoMemory};
 use report_comments::{put_evidence, put_link};
 use trim_plan::Block;
+use trim_plan::able_counts::Stop;
 
 /// Puts a cut last.
 fn put_cut(

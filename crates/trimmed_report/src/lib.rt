@@ -6,4 +6,6 @@ mod ending;
 mod writer;
 
 pub use ending::{TrimEnding, trim_once};
+pub use lone_plan;
+pub use trim_plan;
 pub use writer::write_trimmed;

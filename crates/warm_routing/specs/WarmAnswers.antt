@@ -1,7 +1,7 @@
 -- what a kept basis finds of the demands of a state within capacities
 use Rattle.std.specs.Prelude.{List}
 use Rattle.plan_terms.specs.Terms.{Demand, Caps, Graph}
-use Rattle.flow_router.specs.Answers.{IsRouted}
+use Rattle.flow_mending.specs.Terms.{IsRouted}
 use Rattle.row_cuts.specs.FoundCuts.{IsFoundCutOf}
 use Rattle.warm_routing.specs.declared.answer.WarmAnswer.{WarmAnswer}
 use Rattle.warm_routing.specs.declared.answer.WarmAnswer.TheVariants.{Routed, Violated}

@@ -29,4 +29,7 @@ mod start;
 mod turning;
 
 pub use answer::WarmAnswer;
+pub use flow_mending;
+pub use flow_mending::flow_router;
+pub use node_sets;
 pub use router::WarmRouter;

@@ -3,8 +3,7 @@ use Rattle.std.specs.Prelude.{◌≡◌, ℕ, ◌*◌, ◌^◌, ◌≤◌, ◌<�
 use Rattle.plan_terms.specs.Terms.{Link}
 use Rattle.tree_check.specs.Terms.{IsFixedBox, IsFixedSpan, IsSplitOf, span_at, module_costs, TreeBox}
 use Rattle.line_check.specs.Inequalities.{entry}
-use Rattle.box_search.specs.Terms.{Span, HasFreeValue, IsSearchBox}
-use Rattle.trim_plan.specs.declared.lowered.Place.{Place}
+use Rattle.box_search.specs.Terms.{Span, HasFreeValue, IsSearchBox, Place}
 use Rattle.branch_tree.specs.declared.choice.Choice.{Choice}
 
 -- a box that can be split: it has several choices of counts, and the certificate of no lines doesn't close it

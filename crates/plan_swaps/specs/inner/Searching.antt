@@ -1,7 +1,7 @@
 -- counts on the way to cheaper ones
 use Rattle.std.specs.Prelude.{◌≡◌, ℕ, List}
 use Rattle.plan_terms.specs.Terms.{Case, AreCounts, AreWithinLimits, capacities, total_cost}
-use Rattle.able_counts.specs.AbleTests.{AreRoutingsWithin, IsTestOf}
+use Rattle.trim_plan.specs.Terms.{AreRoutingsWithin, IsTestOf}
 use Rattle.plan_swaps.specs.declared.kept.Kept.{Kept}
 use Rattle.plan_swaps.specs.declared.search.Search.{Search}
 

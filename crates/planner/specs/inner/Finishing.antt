@@ -3,9 +3,7 @@ use Rattle.std.specs.Prelude.{◌≡◌, ℕ, ◌*◌, ◌^◌, ◌<◌, ◌≤�
 use Rattle.plan_terms.specs.Terms.{Demand, Link, Case, IsBound}
 use Rattle.plan_report.specs.Terms.{CertLine, Local, Plan, Quality}
 use Rattle.module_choice.specs.declared.fallback.Fallback.{Fallback}
-use Rattle.master_bound.specs.Answers.{cut_at}
-use Rattle.master_bound.specs.declared.answer.Best.{Best}
-use Rattle.master_bound.specs.declared.answer.Multiplier.{Multiplier}
+use Rattle.plan_rounds.specs.Terms.{cut_at, Best, Multiplier}
 use Rattle.share_covers.specs.Choices.{IsChosen, IsQualityOfShare}
 use Rattle.share_covers.specs.declared.choice.Chosen.{Chosen}
 use Rattle.plan_rounds.specs.declared.rounds.Worked.{Worked}

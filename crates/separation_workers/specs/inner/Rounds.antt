@@ -1,7 +1,7 @@
 -- what the workers of a round find
 use Rattle.std.specs.Prelude.{◌≡◌, ℕ, ◌<◌, ◌+◌, ◌⊎◌, ◌++◌, List, [], ◌∷◌, Option, All, IfSome, length}
 use Rattle.plan_terms.specs.Terms.{graph_in, case_of}
-use Rattle.flow_router.specs.declared.answer.RouteAnswer.{RouteAnswer}
+use Rattle.separator.specs.Terms.{RouteAnswer}
 use Rattle.board_desk.specs.declared.caller.Caller.{Caller}
 use Rattle.board_desk.specs.Turns.{IsAtDesk, board_made}
 use Rattle.separator.specs.Findings.{IsFinding}

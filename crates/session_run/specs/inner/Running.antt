@@ -3,7 +3,7 @@ use Rattle.std.specs.Prelude.{◌≡◌, ℕ, ◌+◌, ◌≤◌, ◌++◌, ◌&
 use Rattle.plan_terms.specs.Terms.{Entry, Edited, Pooled, Case}
 use Rattle.text_kit.specs.Terms.{IsEditInForm}
 use Rattle.plan_types.specs.declared.report.Outcome.{Outcome}
-use Rattle.plan_rounds.specs.WorkedRounds.{IsWorkedPool}
+use Rattle.planner.specs.Terms.{IsWorkedPool}
 use Rattle.cut_pool.specs.Terms.{opening_case, cuts_of}
 use Rattle.session_script.specs.declared.script.Command.{Command}
 use Rattle.session_script.specs.Terms.{IsCommandInForm, is_plan}

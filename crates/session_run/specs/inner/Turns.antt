@@ -3,14 +3,14 @@ use Rattle.std.specs.Prelude.{◌≡◌, ℕ, ◌+◌, ◌<◌, ◌++◌, List, 
 use Rattle.plan_terms.specs.Terms.{Demand, Edit, Entry, Edited, Reply, NoMemory, Case, AreDemands, IsCut}
 use Rattle.plan_types.specs.declared.report.Outcome.{Outcome}
 use Rattle.plan_types.specs.declared.report.Outcome.TheVariants as outcomes
-use Rattle.plan_rounds.specs.WorkedRounds.{IsWorkedAlone}
+use Rattle.planner.specs.Terms.{IsWorkedAlone}
 use Rattle.planner.specs.declared.answer.PlanAnswer.{PlanAnswer}
 use Rattle.planner.specs.declared.answer.PlanAnswer.TheVariants.{Planned, NotSurvivable}
 use Rattle.cut_pool.specs.declared.answers.EditAnswer.{EditAnswer}
 use Rattle.cut_pool.specs.declared.answers.EditAnswer.TheVariants as editing
 use Rattle.cut_pool.specs.declared.snapshot.Snapshot.{Snapshot}
 use Rattle.cut_pool.specs.Terms.{IsPoolAfter, demands_left, version_left, case_left}
-use Rattle.separator.specs.Separators.{IsCutEntry, SeesMore}
+use Rattle.separation_workers.specs.Terms.{IsCutEntry, SeesMore}
 use Rattle.session_script.specs.declared.script.Act.{Act}
 use Rattle.session_script.specs.declared.script.Act.TheVariants.{Change, Plan}
 use Rattle.session_script.specs.declared.script.Command.{Command}

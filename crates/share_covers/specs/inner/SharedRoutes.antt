@@ -9,7 +9,7 @@ use Rattle.plan_types.specs.declared.quality.Quality.TheVariants.{Tight, Loose}
 use Rattle.master_law.specs.Terms.{AreUnitPairs}
 use Rattle.route_law.specs.Terms.{IsLowestRouting, over_times}
 use Rattle.plan_law.specs.TightPlans.{CoversShare}
-use Rattle.flow_router.specs.Answers.{IsRouted}
+use Rattle.flow_mending.specs.Terms.{IsRouted}
 use Rattle.share_covers.specs.Choices.{CarriesShare}
 use Rattle.share_covers.specs.InstalledRoutes.{AreRoutedWithin, installed_caps}
 

@@ -2,7 +2,7 @@
 use Rattle.std.specs.Prelude.{◌≡◌, ℕ, ◌≤◌, ◌<◌, ◌⊎◌, ⊤, true, false, Option, None, Some, List, [], ◌∷◌, ◌++◌, All, min, take}
 use Rattle.std.specs.List.{AllZip}
 use Rattle.plan_terms.specs.Terms.{AreCounts, Case, Link, case_of}
-use Rattle.plan_checker.specs.Terms.{IsLeastPlace}
+use Rattle.line_check.specs.Terms.{IsLeastPlace}
 use Rattle.tree_check.specs.Boxes.{least_counts, whole_box}
 use Rattle.tree_check.specs.Proofs.{FailsAtNode, HasOpenValue, HoldsAtNode, HoldsNode, IsMissingAt, IsOpenAt, IsUnfounded}
 use Rattle.tree_check.specs.Testing.{names_in}

@@ -1,7 +1,7 @@
 use Rattle.std.proofs.Common.{IfSome, subst}
 use Rattle.net_core.proofs.Networks.{few_links}
 use Rattle.plan_terms.specs.Terms.{Graph, case_of, graph_of}
-use Rattle.flow_router.specs.Answers.{IsRouted}
+use Rattle.separator.specs.Terms.{IsRouted}
 use Rattle.able_counts.proofs.Testing.{routed_within}
 use Rattle.able_counts.proofs.quick.mended_in.Goals as goal
 

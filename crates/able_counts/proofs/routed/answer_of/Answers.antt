@@ -1,5 +1,5 @@
 use Rattle.std.proofs.Common.{subst}
-use Rattle.warm_routing.specs.WarmAnswers.{IsWarmAnswer}
+use Rattle.separator.specs.Terms.{IsWarmAnswer}
 use Rattle.able_counts.proofs.routed.answer_of.Goals as goal
 
 pub returns-in-Violated : goal.returns-in-Violated

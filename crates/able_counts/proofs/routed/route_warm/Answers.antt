@@ -1,7 +1,7 @@
 use Rattle.std.proofs.Common.{IfSome, subst}
 use Rattle.plan_terms.specs.Terms.{Graph, case_of, graph_of}
 use Rattle.separator.specs.Findings.{IsFinding}
-use Rattle.warm_routing.specs.WarmAnswers.{IsWarmAnswer}
+use Rattle.separator.specs.Terms.{IsWarmAnswer}
 use Rattle.able_counts.proofs.routed.route_warm.Goals as goal
 
 pub returns-in-Some : goal.returns-in-Some

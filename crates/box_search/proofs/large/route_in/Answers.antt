@@ -1,7 +1,7 @@
 use Rattle.std.proofs.Common.{subst, arith}
 use Rattle.net_core.proofs.Networks.{few_links}
 use Rattle.plan_terms.specs.Terms.{case_of, graph_in}
-use Rattle.separator.specs.Findings.{IsFinding}
+use Rattle.able_counts.specs.Terms.{IsFinding}
 use Rattle.able_counts.proofs.Testing.{routed_within, survivable_joins}
 use Rattle.box_search.proofs.large.route_in.Goals as goal
 

@@ -1,7 +1,7 @@
 use Rattle.std.proofs.Common.{List, length, subst, sym}
 use Rattle.plan_terms.specs.Terms.{AreDemands, Demand, IsSurvivable, case, case_of}
 use Rattle.trim_plan.specs.Trimmed.{IsRoutedPlan}
-use Rattle.lone_plan.proofs.PlansOf.{lone_plans_carry}
+use Rattle.proof_report.proofs.Lemmas.{lone_plans_carry}
 use Rattle.branch_tests.proofs.planned.plan_of.Goals as goal
 
 pub returns : goal.returns

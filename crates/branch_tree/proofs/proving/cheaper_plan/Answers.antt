@@ -2,8 +2,7 @@ use Rattle.std.proofs.Common.{◌≡◌, ◌∙◌, ◌<◌, List, ap, subst, sy
 use Rattle.std.proofs.lemmas.Result.{IfOk-weaker}
 use Rattle.plan_terms.specs.Terms.{Demand, IsSurvivable, case, case_of}
 use Rattle.plan_types.specs.declared.plan.Plan.{Plan}
-use Rattle.trim_plan.specs.Trimmed.{IsRoutedPlan}
-use Rattle.plan_swaps.specs.Swaps.{IsCheaperPlan}
+use Rattle.box_search.specs.Terms.{IsRoutedPlan, IsCheaperPlan}
 use Rattle.branch_tree.proofs.Restarts.{made_cheaper, swapped_cheaper}
 use Rattle.branch_tree.proofs.proving.cheaper_plan.Goals as goal
 

@@ -1,6 +1,6 @@
 use Rattle.std.proofs.Common.{◌≡◌, ◌≤◌, length}
 use Rattle.plan_terms.specs.Terms.{case_of}
-use Rattle.plan_swaps.specs.Swaps.{IsCheaperPlan}
+use Rattle.box_search.specs.Terms.{IsCheaperPlan}
 use Rattle.box_search.specs.Searches.{IsSearch, handed_in}
 use Rattle.branch_tree.proofs.proving.proved.Given as goal
 

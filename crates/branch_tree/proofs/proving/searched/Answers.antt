@@ -1,7 +1,7 @@
 use Rattle.std.proofs.Common.{◌≡◌, ◌∙◌, Bool, List, All, Contains, IfOk, Some, ap, arith, length, map, slice_get, subst, sym}
 use Rattle.net_core.proofs.Library.{length-map}
 use Rattle.plan_terms.specs.Terms.{CutLine, Routing, case_of}
-use Rattle.plan_swaps.proofs.Swapped.{plan_carries, routing_of_kept}
+use Rattle.box_search.proofs.Lemmas.{plan_carries, routing_of_kept}
 use Rattle.proof_order.specs.declared.entry.Entry.{Entry}
 use Rattle.proof_order.specs.declared.entry.Entry.TheVariants as entry
 use Rattle.box_search.specs.Searches.{IsOwnCert, handed_in}

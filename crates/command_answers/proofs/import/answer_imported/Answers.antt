@@ -2,7 +2,7 @@ use Rattle.std.proofs.Common.{◌≡◌, inl}
 use Rattle.plan_terms.specs.Terms.{case_of}
 use Rattle.plan_report.specs.Terms.{known_to, SpellsReport, report_text}
 use Rattle.flow_file.specs.declared.flow.FlowFile.{FlowFile}
-use Rattle.lone_plan.specs.LonePlans.{whole_report}
+use Rattle.proof_report.specs.Terms.{whole_report}
 use Rattle.plan_import.specs.ImportedPlans.{IsImportedReport}
 use Rattle.command_answers.specs.Answers.{EndsImported}
 use Rattle.check_answers.specs.declared.answer.Answer.{Answer}

@@ -1,6 +1,6 @@
 use Rattle.std.proofs.Common.{subst}
 use Rattle.plan_terms.specs.Terms.{case_of}
-use Rattle.lone_plan.specs.LonePlans.{IsLoneAnswer}
+use Rattle.plan_import.specs.Terms.{IsLoneAnswer}
 use Rattle.command_answers.proofs.plan.answer_lone.Goals as goal
 
 pub answer_planned-requires : goal.answer_planned-requires

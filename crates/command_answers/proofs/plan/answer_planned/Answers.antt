@@ -1,7 +1,7 @@
 use Rattle.std.proofs.Common.{◌≡◌}
 use Rattle.plan_terms.specs.Terms.{case_of}
 use Rattle.plan_report.specs.Terms.{known_to, SpellsReport, report_text}
-use Rattle.lone_plan.specs.LonePlans.{whole_report}
+use Rattle.proof_report.specs.Terms.{whole_report}
 use Rattle.command_answers.specs.Answers.{EndsPlan}
 use Rattle.check_answers.specs.declared.answer.Answer.{Answer}
 use Rattle.check_answers.specs.declared.status.Status.TheVariants.{Done}

@@ -1,7 +1,7 @@
 use Rattle.std.proofs.Common.{◌≡◌}
 use Rattle.plan_terms.specs.Terms.{case}
 use Rattle.plan_report.specs.Terms.{known_to, SpellsReport, report_text, Report}
-use Rattle.acceptance.proofs.Transcripts.{transcript_accepted}
+use Rattle.plan_import.proofs.Lemmas.{transcript_accepted}
 use Rattle.command_answers.specs.Answers.{IsPrintedReport}
 use Rattle.check_answers.specs.declared.answer.Answer.{Answer}
 use Rattle.command_answers.proofs.Clauses.{both_ok}

@@ -1,6 +1,6 @@
 use Rattle.std.proofs.Common.{subst}
 use Rattle.plan_terms.specs.Terms.{case_of}
-use Rattle.trimmed_report.specs.TrimmedReports.{IsTrimEnding}
+use Rattle.proof_report.specs.Terms.{IsTrimEnding}
 use Rattle.command_answers.proofs.trim.answer_ending.Goals as goal
 
 pub answer_trimmed-requires : goal.answer_trimmed-requires

@@ -1,7 +1,7 @@
 use Rattle.std.proofs.Common.{◌≡◌, ◌∙◌, [], ◌∷◌, Some, ap, arith, length, slice_get, subst, sym}
 use Rattle.plan_terms.specs.Terms.{Notes, Case}
 use Rattle.plan_report.specs.Terms.{Outcome, Report}
-use Rattle.session_run.specs.Transcripts.{IsTranscript}
+use Rattle.acceptance.specs.Terms.{IsTranscript}
 use Rattle.lone_plan.specs.LonePlans.{plan_commands}
 use Rattle.lone_plan.proofs.Alone.{has_one, planned, refused}
 use Rattle.lone_plan.proofs.lone.lone_of.Goals as goal

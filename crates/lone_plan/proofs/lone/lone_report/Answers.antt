@@ -1,6 +1,6 @@
 use Rattle.std.proofs.Common.{IfOk, subst}
 use Rattle.plan_terms.specs.Terms.{case, case_of}
-use Rattle.session_run.specs.Transcripts.{IsTranscript}
+use Rattle.acceptance.specs.Terms.{IsTranscript}
 use Rattle.lone_plan.proofs.lone.lone_report.Goals as goal
 
 pub returns : goal.returns

@@ -1,6 +1,6 @@
 use Rattle.std.proofs.Common.{List, ℕ, subst, sym}
 use Rattle.plan_terms.specs.Terms.{case_of}
-use Rattle.able_counts.specs.AbleTests.{IsTestOf}
+use Rattle.trim_plan.specs.Terms.{IsTestOf}
 use Rattle.trim_plan.specs.Trimmed.{AreAtMost}
 use Rattle.trim_plan.proofs.AtMost.{limits_at_most, one_less_at_most, shape_at_most}
 use Rattle.plan_swaps.proofs.sparing.take_off.Goals as goal

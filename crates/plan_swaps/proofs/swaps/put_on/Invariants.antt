@@ -1,6 +1,6 @@
 use Rattle.std.proofs.Common.{◌≤◌}
 use Rattle.plan_terms.specs.Terms.{case_of}
-use Rattle.able_counts.specs.AbleTests.{IsTestOf}
+use Rattle.trim_plan.specs.Terms.{IsTestOf}
 use Rattle.plan_swaps.specs.inner.Searching.{AreCarryingCounts}
 use Rattle.plan_swaps.proofs.swaps.put_on.Given as goal
 

@@ -1,4 +1,4 @@
-use Rattle.separator.proofs.Seeing.{sees_none}
+use Rattle.plan_rounds.proofs.Lemmas.{sees_none}
 use Rattle.planner.proofs.on_snapshot.plan_snapshot.Goals as goal
 
 pub returns-in_err-separation-clause-more : goal.returns-in_err-separation-clause-more

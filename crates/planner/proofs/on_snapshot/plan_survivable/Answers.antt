@@ -1,6 +1,6 @@
 use Rattle.std.proofs.Common.{All, List, refl, subst}
 use Rattle.plan_terms.specs.Terms.{CutLine, HasShortLengths}
-use Rattle.separator.proofs.Seeing.{sees_none}
+use Rattle.plan_rounds.proofs.Lemmas.{sees_none}
 use Rattle.planner.proofs.SnapshotGiven.{bounds_known, made_sound, multipliers_known, pool_few, pool_known, shares_known, worked_for}
 use Rattle.planner.proofs.on_snapshot.plan_survivable.Goals as goal
 

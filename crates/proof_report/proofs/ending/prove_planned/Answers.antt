@@ -3,8 +3,8 @@ use Rattle.plan_terms.specs.Terms.{AreDemands, CutLine, Demand, IsAble, IsCut, I
 use Rattle.net_core.proofs.Library.{length-map}
 use Rattle.plan_types.specs.Terms.{IsCertifiedPlan}
 use Rattle.plan_types.specs.declared.certificate.CertLine.{CertLine}
-use Rattle.trim_plan.specs.Trimmed.{IsRoutedPlan}
-use Rattle.lone_plan.proofs.PlansOf.{lone_plans_carry}
+use Rattle.trimmed_report.specs.Terms.{IsRoutedPlan}
+use Rattle.trimmed_report.proofs.Lemmas.{lone_plans_carry}
 use Rattle.tree_check.specs.declared.proof.Verdict.TheVariants.{Cheapest, Above}
 use Rattle.branch_tree.specs.Proving.{AreHandedCuts, IsProofOf}
 use Rattle.proof_report.proofs.Certain.{certified_certain}

@@ -2,7 +2,7 @@ use Rattle.std.proofs.Common.{◌++◌, ◌∙◌, ◌≡◌, List, ℕ, ap, sub
 use Rattle.plan_terms.specs.Terms.{case_of}
 use Rattle.plan_report.specs.Terms.{IsReportInForm, SpellsReport, known_to, report_text, Report}
 use Rattle.comment_lines.specs.Comments.{AddsLines}
-use Rattle.lone_plan.specs.LonePlans.{whole_report}
+use Rattle.trimmed_report.specs.Terms.{whole_report}
 use Rattle.report_comments.proofs.Spelling.{reports_take_comments}
 use Rattle.tree_check.specs.declared.proof.Proof.{Proof}
 use Rattle.tree_lines.specs.TreeLines.{IsToldProof, proof_lines}

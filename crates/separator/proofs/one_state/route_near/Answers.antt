@@ -1,6 +1,6 @@
 use Rattle.std.proofs.Common.{subst}
 use Rattle.plan_terms.specs.Terms.{graph_of}
-use Rattle.flow_router.specs.Answers.{IsRouteAnswer}
+use Rattle.warm_routing.specs.Terms.{IsRouteAnswer}
 use Rattle.separator.proofs.Somewhere.{found_cut}
 use Rattle.separator.proofs.one_state.route_near.Goals as goal
 

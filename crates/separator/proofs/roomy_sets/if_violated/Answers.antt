@@ -1,6 +1,6 @@
 use Rattle.std.proofs.Common.{◌*◌, ◌<◌, subst, sum_by, zip}
 use Rattle.plan_terms.specs.Terms.{graph_in, case_of, Violates}
-use Rattle.node_sets.proofs.Boundaries.{violated_at}
+use Rattle.warm_routing.proofs.Lemmas.{violated_at}
 use Rattle.separator.proofs.roomy_sets.if_violated.Goals as goal
 
 pub returns-then-violated_by : goal.returns-then-violated_by

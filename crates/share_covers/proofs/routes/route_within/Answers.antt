@@ -1,6 +1,6 @@
 use Rattle.std.proofs.Common.{◌+◌, arith, subst, sym}
 use Rattle.plan_terms.specs.Terms.{graph_in, case_of}
-use Rattle.flow_router.specs.Answers.{IsRouteAnswer}
+use Rattle.flow_mending.specs.Terms.{IsRouteAnswer}
 use Rattle.share_covers.proofs.StateRoutes.{AreRoutedTo, routed_more, short_state, survivable_joined}
 use Rattle.share_covers.proofs.routes.route_within.Goals as goal
 

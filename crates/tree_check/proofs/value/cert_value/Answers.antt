@@ -1,5 +1,5 @@
 use Rattle.std.proofs.Common.{◌≡◌, ℕ, true, false, List, Option, None, Some, IsNone, MatchOption, subst, sym}
-use Rattle.master_bound.specs.declared.answer.Multiplier.{Multiplier}
+use Rattle.line_check.specs.Terms.{Multiplier}
 use Rattle.tree_check.specs.BoxValues.{IsBoxValue}
 use Rattle.line_check.specs.Testing.{weighed}
 use Rattle.tree_check.proofs.value.cert_value.Goals as goal

@@ -1,0 +1,3 @@
+-- The lemmas of other crates that crates above cite, passed on from one place. Declares nothing.
+pub use Rattle.plan_swaps.proofs.Lemmas.{routed_with}
+pub use Rattle.plan_swaps.proofs.Swapped.{plan_carries, routing_of_kept}

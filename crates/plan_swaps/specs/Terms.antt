@@ -1,0 +1,3 @@
+-- The words of this crate's contracts from other crates, passed on from one place to crates above. Declares nothing.
+pub use Rattle.trim_plan.specs.Trimmed.{AreAtMost, IsRoutedPlan}
+pub use Rattle.trim_plan.specs.declared.lowered.Place.{Place}
