@@ -1,8 +1,7 @@
 -- numbers that divide all numbers of lines
 use Rattle.std.specs.Prelude.{ℕ, ◌-◌, ◌↔◌, List, All}
 use Rattle.std.specs.Int.{◌∣◌}
-use Rattle.line_check.specs.declared.inequality.Inequality.{Inequality}
-use Rattle.line_check.specs.declared.tested.Tested.{Tested}
+use Rattle.tree_check.specs.Terms.{Inequality, Tested}
 
 -- a number divides each coefficient of a line, and what the line asks for beyond what is given
 abbrev pub DividesLine : ℕ → Inequality → Type 0

@@ -3,8 +3,8 @@ ghost use Rattle.std.specs.Int.{◌∣◌};
 ghost use Rattle.box_program.specs.Divisors.{IsCommonUnit, IsDivisorWith};
 
 use checked_fraction::gcd;
-use line_check::{Inequality, Tested};
 use net_core::{Link, List, Module};
+use tree_check::line_check::{Inequality, Tested};
 
 /// The greatest number that divides another one and these.
 fn divisor_among(unit: u128, numbers: &[u128]) -> u128

@@ -1,6 +1,6 @@
 ghost use Rattle.std.specs.Prelude.{◌≡◌, ◌+◌, ◌<◌, ◌≤◌, ◌^◌, All, IfOk, IfSome, OnOk, length, pos};
 ghost use Rattle.checked_fraction.specs.Terms.{IsNarrow};
-ghost use Rattle.line_check.specs.Inequalities.{module_number};
+ghost use Rattle.tree_check.specs.Terms.{module_number};
 ghost use Rattle.box_program.specs.inner.BoxPrograms.{IsBoxBound};
 ghost use Rattle.box_program.specs.inner.BoxRows.{AreRowsBefore, AreRowsOf};
 

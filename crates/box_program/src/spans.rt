@@ -1,6 +1,6 @@
 ghost use Rattle.std.specs.Prelude.{◌≡◌, ◌<◌, ◌↔◌, IsTrue, length};
 ghost use Rattle.tree_check.specs.Boxes.{IsFixedSpan};
-ghost use Rattle.line_check.specs.Inequalities.{module_number};
+ghost use Rattle.tree_check.specs.Terms.{module_number};
 
 use net_core::Link;
 use tree_check::Span;

@@ -3,7 +3,7 @@ use Rattle.std.proofs.Common.{◌≡◌, ◌∙◌, ℕ, zero, suc, ◌+◌, ◌
 use Rattle.std.proofs.Math.Logic.{∥∥₁_elim}
 use Rattle.std.proofs.Props.{props}
 use Rattle.plan_terms.specs.Terms.{AreCounts, AreDemands, AreWithinLimits, Case, IsNetwork, Joins, Link, Routing, capacities, graph_in, total_cost}
-use Rattle.able_counts.specs.AbleTests.{AreRoutingsWithin, IsRoutingWithin}
+use Rattle.plan_swaps.specs.Terms.{AreRoutingsWithin, IsRoutingWithin}
 use Rattle.plan_swaps.proofs.Lemmas.{shape_at_most, total_at_most}
 use Rattle.box_search.specs.Finds.{AreCheaperCounts}
 use Rattle.box_search.specs.inner.Lowering.{HaveRoomFor}

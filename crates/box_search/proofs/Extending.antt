@@ -13,7 +13,7 @@ use Rattle.tree_check.specs.Trees.{TreeBox}
 use Rattle.tree_check.specs.declared.boxes.Span.{Span}
 use Rattle.tree_check.specs.declared.proof.BoxCert.{BoxCert}
 use Rattle.tree_check.proofs.Naming.{holds_map, value_map}
-use Rattle.able_counts.specs.AbleTests.{IsTestOf as IsAbleTestOf}
+use Rattle.plan_swaps.specs.Terms.{IsTestOf as IsAbleTestOf}
 use Rattle.proof_order.specs.Orders.{cuts_among}
 use Rattle.proof_order.specs.declared.entry.Entry.{Entry}
 use Rattle.proof_order.specs.declared.entry.Entry.TheVariants as entry

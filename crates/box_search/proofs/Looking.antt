@@ -3,7 +3,7 @@ use Rattle.std.proofs.Common.{◌≡◌, ℕ, zero, suc, ◌+◌, ◌^◌, ◌�
 use Rattle.net_core.proofs.Library.{All-map, All-weaker, slice_get-get_or}
 use Rattle.net_core.proofs.Networks.{few_links}
 use Rattle.module_choice.proofs.Carrying.{network_links}
-use Rattle.able_counts.specs.AbleTests.{IsWideSomewhere, whole_caps}
+use Rattle.plan_swaps.specs.Terms.{IsWideSomewhere, whole_caps}
 use Rattle.plan_terms.specs.Terms.{AreCounts, AreDemands, Case, CutLine, Evidence, IsCut, IsNetwork, Link, Violates, capacities, total_cost}
 use Rattle.plan_types.specs.declared.plan.Plan.{Plan}
 use Rattle.tree_check.specs.Terms.{IsFixedBox, least_counts, HasBoxValue, TreeBox, EmptiesBox}

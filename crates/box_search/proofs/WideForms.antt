@@ -3,7 +3,7 @@ use Rattle.std.proofs.Common.{◌≡◌, ◌≢◌, ℕ, ◌*◌, ◌^◌, ◌�
 use Rattle.std.proofs.lemmas.Nat.{mul-le}
 use Rattle.std.specs.List.{AllByRecursion}
 use Rattle.net_core.proofs.Library.{All-cons, All-from_recursion, All-nil, cases_lt, get_or_from_slice_get, get_or_past, recursion_from_All, slice_get_within, sum_by-cons}
-use Rattle.able_counts.specs.AbleTests.{IsWideSomewhere, whole_caps}
+use Rattle.plan_swaps.specs.Terms.{IsWideSomewhere, whole_caps}
 use Rattle.flow_router.specs.Answers.{IsEvidenceHere}
 use Rattle.module_choice.proofs.Pairs.{capacities_long}
 use Rattle.plan_report.specs.Terms.{AreCapsInForm, IsKindInForm, IsPathInForm, IsRouteColumnInForm, IsRouteEvidenceInForm, known_to}

@@ -2,7 +2,7 @@
 use Rattle.std.specs.Prelude.{◌≡◌, ℕ, ◌+◌, ◌*◌, ◌^◌, ◌≤◌, ◌<◌, Bool, true, false, List, IfSome, All}
 use Rattle.plan_terms.specs.Terms.{AreCounts, AreWithinLimits, Case, CutLine, Evidence, Link, capacities, total_cost}
 use Rattle.plan_types.specs.declared.plan.Plan.{Plan}
-use Rattle.able_counts.specs.AbleTests.{AreRoutingsWithin, IsWideSomewhere, whole_caps}
+use Rattle.plan_swaps.specs.Terms.{AreRoutingsWithin, IsWideSomewhere, whole_caps}
 use Rattle.line_check.specs.Terms.{entry, names_by}
 use Rattle.line_check.specs.declared.tested.Tested.{Tested}
 use Rattle.tree_check.specs.Terms.{IsFixedBox, least_counts, TreeBox, HasBoxValue, module_costs, HoldsNode, IsEvidenceAt}

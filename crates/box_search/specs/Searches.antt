@@ -3,8 +3,7 @@ use Rattle.std.specs.Prelude.{◌≡◌, ℕ, ◌^◌, ◌≤◌, ◌<◌, ◌++
 use Rattle.std.specs.List.{AllZip}
 use Rattle.plan_terms.specs.Terms.{Case, CutLine, IsCut, IsSurvivable, case_of}
 use Rattle.plan_types.specs.declared.plan.Plan.{Plan}
-use Rattle.able_counts.specs.AbleTests.{IsTestOf as IsAbleTestOf}
-use Rattle.plan_swaps.specs.Terms.{IsRoutedPlan}
+use Rattle.plan_swaps.specs.Terms.{IsTestOf as IsAbleTestOf, IsRoutedPlan}
 use Rattle.line_check.specs.Testing.{AreTested}
 use Rattle.tree_check.specs.Trees.{TreeBox}
 use Rattle.tree_check.specs.declared.proof.BoxCert.{BoxCert}

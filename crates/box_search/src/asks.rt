@@ -1,6 +1,6 @@
 ghost use Rattle.std.specs.Prelude.{◌≡◌, IfOk, OnOk};
 ghost use Rattle.plan_terms.specs.Terms.{AreCounts, AreWithinLimits, IsSurvivable};
-ghost use Rattle.able_counts.specs.AbleTests.{IsTestOf};
+ghost use Rattle.plan_swaps.specs.Terms.{IsTestOf};
 ghost use Rattle.box_search.specs.inner.Asking.{IsAnswerTo, asked_of};
 ghost use Rattle.box_search.specs.Searches.{aimed};
 
@@ -8,9 +8,9 @@ use crate::aim::Aim;
 use crate::found::Cheaper;
 use crate::large::stop_anywhere;
 use crate::lowered::lowered_counts;
-use able_counts::{AbleTest, Stop};
 use module_choice::cost;
 use net_core::{Copied, Counts, CutLine, Evidence, NoMemory};
+use plan_swaps::able_counts::{AbleTest, Stop};
 use plan_swaps::limits::are_within_limits;
 use std::alloc::Global;
 

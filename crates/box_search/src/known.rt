@@ -1,15 +1,15 @@
 ghost use Rattle.std.specs.Prelude.{◌≡◌, ◌↔◌, ◌+◌, ◌++◌, ◌<◌, ◌^◌, ◌≤◌, [], ◌∷◌, ℕ, false, true, length, map, slice_get, take};
 ghost use Rattle.std.specs.Prelude.{All, Contains, IfOk, IfSome, IsTrue, MatchOption, None, OnOk, Some};
 ghost use Rattle.plan_terms.specs.Terms.{IsCut, case_of};
-ghost use Rattle.box_program.specs.Solutions.{IsSolutionOf};
+ghost use Rattle.line_maker.specs.Terms.{IsSolutionOf};
 ghost use Rattle.line_check.specs.Testing.{names_by};
 ghost use Rattle.tree_check.specs.Proofs.{EmptiesBox};
 ghost use Rattle.box_search.specs.Searches.{Extends, IsKnown, aimed};
 
 use crate::aim::Aim;
-use box_program::{Lines, Solution, common_unit, divisor_of, solved};
 use line_check::tested::{tested_cut, tested_line, tested_lines};
 use line_check::{Line, Tested};
+use line_maker::box_program::{Lines, Solution, common_unit, divisor_of, solved};
 use net_core::{CutLine, Instance, List, NoMemory};
 use proof_order::Entry;
 use std::alloc::Global;

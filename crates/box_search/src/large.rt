@@ -1,12 +1,12 @@
 ghost use Rattle.std.specs.Prelude.{◌≡◌, ◌+◌, ◌<◌, IfOk, MatchResult, length};
 ghost use Rattle.plan_terms.specs.Terms.{AreCounts, IsSurvivable, capacities, case_of};
-ghost use Rattle.able_counts.specs.AbleTests.{AreRoutingsWithin, IsRoutingWithin, IsStopAt, whole_caps};
+ghost use Rattle.plan_swaps.specs.Terms.{AreRoutingsWithin, IsRoutingWithin, IsStopAt, whole_caps};
 
-use able_counts::Stop;
-use able_counts::separator::{line_of, separate_state};
 use flow_router::RouteAnswer;
 use module_choice::capacities;
 use net_core::{Caps, Counts, Instance, List, NoMemory, Routing, StateId};
+use plan_swaps::able_counts::Stop;
+use plan_swaps::able_counts::separator::{line_of, separate_state};
 use std::alloc::Global;
 
 /// A routing of a state within capacities, or why there is none.

@@ -33,5 +33,6 @@ pub use known::{Known, index_of};
 pub use lines::make_first_lines;
 pub use plan_swaps;
 pub use plan_swaps::trim_plan;
+pub use proof_order;
 pub use search::{MOST_FURTHER, MOST_SET_CUTS, Search};
 pub use twigs::{OpenBox, Twig};

@@ -5,8 +5,8 @@ ghost use Rattle.box_search.specs.Searches.{HasLearned, IsSearch, aimed, most_en
 use crate::aim::Aim;
 use crate::known::Mark;
 use crate::search::Search;
-use box_program::Solution;
 use line_check::{Line, Tested};
+use line_maker::box_program::Solution;
 use line_maker::{coarse_lines, lines_at};
 use net_core::{Copied, CutLine, List, NoMemory};
 use proof_order::Entry;

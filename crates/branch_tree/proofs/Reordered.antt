@@ -9,8 +9,7 @@ use Rattle.line_check.specs.declared.line.Line.TheVariants.{Divided, Table}
 use Rattle.line_check.specs.declared.line.TableKind.TheVariants.{Plain, Failing}
 use Rattle.line_check.proofs.SameTables.{table_same}
 use Rattle.tree_check.specs.Terms.{HasBoxValue, IsBoxValue, value_gains, value_losses, HoldsNode, TreeBox, sides_of}
-use Rattle.box_search.specs.Terms.{BoxCert, Node, Split, Closed, Empty, Spent, Stuck, is_split}
-use Rattle.proof_order.specs.Orders.{moved_certificate, moved_multipliers, moved_node}
+use Rattle.box_search.specs.Terms.{BoxCert, Node, Split, Closed, Empty, Spent, Stuck, is_split, moved_certificate, moved_multipliers, moved_node}
 
 -- ---- moved nodes
 

@@ -5,10 +5,10 @@ use Rattle.net_core.proofs.Library.{All-cons, All-head, All-nil, All-tail}
 use Rattle.plan_terms.specs.Terms.{Case, CutLine, IsCut, IsSurvivable}
 use Rattle.plan_types.specs.Terms.{IsCertifiedPlan}
 use Rattle.plan_types.specs.declared.plan.Plan.{Plan}
-use Rattle.box_search.specs.Terms.{IsCheaperPlan, BoxCert, Node, Proof, AreCheaperCounts, Extends, HasLearned, IsAim, IsKnown, IsOwnCert, IsSearch, IsSoundEntry, aimed, handed_in, most_entries, node_of, IsRoutedPlan, IsTestOf as IsAbleTestOf}
-use Rattle.proof_order.specs.Orders.{cuts_among, moved_line, moved_node, place_of}
-use Rattle.proof_order.specs.declared.entry.Entry.{Entry}
-use Rattle.proof_order.specs.declared.entry.Entry.TheVariants as entry
+use Rattle.box_search.specs.Terms.{IsCheaperPlan, BoxCert, Node, Proof, AreCheaperCounts, Extends, HasLearned, IsAim, IsKnown, IsOwnCert, IsSearch}
+use Rattle.box_search.specs.Terms.{IsSoundEntry, aimed, handed_in, most_entries, node_of, IsRoutedPlan, IsTestOf as IsAbleTestOf}
+use Rattle.box_search.specs.Terms.{cuts_among, moved_line, moved_node, place_of, Entry}
+use Rattle.box_search.specs.Terms.entry
 use Rattle.box_search.proofs.Lemmas.{routed_with}
 use Rattle.branch_tree.specs.Proving.{AreHandedCuts, IsProofOf}
 use Rattle.branch_tree.specs.inner.Growing.{IsGrownTree}

@@ -17,5 +17,7 @@ mod proving;
 mod tree;
 
 pub use box_search::index_of;
+pub use line_check;
 pub use proving::{prove, prove_by_lines};
+pub use tree_check;
 pub use tree_check::{BoxCert, Node, Proof, Verdict};

@@ -2,9 +2,9 @@ ghost use Rattle.std.specs.Prelude.{◌<◌, ◌^◌, All, Contains, IfOk, lengt
 ghost use Rattle.box_search.specs.Searches.{IsOwnCert};
 
 use box_search::index_of;
+use box_search::proof_order::Entry;
 use net_core::{CutLine, List, NoMemory};
 use plan_types::Plan;
-use proof_order::Entry;
 use std::alloc::Global;
 use tree_check::{BoxCert, Multiplier};
 

@@ -11,11 +11,11 @@ use crate::own::own_cert;
 use crate::tree::{Tree, finished};
 use box_search::able_counts::AbleTest;
 use box_search::plan_swaps::swap;
+use box_search::proof_order::{Entry, Ordered, in_order};
 use box_search::{Aim, Cheaper, Known, MOST_FURTHER, MOST_SET_CUTS, Search, empty_cert};
 use net_core::{Copied, CutLine, Instance, List, Network, NoMemory, States};
 use outside_io::Gate;
 use plan_types::Plan;
-use proof_order::{Entry, Ordered, in_order};
 use std::alloc::Global;
 use tree_check::{BoxCert, Proof, Verdict};
 

@@ -8,9 +8,7 @@ use Rattle.front_files.specs.Endings.{FailsReading, Halts, HasFrontCause, halt_s
 use Rattle.front_files.specs.declared.stop.Halt.{Halt}
 use Rattle.front_files.specs.declared.stop.Halt.TheVariants as halt
 use Rattle.front_views.specs.ProofLines.{FailsAtLines, FailsAtOutcomeLines}
-use Rattle.view_forms.specs.Terms.{IsFormOf}
-use Rattle.view_forms.specs.declared.form.ViewForm.{ViewForm}
-use Rattle.front_views.specs.Terms.{EndsReport, LacksState, NamesState, PicturesState}
+use Rattle.front_views.specs.Terms.{IsFormOf, ViewForm, EndsReport, LacksState, NamesState, PicturesState}
 use Rattle.front_words.specs.Fronts as asked
 use Rattle.front_words.specs.Fronts.{AskedForm}
 use Rattle.front_commands.specs.Endings.{AsksForm, LacksForm}

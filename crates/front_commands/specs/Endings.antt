@@ -16,9 +16,7 @@ use Rattle.front_words.specs.Fronts as asked
 use Rattle.front_words.specs.Fronts.{AskedForm, AskedPlan, FrontCommand, Help, HelpOn, Version, Failures, View, Plan, IsFrontCommand}
 use Rattle.front_files.specs.FrontInputs.{CaseWords, EndsAfterCase}
 use Rattle.front_files.specs.Messages.{FailsAtFetch, FailsAtFile, ShowsNetworkFault}
-use Rattle.view_forms.specs.declared.form.ViewForm.{ViewForm}
-use Rattle.view_forms.specs.declared.form.ViewForm.TheVariants.{Tables, Values}
-use Rattle.front_views.specs.Terms.{EndsReport, LacksState, NamesState, PicturesState}
+use Rattle.front_views.specs.Terms.{ViewForm, Tables, Values, EndsReport, LacksState, NamesState, PicturesState}
 use Rattle.front_plans.specs.FrontPlans.{EndsPlanForPeople}
 use Rattle.front_commands.specs.HelpTexts.{help_text, topic_help}
 

@@ -1,6 +1,6 @@
 ghost use Rattle.std.specs.Prelude.{MatchResult};
 ghost use Rattle.view_text.specs.Terms.{problem_case};
-ghost use Rattle.view_forms.specs.Terms.{IsFormOf};
+ghost use Rattle.front_views.specs.Terms.{IsFormOf};
 ghost use Rattle.input_files.specs.Shelves.{KeepsShelf};
 ghost use Rattle.front_files.specs.Endings.{FailsReading, Halts, HasFrontCause};
 ghost use Rattle.front_files.specs.FrontInputs.{named_case};
@@ -8,13 +8,13 @@ ghost use Rattle.front_words.specs.AskedFronts.{asked_form};
 ghost use Rattle.front_commands.specs.Endings.{AsksForm, EndsView, LacksForm, ViewsAsked, ViewsFile};
 
 use front_files::{Halt, fetch_report, load_placed_case};
+use front_views::view_forms::ViewForm;
 use front_views::{picture_form, state_form, view_report};
 use front_words::{FormWords, ViewWords};
 use net_core::{Bytes, Problem};
 use node_places::Place;
 use outside_io::Shelf;
 use std::alloc::Global;
-use view_forms::ViewForm;
 
 /// The view of the report in a file, of plans for a problem.
 fn view_file<S: Shelf>(

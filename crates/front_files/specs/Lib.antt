@@ -1,3 +1,4 @@
 pub mod Endings
 pub mod Messages
 pub mod FrontInputs
+pub mod Terms

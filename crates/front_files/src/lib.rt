@@ -15,6 +15,7 @@ mod stop;
 mod words;
 
 pub use fetching::{fetch_report, load_network};
+pub use input_files;
 pub use inputs::{load_case, load_placed_case};
 pub use refusal::{FaultyFile, place_in, refused, told};
 pub use stop::{Halt, Told};

@@ -17,4 +17,5 @@ mod views;
 
 pub use accepted::{put_accepted, put_accepted_block};
 pub use states::{picture_form, state_form};
+pub use view_forms;
 pub use views::view_report;

@@ -2,7 +2,7 @@
 use Rattle.std.specs.Prelude.{◌≡◌, ◌≢◌, ◌≤◌, ℕ, ◌⊎◌, Bool, true, false, List, [], ◌∷◌, Option, None, Some, String, codes, is_some, length, map, string_bytes}
 use Rattle.std.specs.Global.{Global}
 use Rattle.std.specs.Str.Parse.{IsNumeral, digits_value}
-use Rattle.input_files.specs.InputWords.{default}
+use Rattle.front_files.specs.Terms.{default}
 use Rattle.front_files.specs.FrontInputs.{CaseWords}
 use Rattle.view_csv.specs.declared.sheet.Sheet.{Sheet}
 use Rattle.view_csv.specs.declared.sheet.Sheet.TheVariants.{Links, States, Flows}

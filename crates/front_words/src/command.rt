@@ -11,7 +11,7 @@ use crate::given::{Given, OptionValue, given_by};
 use crate::options::{takes_options, value_given};
 use crate::words::{FormWords, FrontWords, HelpTopic, PlanRequest, ViewWords};
 use front_files::CaseFiles;
-use input_files::{DEFAULT, PlanFiles};
+use front_files::input_files::{DEFAULT, PlanFiles};
 use net_core::NoMemory;
 use std::alloc::Global;
 use view_csv::Sheet;

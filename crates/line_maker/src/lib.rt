@@ -17,5 +17,6 @@ mod rounds;
 mod score;
 mod sums;
 
+pub use box_program;
 pub use coarse::coarse_lines;
 pub use rounds::lines_at;

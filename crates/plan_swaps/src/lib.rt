@@ -14,3 +14,4 @@ mod swaps;
 
 pub use swapping::{swap, swap_from};
 pub use trim_plan;
+pub use trim_plan::able_counts;

@@ -4,8 +4,7 @@ use Rattle.plan_terms.specs.Terms.{Case, CutLine, Demand, IsAble, Notes, total_c
 use Rattle.plan_report.specs.Terms.{AreRoutingsInForm, known_to, Plan}
 use Rattle.trimmed_report.specs.Terms.{IsTranscript, IsRoutedPlan, PlannedReport, IsSoundDesign, plan_commands, redesigned_plan, whole_report}
 use Rattle.trimmed_report.proofs.Lemmas.{lone_plans_are_accepted, cheaper_redesigns_are_plans, lone_plans_carry}
-use Rattle.tree_check.specs.declared.proof.Proof.{Proof}
-use Rattle.tree_check.specs.declared.proof.Verdict.TheVariants.{Cheapest, Above}
+use Rattle.branch_tree.specs.Terms.{Proof, Cheapest, Above}
 use Rattle.branch_tree.specs.Proving.{IsProofOf}
 use Rattle.proof_report.proofs.Roots.{root_alone}
 use Rattle.proof_report.specs.ProvedReports.{AreHandedIn, IsLinedReport, IsTrimmedOnce, certificate_cuts}

@@ -2,11 +2,8 @@
 use Rattle.std.proofs.Common.{◌≡◌, ◌+◌, ◌≤◌, ◌<◌, List, [], ◌∷◌, ◌++◌, arith, cond, length, refl, subst, take}
 use Rattle.std.proofs.lemmas.List.Sums.{sum_by-cons}
 use Rattle.plan_terms.specs.Terms.{Case, Link}
-use Rattle.tree_check.specs.Terms.{HoldsAtNode, IsAcceptedProof, whole_box, IsWhole, TreeBox, boxes_left, sides_of}
-use Rattle.tree_check.specs.declared.proof.Node.{Node}
-use Rattle.tree_check.specs.declared.proof.Node.TheVariants.{Split, Closed, Empty, Spent, Stuck}
-use Rattle.tree_check.specs.declared.proof.Proof.{Proof}
-use Rattle.branch_tree.specs.Terms.{is_split}
+use Rattle.branch_tree.specs.Terms.{HoldsAtNode, IsAcceptedProof, whole_box, IsWhole, TreeBox, boxes_left, sides_of, Node, Split, Closed, Empty, Spent, Stuck}
+use Rattle.branch_tree.specs.Terms.{Proof, is_split}
 use Rattle.branch_tree.specs.FewSplits.{split_number}
 
 splits_more : (node : Node) (nodes : List Node) → split_number (node ∷ nodes) ≡ cond (is_split node) 1 0 + split_number nodes

@@ -5,8 +5,7 @@ use Rattle.plan_report.specs.Terms.{Certificate, Plan}
 use Rattle.comment_lines.specs.Comments.{comment_line}
 use Rattle.trimmed_report.specs.Terms.{IsTranscript, PlannedReport, IsAcceptable, IsSeparationOf, plan_commands, whole_report, Block}
 use Rattle.trimmed_report.specs.TrimmedReports.{IsTrimmedReport}
-use Rattle.tree_check.specs.declared.proof.Proof.{Proof}
-use Rattle.tree_check.specs.declared.proof.Verdict.TheVariants.{Cheapest, Above}
+use Rattle.branch_tree.specs.Terms.{Proof, Cheapest, Above}
 use Rattle.tree_lines.specs.TreeLines.{proof_lines}
 use Rattle.branch_tree.specs.Proving.{IsProofOf}
 use Rattle.proof_report.specs.declared.ending.ProofEnding.{ProofEnding}

@@ -7,6 +7,7 @@ ghost use Rattle.branch_tree.specs.Proving.{AreHandedCuts, IsProofOf};
 ghost use Rattle.proof_report.specs.ProvedReports.{IsLinedEnding, IsLinedReport, IsProofEnding, IsTrimmedOnce};
 
 use crate::handed::{handed_cuts, work_out};
+use branch_tree::tree_check::{Proof, Verdict};
 use branch_tree::{prove, prove_by_lines};
 use net_core::{CutLine, Entry, Instance, List, Name, Network, NoMemory, Notes, StateId, States};
 use outside_io::Gate;
@@ -14,7 +15,6 @@ use plan_types::Plan;
 use std::alloc::Global;
 use std::sync::Wait;
 use std::thread::Threads;
-use tree_check::{Proof, Verdict};
 use trimmed_report::lone_plan::PlannedReport;
 use trimmed_report::{TrimEnding, trim_once};
 

@@ -3,7 +3,7 @@ ghost use Rattle.plan_terms.specs.Terms.{IsCut, case_of};
 ghost use Rattle.proof_report.specs.ProvedReports.{AreHandedIn, certificate_cuts};
 
 use branch_tree::index_of;
-use line_check::tested::tested_cut;
+use branch_tree::line_check::tested::tested_cut;
 use net_core::{Copied, CutLine, Instance, List, NoMemory};
 use plan_types::Certificate;
 use std::alloc::Global;

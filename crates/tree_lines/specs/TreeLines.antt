@@ -6,10 +6,7 @@ use Rattle.plan_report.specs.Terms.{evidence_items, link_name}
 use Rattle.text_kit.specs.Terms.{Item, Money, Verbatim, Whole}
 use Rattle.report_comments.specs.ReportComments.{IsOfRouting}
 use Rattle.master_bound.specs.declared.answer.Multiplier.{Multiplier}
-use Rattle.line_check.specs.declared.line.Line.{Line}
-use Rattle.line_check.specs.declared.line.Line.TheVariants.{Divided, Table}
-use Rattle.line_check.specs.declared.line.TableKind.{TableKind}
-use Rattle.line_check.specs.declared.line.TableKind.TheVariants.{Plain, Failing}
+use Rattle.tree_check.specs.Terms.{Line, Divided, Table, TableKind, Plain, Failing}
 use Rattle.tree_check.specs.declared.proof.BoxCert.{BoxCert}
 use Rattle.tree_check.specs.declared.proof.Node.{Node}
 use Rattle.tree_check.specs.declared.proof.Node.TheVariants.{Split, Closed, Empty, Spent, Stuck}

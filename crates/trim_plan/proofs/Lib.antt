@@ -1,4 +1,5 @@
 pub mod AtMost
+pub mod Lemmas
 pub mod Placing
 pub mod Least
 pub mod Lowering

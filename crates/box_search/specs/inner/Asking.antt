@@ -1,9 +1,8 @@
 -- what is answered of counts that are asked about
 use Rattle.std.specs.Prelude.{ℕ, ◌+◌, List}
 use Rattle.plan_terms.specs.Terms.{Case, IsCut, Violates, capacities, total_cost}
-use Rattle.able_counts.specs.AbleTests.{IsWideSomewhere, whole_caps}
-use Rattle.able_counts.specs.declared.stop.Stop.{Stop}
-use Rattle.able_counts.specs.declared.stop.Stop.TheVariants as stop
+use Rattle.plan_swaps.specs.Terms.{IsWideSomewhere, whole_caps, Stop}
+use Rattle.plan_swaps.specs.Terms.stop
 use Rattle.box_search.specs.declared.asks.Asked.{Asked}
 use Rattle.box_search.specs.declared.asks.Asked.TheVariants as asked
 use Rattle.box_search.specs.declared.evaluation.Tried.{Tried}

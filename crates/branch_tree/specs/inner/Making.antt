@@ -2,10 +2,8 @@
 use Rattle.std.specs.Prelude.{◌≡◌, ℕ, ◌≤◌, ◌⊎◌, Bool, false, List, [], length, map, take}
 use Rattle.plan_terms.specs.Terms.{Case, CutLine}
 use Rattle.plan_types.specs.declared.plan.Plan.{Plan}
-use Rattle.box_search.specs.Terms.{Proof, node_of}
-use Rattle.proof_order.specs.Orders.{cuts_among, lines_among, moved_line, moved_node, place_of}
-use Rattle.proof_order.specs.declared.entry.Entry.{Entry}
-use Rattle.proof_order.specs.declared.entry.Entry.TheVariants as entry
+use Rattle.box_search.specs.Terms.{Proof, node_of, cuts_among, lines_among, moved_line, moved_node, place_of, Entry}
+use Rattle.box_search.specs.Terms.entry
 use Rattle.branch_tree.specs.Proving.{IsProofOf}
 use Rattle.branch_tree.specs.inner.Showing.{all_shown, verdict_of}
 use Rattle.box_search.specs.declared.known.Known.{Known}

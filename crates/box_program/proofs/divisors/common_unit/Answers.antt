@@ -1,6 +1,6 @@
 use Rattle.std.proofs.Common.{◌↔◌, All, subst, arith}
 use Rattle.net_core.proofs.Library.{dvd-zero, ◌∣◌}
-use Rattle.line_check.specs.declared.tested.Tested.{Tested}
+use Rattle.tree_check.specs.Terms.{Tested}
 use Rattle.box_program.specs.Divisors.{DividesLine}
 use Rattle.box_program.proofs.Dividing.{divisors_more, take_whole}
 use Rattle.box_program.proofs.divisors.common_unit.Goals as goal

@@ -1,5 +1,5 @@
 use Rattle.std.proofs.Common.{ℕ, List, ap, arith, subst}
-use Rattle.able_counts.specs.AbleTests.{IsWideSomewhere, whole_caps}
+use Rattle.plan_swaps.specs.Terms.{IsWideSomewhere, whole_caps}
 use Rattle.plan_terms.specs.Terms.{Violates, capacities, total_cost}
 use Rattle.box_search.specs.declared.asks.Asked.{Asked}
 use Rattle.box_search.specs.inner.Asking.{IsAnswerTo}

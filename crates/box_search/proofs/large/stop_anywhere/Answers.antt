@@ -2,7 +2,7 @@ use Rattle.std.proofs.Common.{◌≡◌, ◌∙◌, ℕ, List, Some, ap, arith, 
 use Rattle.std.proofs.lemmas.List.{length_push}
 use Rattle.plan_terms.specs.Terms.{Routing, case_of}
 use Rattle.module_choice.proofs.Pairs.{capacities_long}
-use Rattle.able_counts.specs.AbleTests.{IsRoutingWithin}
+use Rattle.plan_swaps.specs.Terms.{IsRoutingWithin}
 use Rattle.box_search.proofs.Asked.{routed_more}
 use Rattle.box_search.proofs.large.stop_anywhere.Goals as goal
 

@@ -1,6 +1,6 @@
 use Rattle.std.proofs.Common.{◌≡◌, ℕ, Some, length, slice_get}
 use Rattle.plan_terms.specs.Terms.{Routing, case_of}
-use Rattle.able_counts.specs.AbleTests.{IsRoutingWithin}
+use Rattle.plan_swaps.specs.Terms.{IsRoutingWithin}
 use Rattle.box_search.proofs.large.stop_anywhere.Given as goal
 
 -- the first states have a routing within the capacities

@@ -2,7 +2,7 @@ use Rattle.std.proofs.Common.{◌+◌, ◌<◌, List, Contains, ap, arith, get_o
 use Rattle.std.specs.List.{AllZip}
 use Rattle.master_bound.specs.declared.answer.Multiplier.{Multiplier}
 use Rattle.plan_types.specs.declared.certificate.CertLine.{CertLine}
-use Rattle.proof_order.specs.declared.entry.Entry.TheVariants as entry
+use Rattle.box_search.specs.Terms.entry
 use Rattle.box_search.proofs.OwnValues.{IsOwnLine, own_more}
 use Rattle.branch_tree.proofs.own.own_cert.Goals as goal
 

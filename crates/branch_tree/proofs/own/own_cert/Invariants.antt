@@ -1,6 +1,6 @@
 use Rattle.std.proofs.Common.{map, take}
 use Rattle.std.specs.List.{AllZip}
-use Rattle.proof_order.specs.declared.entry.Entry.TheVariants as entry
+use Rattle.box_search.specs.Terms.entry
 use Rattle.box_search.proofs.OwnValues.{IsOwnLine}
 use Rattle.branch_tree.proofs.own.own_cert.Given as goal
 

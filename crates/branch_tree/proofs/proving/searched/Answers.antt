@@ -2,8 +2,8 @@ use Rattle.std.proofs.Common.{◌≡◌, ◌∙◌, Bool, List, All, Contains, I
 use Rattle.net_core.proofs.Library.{length-map}
 use Rattle.plan_terms.specs.Terms.{CutLine, Routing, case_of}
 use Rattle.box_search.proofs.Lemmas.{plan_carries, routing_of_kept}
-use Rattle.proof_order.specs.declared.entry.Entry.{Entry}
-use Rattle.proof_order.specs.declared.entry.Entry.TheVariants as entry
+use Rattle.box_search.specs.Terms.{Entry}
+use Rattle.box_search.specs.Terms.entry
 use Rattle.box_search.specs.Searches.{IsOwnCert, handed_in}
 use Rattle.branch_tree.specs.inner.Making.{IsProofWith}
 use Rattle.branch_tree.proofs.Restarts.{first_cuts, first_search}

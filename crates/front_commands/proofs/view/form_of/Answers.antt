@@ -1,6 +1,6 @@
 use Rattle.std.proofs.Common.{subst, sym, MatchResult}
 use Rattle.view_text.specs.Terms.{problem_case}
-use Rattle.view_forms.specs.Terms.{IsFormOf}
+use Rattle.front_views.specs.Terms.{IsFormOf}
 use Rattle.front_files.specs.Endings.{Halts}
 use Rattle.front_words.specs.AskedFronts.{asked_form}
 use Rattle.front_commands.specs.Endings.{AsksForm, LacksForm}

@@ -5,7 +5,7 @@ use Rattle.plan_types.specs.Terms.{IsCertifiedPlan}
 use Rattle.plan_types.specs.declared.certificate.CertLine.{CertLine}
 use Rattle.trimmed_report.specs.Terms.{IsRoutedPlan}
 use Rattle.trimmed_report.proofs.Lemmas.{lone_plans_carry}
-use Rattle.tree_check.specs.declared.proof.Verdict.TheVariants.{Cheapest, Above}
+use Rattle.branch_tree.specs.Terms.{Cheapest, Above}
 use Rattle.branch_tree.specs.Proving.{AreHandedCuts, IsProofOf}
 use Rattle.proof_report.proofs.Certain.{certified_certain}
 use Rattle.proof_report.proofs.Handing.{handed_long}

@@ -3,7 +3,7 @@ use Rattle.std.proofs.lemmas.List.{take_more}
 use Rattle.std.proofs.lemmas.List.Elements.{All-push}
 use Rattle.net_core.proofs.Library.{∥∥₁_elim, props}
 use Rattle.plan_terms.specs.Terms.{CutLine, IsCut, case_of}
-use Rattle.line_check.specs.Terms.{line_of_cut, IsMadeOf, names_by}
+use Rattle.branch_tree.specs.Terms.{line_of_cut, IsMadeOf, names_by}
 use Rattle.proof_report.proofs.handed.work_out.Goals as goal
 
 pub loop-cut-preserved : goal.loop-cut-preserved

@@ -5,7 +5,7 @@ use Rattle.plan_terms.specs.Terms.{CutLine}
 use Rattle.comment_lines.specs.Comments.{AddsLines}
 use Rattle.comment_lines.proofs.Lines.{lines_then}
 use Rattle.tree_check.specs.declared.proof.Node.{Node}
-use Rattle.line_check.specs.declared.line.Line.{Line}
+use Rattle.tree_check.specs.Terms.{Line}
 use Rattle.tree_lines.specs.TreeLines.{box_cut_items, line_items, node_items}
 use Rattle.tree_lines.proofs.proof.put_proof.Goals as goal
 

@@ -1,5 +1,5 @@
 use Rattle.std.proofs.Common.{List, IfOk, IfSome, length, subst, ◌∙◌}
-use Rattle.box_program.specs.Solutions.{IsSolutionOf}
+use Rattle.line_maker.specs.Terms.{IsSolutionOf}
 use Rattle.plan_terms.specs.Terms.{Link}
 use Rattle.line_check.specs.declared.tested.Tested.{Tested}
 use Rattle.box_search.proofs.known.Known.solved.Goals as goal

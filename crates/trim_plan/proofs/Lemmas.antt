@@ -1,0 +1,2 @@
+-- The lemmas of other crates that crates above cite, passed on from one place. Declares nothing.
+pub use Rattle.able_counts.proofs.Testing.{routed_within, survivable_joins}
