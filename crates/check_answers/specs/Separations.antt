@@ -8,4 +8,5 @@ pub record NamesFirstSeparation (p : Case) (text : List ℕ) : Type 0 where
   pub state : ℕ
   pub place : ℕ
   pub first : IsFirstSeparation p state place
-  pub printed : text ≡ codes "not survivable: state " ++ decimal state ++ 32 ∷ state_name p.listed state ++ codes " demand " ++ first.separates.demand.name ++ 10 ∷ []
+  pub printed : text ≡ codes "not survivable: state " ++ decimal state ++ 32 ∷ state_name p.listed state
+    ++ codes " demand " ++ first.separates.demand.name ++ 10 ∷ []

@@ -25,8 +25,8 @@ pub data AskedForm : Type 0 where
   State : List ℕ → AskedForm
   Picture : List ℕ → AskedForm
 
--- how the program is used, how one of its commands is, which version it is, the failure list of a network's file, the view of the report in a file, of plans for
--- the case of other files, in a form, or a plan
+-- how the program is used, how one of its commands is, which version it is, the failure list of a network's file, the view of the report
+-- in a file, of plans for the case of other files, in a form, or a plan
 pub data FrontCommand : Type 0 where
   Help : FrontCommand
   HelpOn : HelpTopic → FrontCommand

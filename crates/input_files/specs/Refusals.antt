@@ -10,7 +10,8 @@ abbrev pub unused_line : List ℕ
 unused_line = refusal_line (codes "failures") (codes "unused") 0
 
 -- the bytes spell nothing in their format, and the text names their first fault
-pub record Refuses {X K : Type 0} (Spells : List ℕ → X → Type 0) (IsFirst : List ℕ → ℕ → K → Type 0) (file : List ℕ) (word : K → List ℕ) (bytes text : List ℕ) : Type 0 where
+pub record Refuses {X K : Type 0} (Spells : List ℕ → X → Type 0) (IsFirst : List ℕ → ℕ → K → Type 0) (file : List ℕ)
+    (word : K → List ℕ) (bytes text : List ℕ) : Type 0 where
   pub nothing : (x : X) → Spells bytes x → ⊥
   pub at : ℕ
   pub kind : K
