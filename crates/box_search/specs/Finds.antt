@@ -66,7 +66,7 @@ pub record IsValued (p : Case) (plan : Plan) (tested : List Tested) (box : TreeB
 -- a split with its cause, or a leaf that isn't open
 abbrev pub IsSettledNode : Case → Plan → List CutLine → TreeBox → Node → Type 0
 IsSettledNode p plan handed box (Split link at_module number) =
-  (entry (module_costs p.links) link.0 at_module * number < plan.cost) × IsUnsettled p.links plan handed box
+    (entry (module_costs p.links) link.0 at_module * number < plan.cost) × IsUnsettled p.links plan handed box
 IsSettledNode p plan handed box (Closed cert) = Unit {0}
 IsSettledNode p plan handed box (Empty cut) = Unit {0}
 IsSettledNode p plan handed box (Spent cert) = ⊥

@@ -9,4 +9,4 @@ pub record NamesFirstSeparation (p : Case) (text : List ℕ) : Type 0 where
   pub place : ℕ
   pub first : IsFirstSeparation p state place
   pub printed : text ≡ codes "not survivable: state " ++ decimal state ++ 32 ∷ state_name p.listed state
-    ++ codes " demand " ++ first.separates.demand.name ++ 10 ∷ []
+      ++ codes " demand " ++ first.separates.demand.name ++ 10 ∷ []

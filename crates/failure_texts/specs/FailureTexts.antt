@@ -27,7 +27,7 @@ separated_name demands k = option_map_or (λ d. d.name) (slice_get demands k) []
 abbrev pub left_out_items : List Link → List Demand → Fate → ℕ → List Item
 left_out_items links demands fate k =
     Verbatim (link_name links fate.link) ∷ Verbatim (codes "is left out: without it demand") ∷ Verbatim (separated_name demands k)
-      ∷ Verbatim (codes "can't be carried") ∷ []
+    ∷ Verbatim (codes "can't be carried") ∷ []
 
 -- these words, where it separates one
 abbrev pub left_out : List Link → List Demand → Fate → List (List Item)

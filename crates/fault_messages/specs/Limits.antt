@@ -67,17 +67,17 @@ counted_fault long double limit most count taken w =
 pub record AreNetworkLimits : Type 0 where
   pub nodes : (sofar : List (List ℕ)) (w : List ℕ)
       → networks.node_fault sofar w
-        ≡ counted_fault (reads.Limit limits.Name) reads.DoubleName (reads.Limit limits.Nodes) most_nodes (length sofar) (is_named (λ n. n) w sofar) w
+      ≡ counted_fault (reads.Limit limits.Name) reads.DoubleName (reads.Limit limits.Nodes) most_nodes (length sofar) (is_named (λ n. n) w sofar) w
   pub links : (sofar : List CostedLink) (w : List ℕ)
       → networks.link_fault sofar w
-        ≡ counted_fault (reads.Limit limits.Name) reads.DoubleName (reads.Limit limits.Links) most_links (length sofar) (is_named (λ l. l.link.name) w sofar) w
+      ≡ counted_fault (reads.Limit limits.Name) reads.DoubleName (reads.Limit limits.Links) most_links (length sofar) (is_named (λ l. l.link.name) w sofar) w
   pub demands : (sofar : List Demand) (w : List ℕ)
       → networks.demand_fault sofar w
-        ≡ counted_fault (reads.Limit limits.Name) reads.DoubleName (reads.Limit limits.Demands) most_demands (length sofar) (is_named (λ d. d.name) w sofar) w
+      ≡ counted_fault (reads.Limit limits.Name) reads.DoubleName (reads.Limit limits.Demands) most_demands (length sofar) (is_named (λ d. d.name) w sofar) w
   pub paths : (w : List ℕ) → networks.path_name w ≡ sound tt (length_fault (reads.Limit limits.Name) w)
   pub modules : (sofar : List Module) (n : ℕ)
       → networks.carried sofar (Ok n)
-        ≡ (if n == 0 then Err reads.ZeroModule else (if nat_lt (length sofar) most_modules then Ok n else Err (reads.Limit limits.Modules)))
+      ≡ (if n == 0 then Err reads.ZeroModule else (if nat_lt (length sofar) most_modules then Ok n else Err (reads.Limit limits.Modules)))
   pub needs : (total units each : ℕ) → networks.wanted total units (Ok each) ≡ (if nat_lt (units * each) (2 ^ need_power)
       then (if nat_lt (total + units * each) (2 ^ total_power) then Ok (units * each) else Err (reads.Limit limits.Total)) else Err (reads.Number TooLarge))
   pub amounts : (p : Places) (w : List ℕ) → networks.amount p w ≡ number_or reads.Number (decimal_below (digits_after_point p) (2 ^ need_power) w)
@@ -94,7 +94,7 @@ pub record AreReportLimits : Type 0 where
   pub unknown : (w : List ℕ) → unknown_name w ≡ (if nat_lt name_bytes (length w) then reports.LimitName else reports.UnknownName)
   pub demands : (sofar : List Demand) (w : List ℕ)
       → new_demand sofar w
-        ≡ (if nat_lt name_bytes (length w) then Err reports.LimitName else (if is_named (λ d. d.name) w sofar then Err reports.DoubleName else Ok w))
+      ≡ (if nat_lt name_bytes (length w) then Err reports.LimitName else (if is_named (λ d. d.name) w sofar then Err reports.DoubleName else Ok w))
   pub needs : (p : Places) (w : List ℕ) → amount_of p w ≡ decimal_below (digits_after_point p) (2 ^ need_power) w
   pub money : (p : Places) (w : List ℕ) → money_of p w ≡ decimal_below (digits_after_point p) (2 ^ money_power) w
   pub numbers : (w : List ℕ) → whole_of w ≡ whole_below (2 ^ money_power) w

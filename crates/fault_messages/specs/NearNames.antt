@@ -32,7 +32,7 @@ HasNoneNear name names = (k : ℕ) → k < length names → length name / 3 < ed
 abbrev pub IsNearestNote : List ℕ → List (List ℕ) → List ℕ → Type 0
 IsNearestNote name names note = (HasNoneNear name names × (note ≡ []))
     ⊎ ((i : ℕ) × (quote : List ℕ) × IsNearestName name names i × IsQuote (get_or names i []) quote
-      × (note ≡ note_text (codes "did you mean " ++ quote ++ codes "?")))
+    × (note ≡ note_text (codes "did you mean " ++ quote ++ codes "?")))
 
 -- A line that asks for one of these names instead of the word that begins at a place: the nearest, if one is near.
 abbrev pub IsWordNote : List (List ℕ) → List ℕ → ℕ → List ℕ → Type 0

@@ -37,7 +37,7 @@ number_message numbers.TooFine = (
 number_message numbers.TooLarge = (
   codes "this number is too large",
   codes "an amount, and a demand's unit times its value, is below " ++ money_word Three (2 ^ need_power) ++ codes ", or below "
-    ++ money_word Six (2 ^ need_power)
+      ++ money_word Six (2 ^ need_power)
       ++ codes " in a file with a finer number than thousandths",
 )
 

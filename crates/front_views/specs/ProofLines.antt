@@ -82,7 +82,7 @@ tree_wrong nodes k = cond (nat_lt k nodes) (codes "line " ++ decimal (k + 1) ++ 
 abbrev pub tree_message : List ℕ → ℕ → ℕ → List ℕ
 tree_message name nodes k =
     name ++ codes ": the branch tree below the report doesn't show what it says\n  " ++ tree_wrong nodes k
-      ++ codes "\nrejected tree " ++ decimal k ++ codes "\n"
+    ++ codes "\nrejected tree " ++ decimal k ++ codes "\n"
 
 -- a check rejects the plan's tree, and the message tells what is wrong with it first
 abbrev pub TellsRejectedTree : List ℕ → Case → Plan → ReadTree → List ℕ → Type 0

@@ -24,7 +24,7 @@ use Rattle.front_views.specs.ProofLines.{FailsAtLines, ReadsProof}
 abbrev pub ShowsReportFault : Case → List ℕ → List ℕ → List ℕ → Type 0
 ShowsReportFault p name =
     ShowsFault (SpellsReport (known_to p)) (λ bytes at kind. report_of (known_to p) bytes ≡ Err (at, kind))
-      (codes "report") report_kind_word (report_message p.places)
+    (codes "report") report_kind_word (report_message p.places)
     (AreReportNotes p) name
 
 -- what is said of a file: what is wrong, and what that means
@@ -38,7 +38,7 @@ SaysFinding name p notes r finding message = (line : List ℕ) × IsJudged p not
 -- the message tells the first finding of the report
 abbrev pub TellsFinding : List ℕ → Case → Notes → Report → List ℕ → Type 0
 TellsFinding name p notes r message =
-  (outcome : ℕ) × (finding : Finding) × IsFirstOfReport notes p r outcome finding × SaysFinding name p notes r finding message
+    (outcome : ℕ) × (finding : Finding) × IsFirstOfReport notes p r outcome finding × SaysFinding name p notes r finding message
 
 -- The outcome of an accepted report in a form, whose bytes these are: a message of the lines below it, or its view, with what they show.
 abbrev pub ViewsAccepted : ViewForm → List ℕ → List ℕ → Case → Report → List ℕ → Status → List ℕ → List ℕ → Type 0

@@ -88,7 +88,7 @@ RunsFrom p entries caller at serial (acts.Change edit ∷ rest) os =
 RunsFrom p entries caller at serial (acts.Plan ∷ rest) [] = ⊥
 RunsFrom p entries caller at serial (acts.Plan ∷ rest) (o ∷ os) =
     (n : ℕ) × (m : ℕ) × (at ≤ n) × (n ≤ m) × (m ≤ length entries)
-      × IsOutcomeAfter p (take n entries) (take m entries) caller serial o × RunsFrom p entries caller m (serial + 1) rest os
+    × IsOutcomeAfter p (take n entries) (take m entries) caller serial o × RunsFrom p entries caller m (serial + 1) rest os
 
 -- ---- the report
 

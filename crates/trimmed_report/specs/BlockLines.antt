@@ -12,7 +12,7 @@ use Rattle.trim_plan.specs.declared.trimming.Block.{Block}
 abbrev pub stop_items : List Link → List Demand → Stop → List Item
 stop_items links demands (Cut cut) =
     Verbatim (codes "cut") ∷ Whole cut.state.0 ∷ Verbatim (codes "right") ∷ Whole cut.right
-      ∷ Verbatim (codes "lengths") ∷ flat_map (λ n. Whole n ∷ []) cut.lengths
+    ∷ Verbatim (codes "lengths") ∷ flat_map (λ n. Whole n ∷ []) cut.lengths
 stop_items links demands (Wide evidence) = Verbatim (codes "wide") ∷ evidence_items links demands evidence
 
 -- what keeps a module: its link's name, its place among the link's modules, and why it stays

@@ -163,7 +163,7 @@ pub record IsPicture (network : List ℕ) (p : Case) (plan : Plan) (state : ℕ)
   pub changes : List ℕ
   pub are_rows : AreLinkRows p.links plan (length p.links) rows
   pub are_changes : AreRoundedLoads (changed_flows (routing_in plan.routings 0).flows (routing_in plan.routings state).flows) (den_in plan.routings state)
-    (length p.links) changes
+      (length p.links) changes
   pub all_nodes : length layout.nodes ≡ length p.nodes
   pub all_links : length layout.links ≡ length p.links
   pub drawn : text ≡ picture_text network (known_to p) state rows layout changes

@@ -46,7 +46,7 @@ pub record HaveRun (p : Case) (seen : Seen Entry) (commands : List Command) (out
   pub entries : All IsEntryOfCaller seen.own
   pub none : commands ≡ [] → seen.own ≡ []
   pub alone : IsOnePlan commands → seen.history ≡ seen.own → All IsPlanned outcomes
-    → All (λ o. outcome_position o ≡ 0) outcomes × ∥ IsWorkedPool p seen.history ∥₁
+      → All (λ o. outcome_position o ≡ 0) outcomes × ∥ IsWorkedPool p seen.history ∥₁
 
 -- a caller finds no room only where the history has 65,536 entries
 abbrev pub IsFullAt : List Entry → Stop → Type 0
