@@ -1,3 +1,4 @@
+ghost use Rattle.std.specs.Prelude.{◌≡◌};
 ghost use Rattle.fault_texts.specs.FaultTexts.{HasWords};
 ghost use Rattle.fault_messages.specs.NetworkMessages.{limit_message, network_message, number_message};
 
@@ -59,52 +60,59 @@ fn number_sentence(fault: NumberFault) -> Sentence
     }
 }
 
+/// What is wrong with a network file.
+fn network_wrong(kind: ReadKind) -> &'static str
+    ensures { result.now ≡ (network_message kind).0 }
+{
+    match kind {
+        ReadKind::Limit(limited) => limit_sentence(limited).wrong,
+        ReadKind::Number(fault) => number_sentence(fault).wrong,
+        ReadKind::Header => "this is no network",
+        ReadKind::Section =>
+            "another section is expected here, or its parenthesis, or the end of the file",
+        ReadKind::Token => "another word or parenthesis is expected here",
+        ReadKind::Ended => "the file ends too early",
+        ReadKind::UnknownName =>
+            "no node, link or demand of the kind that is due here has this name",
+        ReadKind::DoubleName => "this name stands twice",
+        ReadKind::SelfLink => "this link joins a node to itself",
+        ReadKind::SelfDemand => "this demand goes from a node to itself",
+        ReadKind::ZeroModule => "this module has no capacity",
+        ReadKind::FixedLink => "this link has capacity in place and no module",
+    }
+}
+
+/// What a network file should have there, or what to do.
+fn network_help(kind: ReadKind) -> &'static str
+    ensures { result.now ≡ (network_message kind).1 }
+{
+    match kind {
+        ReadKind::Limit(limited) => limit_sentence(limited).help,
+        ReadKind::Number(fault) => number_sentence(fault).help,
+        ReadKind::Header =>
+            "the first line of a network is: ?SNDlib native format; type: network; version: 1.0",
+        ReadKind::Section =>
+            "the sections are NODES, LINKS and DEMANDS, in this order and each in parentheses; META may stand before them, and ADMISSIBLE_PATHS after them",
+        ReadKind::Token =>
+            "a link is: NAME ( NODE NODE ) number number number number ( capacity cost .. ); a demand is: NAME ( NODE NODE ) unit value UNLIMITED",
+        ReadKind::Ended => "is it cut off, or does a parenthesis stay open?",
+        ReadKind::UnknownName =>
+            "a link or a demand ends at nodes of the list, and an admissible path is one of links for a demand; upper and lower case differ",
+        ReadKind::DoubleName => "each node, each link and each demand has a name of its own",
+        ReadKind::SelfLink => "the ends of a link are two nodes",
+        ReadKind::SelfDemand => "the ends of a demand are two nodes",
+        ReadKind::ZeroModule => "the capacity of a module is above 0",
+        ReadKind::FixedLink =>
+            "a link is planned only with a module; give it one, or leave the link out",
+    }
+}
+
 /// What is wrong with a network file, by the kind of its first fault. It takes no memory.
 pub fn network_sentence(kind: ReadKind) -> Sentence
     ensures { HasWords result (network_message kind) }
 {
-    match kind {
-        ReadKind::Limit(limited) => limit_sentence(limited),
-        ReadKind::Number(fault) => number_sentence(fault),
-        ReadKind::Header => Sentence {
-            wrong: "this is no network",
-            help: "the first line of a network is: ?SNDlib native format; type: network; version: 1.0",
-        },
-        ReadKind::Section => Sentence {
-            wrong: "another section is expected here, or its parenthesis, or the end of the file",
-            help: "the sections are NODES, LINKS and DEMANDS, in this order and each in parentheses; META may stand before them, and ADMISSIBLE_PATHS after them",
-        },
-        ReadKind::Token => Sentence {
-            wrong: "another word or parenthesis is expected here",
-            help: "a link is: NAME ( NODE NODE ) number number number number ( capacity cost .. ); a demand is: NAME ( NODE NODE ) unit value UNLIMITED",
-        },
-        ReadKind::Ended => Sentence {
-            wrong: "the file ends too early",
-            help: "is it cut off, or does a parenthesis stay open?",
-        },
-        ReadKind::UnknownName => Sentence {
-            wrong: "no node, link or demand of the kind that is due here has this name",
-            help: "a link or a demand ends at nodes of the list, and an admissible path is one of links for a demand; upper and lower case differ",
-        },
-        ReadKind::DoubleName => Sentence {
-            wrong: "this name stands twice",
-            help: "each node, each link and each demand has a name of its own",
-        },
-        ReadKind::SelfLink => Sentence {
-            wrong: "this link joins a node to itself",
-            help: "the ends of a link are two nodes",
-        },
-        ReadKind::SelfDemand => Sentence {
-            wrong: "this demand goes from a node to itself",
-            help: "the ends of a demand are two nodes",
-        },
-        ReadKind::ZeroModule => Sentence {
-            wrong: "this module has no capacity",
-            help: "the capacity of a module is above 0",
-        },
-        ReadKind::FixedLink => Sentence {
-            wrong: "this link has capacity in place and no module",
-            help: "a link is planned only with a module; give it one, or leave the link out",
-        },
+    Sentence {
+        wrong: network_wrong(kind),
+        help: network_help(kind),
     }
 }
