@@ -23,16 +23,15 @@ mod search;
 mod twigs;
 mod whole;
 
-pub use able_counts;
 pub use aim::Aim;
-pub use box_program;
 pub use certs::{Valued, copied, empty_cert};
 pub use evaluation::look;
 pub use found::{Cheaper, Found};
 pub use known::{Known, index_of};
+pub use line_maker::box_program;
 pub use lines::make_first_lines;
 pub use plan_swaps;
-pub use plan_swaps::trim_plan;
+pub use plan_swaps::{able_counts, trim_plan};
 pub use proof_order;
 pub use search::{MOST_FURTHER, MOST_SET_CUTS, Search};
 pub use twigs::{OpenBox, Twig};
