@@ -32,7 +32,16 @@ def without(text, begins):
     return "".join(out) + text[at:]
 
 
+def direct(text, crates):
+    """Names each crate by itself, also where the crates name it through another one that hands it on."""
+    names = "|".join(crates)
+    text = re.sub(rf"^pub use (?:(?:{names})::)*(?:{names});\n", "", text, flags=re.M)
+    text = re.sub(rf"^pub use (?:(?:{names})::)*\{{(?:(?:{names})(?:, )?)+\}};\n", "", text, flags=re.M)
+    return re.sub(rf"\b(?:(?:{names})::)+(?=(?:{names})::)", "", text)
+
+
 def plain(text, crate, crates):
+    text = direct(text, crates)
     text = re.sub(r"^ghost use [^;]*;\n", "", text, flags=re.M)
     text = re.sub(r"^\s+ghost use [^;]*;\n", "", text, flags=re.M)
     text = re.sub(r"^#!?\[tactic[^\n]*\n", "", text, flags=re.M)
