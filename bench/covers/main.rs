@@ -11,6 +11,7 @@ mod module_choice {
     pub mod alike;
     pub mod covers;
     pub mod tables;
+    pub mod totals;
 }
 
 use module_choice::alike::cover_links;
@@ -24,7 +25,7 @@ fn links(lists: u64, capacity: u64) -> Vec<Link> {
             let cost = 5000 * k + (e % lists * 7919 + k * 104729) % 10000;
             modules.push(Module { capacity: capacity * k, cost }).ok();
         }
-        Link { fixed: 0, modules }
+        Link { fixed: 0, setup: 0, modules }
     };
     (0..256).map(link).collect()
 }

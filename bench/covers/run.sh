@@ -16,10 +16,26 @@ pub struct Module {
 
 pub struct Link {
     pub fixed: u64,
+    pub setup: u64,
     pub modules: List<Module>,
 }
 
 pub type Counts = List<List<u64>>;
+
+pub struct Network {
+    links: List<Link>,
+}
+
+impl Network {
+    pub fn links(&self) -> &List<Link> {
+        &self.links
+    }
+}
+
+pub struct Caps {
+    pub scale: u64,
+    pub nums: List<u128>,
+}
 
 pub trait Copied: Sized {
     fn copy(&self) -> Result<Self, NoMemory>;

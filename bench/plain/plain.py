@@ -44,7 +44,7 @@ def plain(text, crate, crates):
     text = direct(text, crates)
     text = re.sub(r"^ghost use [^;]*;\n", "", text, flags=re.M)
     text = re.sub(r"^\s+ghost use [^;]*;\n", "", text, flags=re.M)
-    text = re.sub(r"^#!?\[tactic[^\n]*\n", "", text, flags=re.M)
+    text = re.sub(r"^ *#!?\[tactic[^\n]*\n", "", text, flags=re.M)
     text = re.sub(r"^//![^\n]*\n", "", text, flags=re.M)
     text = without(text, r"\n *(?:requires|ensures)\*? *\w* *\{")
     text = without(text, r"\n *(?:pub )?ghost \w+\s*[:=] *\{")

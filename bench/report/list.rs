@@ -75,6 +75,10 @@ impl<T> List<T> {
         List(Vec(std::vec::Vec::new()))
     }
 
+    pub fn into_vec(self) -> Vec<T> {
+        self.0
+    }
+
     pub fn from_vec(items: Vec<T>) -> List<T> {
         List(items)
     }
@@ -139,5 +143,14 @@ impl<T: Copied> List<T> {
 impl<T: Copied> Copied for List<T> {
     fn copy(&self) -> Result<List<T>, NoMemory> {
         List::from_slice(Global, self.items())
+    }
+}
+
+impl<T> IntoIterator for Vec<T> {
+    type Item = T;
+    type IntoIter = std::vec::IntoIter<T>;
+
+    fn into_iter(self) -> Self::IntoIter {
+        self.0.into_iter()
     }
 }

@@ -9,6 +9,12 @@ use checked_fraction::Row;
 use net_core::{Global, List};
 use simplex_core::{Column, Columns, Entry, Price, SimplexFault, solve};
 
+impl net_core::Copied for Entry {
+    fn copy(&self) -> Result<Entry, net_core::NoMemory> {
+        Ok(*self)
+    }
+}
+
 // Processor time of the process, in millionths of a second.
 unsafe extern "C" {
     safe fn clock() -> i64;
@@ -49,7 +55,7 @@ impl Columns for Program {
         let best = (0..self.columns.len()).min_by_key(|at| cost(*at));
         match best {
             Some(at) if cost(at) < duals.den() as i128 => {
-                let entries = self.columns[at].iter().map(|row| Entry { row: *row, value: 1 }).collect();
+                let entries = self.columns[at].iter().map(|row| Entry { row: *row, value: 1 }).collect::<Vec<_>>();
                 Price::Gain(Column {
                     name: self.rows() + at as u32,
                     gain: 1,

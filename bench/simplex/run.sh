@@ -5,6 +5,8 @@ cd "$(dirname "$0")/../.."
 room=$(mktemp -d)
 trap 'rm -r "$room"' EXIT
 python3 bench/plain/plain.py "$room" checked_fraction simplex_core
+cp bench/trim/net_core.rs "$room"
+grep -lE '\bVec\b' "$room"/*/*.rs | xargs --no-run-if-empty sed -i '1i use crate::net_core::Vec;'
 cp bench/simplex/main.rs "$room"
 rustc -O --edition 2024 -o "$room/simplex" "$room/main.rs"
 for rows in 50 200; do
