@@ -11,8 +11,8 @@ import re
 import sys
 from pathlib import Path
 
-# `rt` reads the files of a library twice for each way that leads from a crate down to it, some five milliseconds each time. At this
-# many ways the gate reads for half an hour, beside its proofs.
+# `rt ci` of rattle-kit-13b reads the files of a library twice for each way that leads from a crate down to it, some five milliseconds
+# each time. At this many ways that is half an hour of reading, beside the proofs.
 MOST_WAYS = 180_000
 
 TOP = Path(__file__).resolve().parent.parent
