@@ -29,6 +29,7 @@ mod simplex_core;
 mod table_maker;
 mod tree_check;
 mod trim_plan;
+mod warm_basis;
 mod warm_routing;
 
 mod plan_checker {

@@ -21,6 +21,7 @@ mod row_prices;
 mod share_covers;
 mod short_paths;
 mod simplex_core;
+mod warm_basis;
 mod warm_routing;
 
 mod plan_types {

@@ -20,6 +20,7 @@ mod row_prices;
 mod short_paths;
 mod simplex_core;
 mod trim_plan;
+mod warm_basis;
 mod warm_routing;
 
 mod plan_types {

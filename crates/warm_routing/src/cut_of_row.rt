@@ -2,14 +2,12 @@ ghost use Rattle.std.specs.Prelude.{◌<◌, IfOk, IfSome};
 ghost use Rattle.plan_terms.specs.Terms.{graph_of};
 ghost use Rattle.row_cuts.specs.FoundCuts.{IsFoundCutOf};
 
-use crate::basis::Basis;
-use crate::column::Column;
-use crate::row::BasisRow;
 use metric_cut::Cut;
 use net_core::{Copied, LinkId, List, NoMemory, RouteColumn, RouteTask};
 use row_cuts::row_cut;
 use row_prices::PathRow;
 use std::alloc::Global;
+use warm_basis::{Basis, BasisRow, Column};
 
 /// A column as one of a routing program.
 fn route_column(column: &Column) -> Result<RouteColumn, NoMemory> {

@@ -1,16 +1,6 @@
-use crate::column::{Column, beyond_key};
 use crate::searching::Waiting;
-use crate::share::{Share, is_counted, need_of};
-use crate::shortage::Shortage;
 use net_core::{List, Path};
-
-/// A column that enters.
-#[derive(Drop)]
-pub(crate) struct Entrant {
-    pub column: Column,
-    /// What is short changes by this with each unit of it, over the shortage's `den`; it is below 0.
-    pub slope: i64,
-}
+use warm_basis::{Column, Entrant, Share, Shortage, beyond_key, is_counted, need_of};
 
 /// The slack of the link whose slope is least, if it is below 0.
 pub(crate) fn entering_slack(slopes: &[i64]) -> Option<Entrant> {

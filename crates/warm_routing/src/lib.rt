@@ -12,21 +12,11 @@
 #![tactic(auto)]
 
 mod answer;
-mod basis;
-mod column;
 mod cut_of_row;
 mod entering;
-mod leaving;
-mod numbers;
-mod one_row;
 mod router;
-mod routing;
-mod row;
 mod searching;
-mod share;
-mod shortage;
 mod start;
-mod turning;
 
 pub use answer::WarmAnswer;
 pub use flow_mending;

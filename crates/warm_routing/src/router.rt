@@ -5,24 +5,20 @@ ghost use Rattle.warm_routing.specs.WarmAnswers.{IsWarmAnswer};
 ghost use Rattle.warm_routing.specs.inner.Steps.{IsSoundChoice, IsSoundStep};
 
 use crate::answer::WarmAnswer;
-use crate::basis::Basis;
 use crate::cut_of_row::cut_at;
-use crate::entering::{Entrant, entering_path, entering_slack};
-use crate::leaving::{fixed_point, leaving, points_of};
-use crate::one_row::{Aim, aimed, clear, set_weights};
-use crate::routing::routing_of;
-use crate::row::set_values;
+use crate::entering::{entering_path, entering_slack};
 use crate::searching::{Waiting, collect, given, set_lengths};
-use crate::share::{Share, no_places, set_losses, shares_of};
-use crate::shortage::{Shortage, is_short, short_in_all, shortage_of};
 use crate::start::{bounds_of, first_basis, needs_of};
-use crate::turning::{set_products, turn};
-use flow_mending::if_routed;
 use flow_mending::reach::Reach;
+use flow_mending::{if_routed, lowest};
 use metric_cut::Cut;
-use net_core::{List, NoMemory, RouteColumn, RouteTask, StateId, Surviving};
+use net_core::{List, NoMemory, RouteColumn, RouteTask, Routing, StateId, Surviving};
 use node_sets::threshold_set;
 use std::alloc::Global;
+use warm_basis::{
+    Aim, Basis, Entrant, Share, Shortage, aimed, clear, enter, is_short, no_places, routing_of,
+    set_weights, shares_of, short_in_all, shortage_of,
+};
 
 /// A basis that is kept from one question to the next. It saves work and changes no answer's meaning, so that nothing need be known of it.
 #[derive(Drop)]
@@ -125,37 +121,6 @@ fn choose(
     search(alloc, task, basis, shortage, shares, question)
 }
 
-/// Lets a column enter; `false` where a number is too wide, and then the basis is given up.
-fn enter(
-    alloc: Global,
-    basis: &mut Basis,
-    question: &Question,
-    shares: &mut [Share],
-    den: i64,
-    entrant: Entrant,
-) -> Result<bool, NoMemory> {
-    let Entrant { column, slope } = entrant;
-    set_products(basis, &column);
-    let entering = column.demand();
-    let needs = question.needs.items();
-    set_losses(shares, basis.rows.items(), entering);
-    let alone = question.alone;
-    let mut points = points_of(alloc, basis.rows.items(), shares, needs, entering, alone)?;
-    let falls = if alone {
-        0
-    } else {
-        fixed_point(slope as i128, den)
-    };
-    let Some(role) = leaving(&mut points, falls) else {
-        return Ok(false);
-    };
-    let turned = turn(alloc, basis, &role, column)?.is_some();
-    if !turned {
-        basis.rows.clear();
-    }
-    Ok(turned)
-}
-
 /// The answer that a basis gives in which nothing is short, if its routing carries the demands.
 fn routed(
     alloc: Global,
@@ -166,9 +131,10 @@ fn routed(
 ) -> Result<Step, NoMemory>
     ensures { IfOk result (IsSoundStep (graph_of task.now.graph) task.now.demands.now task.now.caps.now) }
 {
-    let Some(routing) = routing_of(alloc, basis, shares, needs)? else {
+    let Some(Routing { den, flows }) = routing_of(alloc, basis, shares, needs)? else {
         return Ok(Step::GivenUp);
     };
+    let routing = lowest(den, flows);
     match if_routed(alloc, task, routing)? {
         Some(routing) => Ok(Step::Done(WarmAnswer::Routed(routing))),
         None => Ok(Step::GivenUp),
@@ -233,7 +199,8 @@ fn go_on(
     };
     match choose(alloc, task, basis, &shortage, shares, question)? {
         Choice::Enters(entrant) => {
-            if enter(alloc, basis, question, shares, shortage.den, entrant)? {
+            let (needs, alone) = (question.needs.items(), question.alone);
+            if enter(alloc, basis, shares, needs, entrant, shortage.den, alone)? {
                 Ok(Step::Turned)
             } else {
                 Ok(Step::GivenUp)
@@ -275,10 +242,7 @@ impl WarmRouter {
     pub fn new(alloc: Global) -> WarmRouter {
         WarmRouter {
             alloc,
-            basis: Basis {
-                keys: List::new(alloc),
-                rows: List::new(alloc),
-            },
+            basis: Basis::new(alloc),
         }
     }
 
@@ -309,9 +273,9 @@ impl WarmRouter {
         }
         let bounds = bounds_of(self.alloc, task)?;
         let needs = needs_of(self.alloc, task)?;
-        let rest = self.basis.rest(self.alloc, bounds.items(), needs.items())?;
+        self.basis
+            .set_values(self.alloc, bounds.items(), needs.items())?;
         let rows = self.basis.rows.items_mut();
-        set_values(rows, rest.items());
         let mut places = no_places(self.alloc, needs.items())?;
         match shares_of(self.alloc, rows, needs.items(), places.items_mut())? {
             Some(shares) => Ok(Some(short_in_all(rows, shares.items()))),
@@ -341,8 +305,8 @@ impl WarmRouter {
         }
         let bounds = bounds_of(self.alloc, task)?;
         let needs = needs_of(self.alloc, task)?;
-        let rest = self.basis.rest(self.alloc, bounds.items(), needs.items())?;
-        set_values(self.basis.rows.items_mut(), rest.items());
+        self.basis
+            .set_values(self.alloc, bounds.items(), needs.items())?;
         let places = no_places(self.alloc, needs.items())?;
         Ok(Question {
             bounds,

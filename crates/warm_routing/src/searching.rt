@@ -1,11 +1,9 @@
 ghost use Rattle.std.specs.Prelude.{◌≡◌, length};
 
-use crate::column::along;
-use crate::share::{Share, need_of};
-use crate::shortage::Shortage;
 use flow_mending::reach::{Arc, FAR, Reach};
 use net_core::{List, NoMemory, NodeId, Path, RouteTask};
 use std::alloc::Global;
+use warm_basis::{Share, Shortage, along, need_of};
 
 /// The most paths that wait.
 const MOST: usize = 64;

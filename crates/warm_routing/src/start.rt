@@ -1,10 +1,8 @@
-use crate::basis::Basis;
-use crate::column::Column;
-use crate::row::BasisRow;
 use flow_mending::bounded;
 use flow_mending::reach::Reach;
 use net_core::{Demand, LinkId, List, NoMemory, NodeId, Path, RouteTask};
 use std::alloc::Global;
+use warm_basis::Basis;
 
 /// The capacity of each link, 0 where the state fails it.
 pub(crate) fn bounds_of(alloc: Global, task: &RouteTask) -> Result<List<i128>, NoMemory> {
@@ -69,37 +67,12 @@ fn first_keys(alloc: Global, task: &RouteTask, reach: &mut Reach) -> Result<List
     Ok(keys)
 }
 
-/// The row of a link's slack.
-fn unit_row(alloc: Global, links: usize, at: usize) -> Result<BasisRow, NoMemory> {
-    let mut nums = List::filled(alloc, 0, links)?;
-    let all = nums.items_mut();
-    if at < all.len() {
-        all[at] = 1;
-    }
-    Ok(BasisRow {
-        column: Column::Slack(at),
-        nums,
-        den: 1,
-        value: 0,
-        product: 0,
-        weight: 0,
-        share: usize::MAX,
-    })
-}
-
 /// Keys of fewest links, and the slacks of the links.
 pub(crate) fn first_basis(
     alloc: Global,
     task: &RouteTask,
     reach: &mut Reach,
 ) -> Result<Basis, NoMemory> {
-    let links = task.graph.net.links().len();
-    let mut rows = List::new(alloc);
-    for e in 0..links {
-        rows.push(unit_row(alloc, links, e)?)?;
-    }
-    Ok(Basis {
-        keys: first_keys(alloc, task, reach)?,
-        rows,
-    })
+    let keys = first_keys(alloc, task, reach)?;
+    Basis::of_slacks(alloc, keys, task.graph.net.links().len())
 }

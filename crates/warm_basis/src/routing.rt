@@ -3,7 +3,6 @@ use crate::column::Column;
 use crate::numbers::{common_multiple, over};
 use crate::row::BasisRow;
 use crate::share::{Share, place_of, whole_share};
-use flow_mending::lowest;
 use net_core::{Copied, Flow, LinkId, List, NoMemory, Path, Routing};
 use std::alloc::Global;
 
@@ -70,8 +69,10 @@ fn flows_of(
     Ok(flows)
 }
 
-/// The routing of a basis in which nothing is short, in lowest terms; `None` where its denominator is too wide.
-pub(crate) fn routing_of(
+/// The routing of a basis in which nothing is short; `None` where its denominator is too wide. It may not be in lowest terms.
+///
+/// It takes time in the demands times the shares, and copies the paths that carry something.
+pub fn routing_of(
     alloc: Global,
     basis: &Basis,
     shares: &[Share],
@@ -81,5 +82,8 @@ pub(crate) fn routing_of(
         return Ok(None);
     };
     let flows = flows_of(alloc, basis, shares, needs, den)?;
-    Ok(Some(lowest(den.unsigned_abs(), flows)))
+    Ok(Some(Routing {
+        den: den.unsigned_abs(),
+        flows,
+    }))
 }

@@ -1,13 +1,15 @@
 use crate::column::Column;
-use crate::row::BasisRow;
+use crate::row::{BasisRow, set_values};
 use net_core::{Copied, LinkId, List, NoMemory, Path, RouteColumn};
 use std::alloc::Global;
 
 /// A basis of the equations that the demands are carried within the capacities: a key path for each demand, and as many further columns as
 /// there are links, each with its row of the inverse. It is one of every state and of all capacities, which are right sides alone.
 #[derive(Drop)]
-pub(crate) struct Basis {
+pub struct Basis {
+    /// One path for each demand, without links where none is known.
     pub keys: List<Path>,
+    /// The rows of the further columns.
     pub rows: List<BasisRow>,
 }
 
@@ -43,16 +45,33 @@ fn rows_of(alloc: Global, rows: &[BasisRow]) -> Result<List<BasisRow>, NoMemory>
 }
 
 impl Basis {
-    /// A copy.
-    pub(crate) fn copy(&self, alloc: Global) -> Result<Basis, NoMemory> {
+    /// No keys and no rows. It asks for no memory.
+    pub fn new(alloc: Global) -> Basis {
+        Basis {
+            keys: List::new(alloc),
+            rows: List::new(alloc),
+        }
+    }
+
+    /// These keys, and the slacks of the links. It takes time and memory in the square of the links.
+    pub fn of_slacks(alloc: Global, keys: List<Path>, links: usize) -> Result<Basis, NoMemory> {
+        let mut rows = List::new(alloc);
+        for e in 0..links {
+            rows.push(BasisRow::of_slack(alloc, links, e)?)?;
+        }
+        Ok(Basis { keys, rows })
+    }
+
+    /// A copy. It takes time and memory in the square of the links, and in the links of the paths.
+    pub fn copy(&self, alloc: Global) -> Result<Basis, NoMemory> {
         Ok(Basis {
             keys: self.keys.copy()?,
             rows: rows_of(alloc, self.rows.items())?,
         })
     }
 
-    /// The keys and the paths of the rows, as columns of a routing program.
-    pub(crate) fn carriers(&self, alloc: Global) -> Result<List<RouteColumn>, NoMemory> {
+    /// The keys and the paths of the rows, as columns of a routing program. It copies each of them, in time and memory of their links.
+    pub fn carriers(&self, alloc: Global) -> Result<List<RouteColumn>, NoMemory> {
         let mut columns = List::new(alloc);
         let keys = self.keys.items();
         for k in 0..keys.len() {
@@ -67,12 +86,7 @@ impl Basis {
     }
 
     /// What the keys leave of the links where they carry all demands.
-    pub(crate) fn rest(
-        &self,
-        alloc: Global,
-        bounds: &[i128],
-        needs: &[i128],
-    ) -> Result<List<i128>, NoMemory> {
+    fn rest(&self, alloc: Global, bounds: &[i128], needs: &[i128]) -> Result<List<i128>, NoMemory> {
         let mut rest = List::from_slice(alloc, bounds)?;
         let keys = self.keys.items();
         for k in 0..keys.len() {
@@ -81,5 +95,19 @@ impl Basis {
             }
         }
         Ok(rest)
+    }
+
+    /// Sets what the columns carry where the links have these capacities, and the demands these needs over the same scale.
+    ///
+    /// It takes time in the square of the links, and in the links of the keys.
+    pub fn set_values(
+        &mut self,
+        alloc: Global,
+        bounds: &[i128],
+        needs: &[i128],
+    ) -> Result<(), NoMemory> {
+        let rest = self.rest(alloc, bounds, needs)?;
+        set_values(self.rows.items_mut(), rest.items());
+        Ok(())
     }
 }

@@ -5,13 +5,14 @@ use std::alloc::Global;
 
 /// What is left to a demand's key once the rows of the demand have their parts, over `den`.
 #[derive(Clone, Copy)]
-pub(crate) struct Share {
+pub struct Share {
+    /// The place of the demand.
     pub demand: usize,
-    pub den: i64,
+    pub(crate) den: i64,
     /// What the key carries; below 0 that much is short.
-    pub value: i128,
+    pub(crate) value: i128,
     /// What the key loses to a unit of the column that enters.
-    pub product: i128,
+    pub(crate) product: i128,
     /// Whether its value counts in what is short.
     pub counts: bool,
 }
@@ -26,8 +27,8 @@ pub(crate) fn place_of(shares: &[Share], demand: usize) -> usize {
     shares.len()
 }
 
-/// Whether the value of a demand's key counts in what is short.
-pub(crate) fn is_counted(shares: &[Share], demand: usize) -> bool {
+/// Whether the value of a demand's key counts in what is short. It takes time in the shares.
+pub fn is_counted(shares: &[Share], demand: usize) -> bool {
     let at = place_of(shares, demand);
     at < shares.len() && shares[at].counts
 }
@@ -45,8 +46,8 @@ fn take_part(share: &mut Share, row: &BasisRow) -> Option<()> {
     Some(())
 }
 
-/// What a demand needs.
-pub(crate) fn need_of(needs: &[i128], demand: usize) -> i128 {
+/// What the demand at a place needs, and 0 past the last one. It takes constant time.
+pub fn need_of(needs: &[i128], demand: usize) -> i128 {
     if demand < needs.len() {
         needs[demand]
     } else {
@@ -103,8 +104,8 @@ fn add_row(
     Ok(None)
 }
 
-/// No demand has a share: the list that `shares_of` is lent, and leaves as it was.
-pub(crate) fn no_places(alloc: Global, needs: &[i128]) -> Result<List<usize>, NoMemory> {
+/// No demand has a share: the list that `shares_of` is lent, and leaves as it was. It takes time and memory in the needs.
+pub fn no_places(alloc: Global, needs: &[i128]) -> Result<List<usize>, NoMemory> {
     List::filled(alloc, usize::MAX, needs.len())
 }
 
@@ -118,7 +119,9 @@ fn clear_places(places: &mut [usize], shares: &[Share]) {
 }
 
 /// What is left to the key of each demand that has rows; `None` where a number is too wide. Each row gets the place of its demand's.
-pub(crate) fn shares_of(
+///
+/// It takes time and memory in the rows.
+pub fn shares_of(
     alloc: Global,
     rows: &mut [BasisRow],
     needs: &[i128],

@@ -9,7 +9,7 @@ use std::alloc::Global;
 
 /// What came of letting rows count.
 #[derive(Clone, Copy)]
-pub(crate) enum Aim {
+pub enum Aim {
     /// Those count that are to.
     Set,
     /// A short key has become a row.
@@ -18,15 +18,15 @@ pub(crate) enum Aim {
     Wide,
 }
 
-/// Lets no row count.
-pub(crate) fn clear(rows: &mut [BasisRow]) {
+/// Lets no row count. It takes time in the rows.
+pub fn clear(rows: &mut [BasisRow]) {
     for i in 0..rows.len() {
         rows[i].weight = 0;
     }
 }
 
-/// The place of the row that counts and is still short.
-pub(crate) fn aimed(rows: &[BasisRow]) -> Option<usize> {
+/// The place of the row that counts and is still short. It takes time in the rows.
+pub fn aimed(rows: &[BasisRow]) -> Option<usize> {
     for i in 0..rows.len() {
         if rows[i].weight != 0 && rows[i].value < 0 {
             return Some(i);
@@ -92,8 +92,10 @@ fn count_one(alloc: Global, basis: &mut Basis, shares: &[Share]) -> Result<Aim, 
     }
 }
 
-/// Lets one short row count alone, or all short rows and keys.
-pub(crate) fn set_weights(
+/// Lets one short row count alone, or all short rows and keys. A short key that is to count alone changes places with a row of its demand.
+///
+/// It takes time in the rows, and where a key changes places also in the square of the links.
+pub fn set_weights(
     alloc: Global,
     basis: &mut Basis,
     shares: &mut [Share],

@@ -1,9 +1,11 @@
 use net_core::{Copied, LinkId, NoMemory, Path};
 
-/// A column of a basis beside the keys: what a link has left, or a path of a demand.
+/// A column of a basis beside the keys.
 #[derive(Drop)]
-pub(crate) enum Column {
+pub enum Column {
+    /// What the link at this place has left.
     Slack(usize),
+    /// A path of the demand at this place.
     Carry(usize, Path),
 }
 
@@ -12,8 +14,8 @@ fn number_at(nums: &[i64], at: usize) -> i64 {
     if at < nums.len() { nums[at] } else { 0 }
 }
 
-/// The sum of numbers along a path.
-pub(crate) fn along(nums: &[i64], path: &[LinkId]) -> i64 {
+/// The sum of numbers, one for each link, along a path; a link past the last one counts nothing. It takes time in the path's links.
+pub fn along(nums: &[i64], path: &[LinkId]) -> i64 {
     let mut sum = 0i64;
     for link in path {
         sum = sum.wrapping_add(number_at(nums, link.0 as usize));
@@ -30,8 +32,8 @@ pub(crate) fn key_of(keys: &[Path], demand: usize) -> &[LinkId] {
     }
 }
 
-/// What a path has more of some numbers than its demand's key.
-pub(crate) fn beyond_key(nums: &[i64], keys: &[Path], demand: usize, path: &[LinkId]) -> i64 {
+/// What a path has more of some numbers, one for each link, than its demand's key. It takes time in the links of both.
+pub fn beyond_key(nums: &[i64], keys: &[Path], demand: usize, path: &[LinkId]) -> i64 {
     along(nums, path).wrapping_sub(along(nums, key_of(keys, demand)))
 }
 

@@ -7,9 +7,10 @@ use std::alloc::Global;
 
 /// How all that is short together depends on the links' capacities.
 #[derive(Drop)]
-pub(crate) struct Shortage {
+pub struct Shortage {
     /// What a unit of each link's capacity takes off, over `den`.
     pub slopes: List<i64>,
+    /// A common denominator of the rows that count.
     pub den: i64,
 }
 
@@ -23,8 +24,8 @@ fn weight_of(row: &BasisRow, shares: &[Share]) -> i64 {
     }
 }
 
-/// Whether some value is negative.
-pub(crate) fn is_short(rows: &[BasisRow], shares: &[Share]) -> bool {
+/// Whether some value is negative. It takes time in the rows and the shares.
+pub fn is_short(rows: &[BasisRow], shares: &[Share]) -> bool {
     rows.iter().any(|row| row.value < 0) || shares.iter().any(|share| share.value < 0)
 }
 
@@ -47,8 +48,8 @@ fn missing(value: i128, den: i64) -> u128 {
     }
 }
 
-/// How much is short in all rows and keys, with 20 bits after the point.
-pub(crate) fn short_in_all(rows: &[BasisRow], shares: &[Share]) -> u128 {
+/// How much is short in all rows and keys, with 20 bits after the point. It takes time in the rows and the shares.
+pub fn short_in_all(rows: &[BasisRow], shares: &[Share]) -> u128 {
     let mut sum = 0u128;
     for row in rows {
         sum = sum.saturating_add(missing(row.value, row.den));
@@ -80,7 +81,9 @@ fn add(slopes: &mut [i64], nums: &[i64], times: i64) {
 }
 
 /// How what is short depends on the capacities, by the weights of the rows; `None` where a number is too wide.
-pub(crate) fn shortage_of(
+///
+/// It takes time in the links for each row that counts, and a number for each link.
+pub fn shortage_of(
     alloc: Global,
     rows: &[BasisRow],
     links: usize,

@@ -1,25 +1,46 @@
 use crate::column::Column;
 use crate::numbers::{common, over, signed, wide_over};
 use net_core::{Copied, List, NoMemory};
+use std::alloc::Global;
 
 /// A column of the basis with its row of the inverse, whole numbers over `den`.
 #[derive(Drop)]
-pub(crate) struct BasisRow {
+pub struct BasisRow {
+    /// What the row is of.
     pub column: Column,
     /// One number for each link.
     pub nums: List<i64>,
+    /// The denominator of the numbers.
     pub den: i64,
     /// What the column carries, over `den`; below 0 that much is short.
-    pub value: i128,
+    pub(crate) value: i128,
     /// What it loses to a unit of the column that enters, over `den`.
-    pub product: i64,
+    pub(crate) product: i64,
     /// How often its value counts in what is short.
-    pub weight: i64,
+    pub(crate) weight: i64,
     /// The place of its demand's share, past the end where it has none.
-    pub share: usize,
+    pub(crate) share: usize,
 }
 
 impl BasisRow {
+    /// The row of a link's slack.
+    pub(crate) fn of_slack(alloc: Global, links: usize, at: usize) -> Result<BasisRow, NoMemory> {
+        let mut nums = List::filled(alloc, 0, links)?;
+        let all = nums.items_mut();
+        if at < all.len() {
+            all[at] = 1;
+        }
+        Ok(BasisRow {
+            column: Column::Slack(at),
+            nums,
+            den: 1,
+            value: 0,
+            product: 0,
+            weight: 0,
+            share: usize::MAX,
+        })
+    }
+
     /// A copy.
     pub(crate) fn copy(&self) -> Result<BasisRow, NoMemory> {
         Ok(BasisRow {
