@@ -1,6 +1,6 @@
-ghost use Rattle.std.specs.Prelude.{◌≤◌};
-ghost use Rattle.plan_terms.specs.Terms.{case_of, IsSurvivable};
-ghost use Rattle.trim_plan.specs.Terms.{IsTestOf};
+ghost use Rattle.std.specs.Prelude.{◌≡◌, ◌≤◌, IfOk};
+ghost use Rattle.plan_terms.specs.Terms.{Case, case_of, AreCounts, AreWithinLimits, IsSurvivable, capacities, total_cost};
+ghost use Rattle.trim_plan.specs.Terms.{AreRoutingsWithin, IsTestOf};
 ghost use Rattle.plan_swaps.specs.inner.Searching.{AreAskedCounts, AreCarryingCounts};
 
 use crate::search::Search;
@@ -13,6 +13,25 @@ pub struct Kept {
     pub counts: Counts,
     pub cost: u128,
     pub routings: List<Routing>,
+}
+
+/// Copies of counts and of the routings within them, with what the counts cost.
+pub(crate) fn kept_of(
+    instance: &Instance,
+    counts: &Counts,
+    routings: &List<Routing>,
+) -> Result<Kept, NoMemory>
+    requires shape { AreCounts instance.now.net.now.links counts.now }
+    requires limits { AreWithinLimits instance.now.net.now.links counts.now }
+    requires routings { AreRoutingsWithin (case_of instance.now) (capacities instance.now.net.now.links counts.now) routings.now }
+    ensures carrying { IfOk result (AreCarryingCounts (case_of instance.now)) }
+    ensures paid { IfOk result (λ kept. kept.cost ≡ total_cost instance.now.net.now.links counts.now) }
+{
+    Ok(Kept {
+        counts: counts.copy()?,
+        cost: cost(instance.net, counts),
+        routings: routings.copy()?,
+    })
 }
 
 /// Keeps other counts where they cost less and carry the demands.
@@ -29,19 +48,23 @@ pub(crate) fn keep_cheaper(
     ensures kept { AreCarryingCounts (case_of instance.now) kept.new }
     ensures cheaper { kept.new.cost ≤ kept.old.cost }
 {
-    let cost = cost(instance.net, counts);
-    if cost >= kept.cost {
+    if cost(instance.net, counts) >= kept.cost {
         return Ok(false);
     }
     if !search.carries(instance, counts)? {
         return Ok(false);
     }
-    let counts = counts.copy()?;
-    let routings = search.test.routings().copy()?;
-    *kept = Kept {
-        counts,
-        cost,
-        routings,
-    };
+    *kept = kept_of(instance, counts, search.test.routings())?;
     Ok(true)
+}
+
+/// Keeps other counts that carry the demands, where they cost less.
+pub(crate) fn keep_lower(kept: &mut Kept, other: Kept)
+    ensures kept { (p : Case) → AreCarryingCounts p kept.old → AreCarryingCounts p other → AreCarryingCounts p kept.new }
+    ensures cheaper { kept.new.cost ≤ kept.old.cost }
+    ensures cheapest { kept.new.cost ≤ other.cost }
+{
+    if other.cost < kept.cost {
+        *kept = other;
+    }
 }

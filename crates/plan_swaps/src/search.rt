@@ -1,4 +1,4 @@
-ghost use Rattle.std.specs.Prelude.{◌≡◌, IfOk, IsTrue};
+ghost use Rattle.std.specs.Prelude.{IfOk, IsTrue};
 ghost use Rattle.plan_terms.specs.Terms.{case_of, AreCounts, AreWithinLimits, IsSurvivable, capacities};
 ghost use Rattle.trim_plan.specs.Terms.{AreRoutingsWithin, IsTestOf};
 
@@ -39,12 +39,16 @@ impl Search {
             }
         }
     }
+}
 
-    /// Whether a cut that was met refuses the measured counts with one module less, and perhaps another one more.
-    pub(crate) fn keeps(&mut self, links: &[Link], off: Place, on: Option<Place>) -> bool
-        ensures { self.new.test ≡ self.old.test }
-    {
-        self.asks = self.asks.saturating_sub(1);
-        self.refusals.keeps(links, off, on)
-    }
+/// Whether a cut that was met refuses the measured counts with one module less, and perhaps another one more: one look.
+pub(crate) fn refuses(
+    refusals: &Refusals,
+    asks: &mut u64,
+    links: &[Link],
+    off: Place,
+    on: Option<Place>,
+) -> bool {
+    *asks = asks.saturating_sub(1);
+    refusals.keeps(links, off, on)
 }

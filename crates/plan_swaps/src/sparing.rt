@@ -1,7 +1,7 @@
 ghost use Rattle.plan_terms.specs.Terms.{case_of};
 ghost use Rattle.plan_swaps.specs.inner.Searching.{AreAskedCounts};
 
-use crate::search::Search;
+use crate::search::{Search, refuses};
 use net_core::{Counts, Instance, NoMemory};
 use trim_plan::{Place, Priced, module_count, one_less};
 
@@ -16,7 +16,10 @@ fn take_off(
     ensures asked { AreAskedCounts (case_of instance.now) search.new counts.new }
 {
     let links = instance.net.links().items();
-    if search.asks == 0 || module_count(counts, place) == 0 || search.keeps(links, place, None) {
+    if search.asks == 0 || module_count(counts, place) == 0 {
+        return Ok(false);
+    }
+    if refuses(&search.refusals, &mut search.asks, links, place, None) {
         return Ok(false);
     }
     search.refusals.lower(links, place);

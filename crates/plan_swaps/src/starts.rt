@@ -4,11 +4,11 @@ ghost use Rattle.trim_plan.specs.Terms.{AreRoutingsWithin, IsTestOf};
 ghost use Rattle.plan_swaps.specs.Swaps.{AreNoCheaper};
 ghost use Rattle.plan_swaps.specs.inner.Searching.{AreCarryingCounts};
 
-use crate::kept::Kept;
+use crate::discard::discard;
+use crate::kept::{Kept, keep_lower, kept_of};
 use crate::search::Search;
 use crate::swaps::make_cheaper;
-use module_choice::cost;
-use net_core::{Copied, Counts, Instance, NoMemory};
+use net_core::{Counts, Instance, NoMemory};
 use std::alloc::Global;
 use trim_plan::Priced;
 
@@ -32,15 +32,9 @@ fn keep_from(
     ensures cheaper { kept.new.cost ≤ kept.old.cost }
     ensures start { OnOk result (kept.new.cost ≤ total_cost instance.now.net.now.links start.now) }
 {
-    let mut own = Kept {
-        counts: start.copy()?,
-        cost: cost(instance.net, start),
-        routings: search.test.routings().copy()?,
-    };
+    let mut own = kept_of(instance, start, search.test.routings())?;
     make_cheaper(alloc, instance, search, dearest, &mut own)?;
-    if own.cost < kept.cost {
-        *kept = own;
-    }
+    keep_lower(kept, own);
     Ok(())
 }
 
@@ -64,7 +58,10 @@ fn try_start(
     ensures start { OnOk result (AreNoCheaper (case_of instance.now) kept.new.cost start.now) }
 {
     match search.test.stop(instance, start)? {
-        Some(_stop) => Ok(()),
+        Some(stop) => {
+            discard(stop);
+            Ok(())
+        }
         None => keep_from(alloc, instance, search, dearest, kept, start),
     }
 }

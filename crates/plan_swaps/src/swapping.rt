@@ -1,20 +1,22 @@
-ghost use Rattle.std.specs.Prelude.{◌≡◌, ◌≤◌, All, IfOk, length};
+ghost use Rattle.std.specs.Prelude.{◌≡◌, ◌≤◌, All, IfOk, OnOk, length};
 ghost use Rattle.plan_terms.specs.Terms.{AreCounts, AreDemands, AreWithinLimits, case, case_of, IsSurvivable};
+ghost use Rattle.trim_plan.specs.Terms.{IsTestOf};
 ghost use Rattle.trim_plan.specs.Trimmed.{IsRoutedPlan};
 ghost use Rattle.plan_swaps.specs.Swaps.{AreNoCheaper, IsCheaperPlan, IsCheaperThanStarts};
 ghost use Rattle.plan_swaps.specs.inner.Searching.{AreCarryingCounts};
 
+use crate::discard::discard;
 use crate::kept::Kept;
 use crate::refusals::Refusals;
 use crate::search::Search;
 use crate::starts::try_starts;
 use crate::swaps::make_cheaper;
-use net_core::{Copied, Counts, Instance, List, Network, NoMemory, States};
+use net_core::{Copied, Counts, Instance, List, Network, NoMemory, Routing, States};
 use plan_types::{Certificate, Plan};
 use std::alloc::Global;
 use std::mem;
 use trim_plan::able_counts::AbleTest;
-use trim_plan::dearest_first;
+use trim_plan::{Priced, dearest_first};
 
 /// The cuts of a certificate, which are met at the start.
 fn met_cuts(alloc: Global, certificate: &Certificate) -> Result<Refusals, NoMemory> {
@@ -25,52 +27,133 @@ fn met_cuts(alloc: Global, certificate: &Certificate) -> Result<Refusals, NoMemo
     Ok(refusals)
 }
 
-/// The cheapest counts to which exchanges of modules lead from given counts that carry the demands, and from others. The cuts of a
-/// certificate are met at the start.
-fn swapped_counts(
+/// A search that begins with a copy of the routings of counts that carry the demands. The cuts of a certificate are met at the start.
+fn search_from(
     alloc: Global,
     instance: &Instance,
     certificate: &Certificate,
-    given: Kept,
-    starts: &[Counts],
-) -> Result<Kept, NoMemory>
-    requires survivable { IsSurvivable (case_of instance.now) }
-    requires given { AreCarryingCounts (case_of instance.now) given }
-    requires starts { All (λ counts. AreCounts instance.now.net.now.links counts × AreWithinLimits instance.now.net.now.links counts) starts.now }
-    ensures carrying { IfOk result (AreCarryingCounts (case_of instance.now)) }
-    ensures cheaper { IfOk result (λ kept. kept.cost ≤ given.cost) }
-    ensures starts { IfOk result (λ kept. All (AreNoCheaper (case_of instance.now) kept.cost) starts.now) }
+    kept: &Kept,
+) -> Result<Search, NoMemory>
+    requires kept { AreCarryingCounts (case_of instance.now) kept.now }
+    ensures { IfOk result (λ search. IsTestOf (case_of instance.now) search.test) }
 {
-    let dearest = dearest_first(alloc, instance.net)?;
-    let test = AbleTest::new(alloc, instance, given.routings.copy()?)?;
-    let mut kept = given;
-    let mut search = Search {
+    let refusals = met_cuts(alloc, certificate)?;
+    let test = AbleTest::new(alloc, instance, kept.routings.copy()?)?;
+    Ok(Search {
         test,
-        refusals: met_cuts(alloc, certificate)?,
+        refusals,
         asks: 0,
-    };
-    make_cheaper(alloc, instance, &mut search, dearest.items(), &mut kept)?;
-    try_starts(
-        alloc,
-        instance,
-        &mut search,
-        dearest.items(),
-        &mut kept,
-        starts,
-    )?;
-    Ok(kept)
+    })
 }
 
-/// The plan with other counts.
-fn with_counts(plan: Plan, kept: Kept) -> Plan
-    ensures { result ≡ record plan { counts = kept.counts; cost = kept.cost; routings = kept.routings } }
+/// Makes the kept counts as cheap as those to which exchanges of modules lead from them and from others.
+fn make_cheapest(
+    alloc: Global,
+    instance: &Instance,
+    search: &mut Search,
+    dearest: &[Priced],
+    kept: &mut Kept,
+    starts: &[Counts],
+) -> Result<(), NoMemory>
+    requires survivable { IsSurvivable (case_of instance.now) }
+    requires sound { IsTestOf (case_of instance.now) search.old.test }
+    requires kept { AreCarryingCounts (case_of instance.now) kept.old }
+    requires starts { All (λ counts. AreCounts instance.now.net.now.links counts × AreWithinLimits instance.now.net.now.links counts) starts.now }
+    ensures kept { AreCarryingCounts (case_of instance.now) kept.new }
+    ensures cheaper { kept.new.cost ≤ kept.old.cost }
+    ensures starts { OnOk result (All (AreNoCheaper (case_of instance.now) kept.new.cost) starts.now) }
 {
-    Plan {
-        counts: kept.counts,
-        cost: kept.cost,
-        routings: kept.routings,
-        ..plan
+    make_cheaper(alloc, instance, search, dearest, kept)?;
+    try_starts(alloc, instance, search, dearest, kept, starts)
+}
+
+/// Makes counts that carry the demands as cheap as those to which exchanges of modules lead from them and from others, of modules that are
+/// given the dearest first. The cuts of a certificate are met at the start.
+fn swap_in_order(
+    alloc: Global,
+    instance: &Instance,
+    certificate: &Certificate,
+    dearest: &[Priced],
+    kept: &mut Kept,
+    starts: &[Counts],
+) -> Result<(), NoMemory>
+    requires survivable { IsSurvivable (case_of instance.now) }
+    requires kept { AreCarryingCounts (case_of instance.now) kept.old }
+    requires starts { All (λ counts. AreCounts instance.now.net.now.links counts × AreWithinLimits instance.now.net.now.links counts) starts.now }
+    ensures kept { AreCarryingCounts (case_of instance.now) kept.new }
+    ensures cheaper { kept.new.cost ≤ kept.old.cost }
+    ensures starts { OnOk result (All (AreNoCheaper (case_of instance.now) kept.new.cost) starts.now) }
+{
+    let mut search = search_from(alloc, instance, certificate, kept)?;
+    let done = make_cheapest(alloc, instance, &mut search, dearest, kept, starts);
+    discard(search);
+    done
+}
+
+/// Makes counts that carry the demands as cheap as those to which exchanges of modules lead from them and from others. The cuts of a
+/// certificate are met at the start.
+fn swap_counts(
+    alloc: Global,
+    instance: &Instance,
+    certificate: &Certificate,
+    kept: &mut Kept,
+    starts: &[Counts],
+) -> Result<(), NoMemory>
+    requires survivable { IsSurvivable (case_of instance.now) }
+    requires kept { AreCarryingCounts (case_of instance.now) kept.old }
+    requires starts { All (λ counts. AreCounts instance.now.net.now.links counts × AreWithinLimits instance.now.net.now.links counts) starts.now }
+    ensures kept { AreCarryingCounts (case_of instance.now) kept.new }
+    ensures cheaper { kept.new.cost ≤ kept.old.cost }
+    ensures starts { OnOk result (All (AreNoCheaper (case_of instance.now) kept.new.cost) starts.now) }
+{
+    let dearest = dearest_first(alloc, instance.net)?;
+    swap_in_order(alloc, instance, certificate, dearest.items(), kept, starts)
+}
+
+/// Counts with their cost and routings, of which nothing is left where they stood.
+fn taken(alloc: Global, counts: &mut Counts, cost: u128, routings: &mut List<Routing>) -> Kept
+    ensures { result ≡ record { counts = counts.old; cost = cost; routings = routings.old } }
+{
+    Kept {
+        counts: mem::replace(counts, List::new(alloc)),
+        cost,
+        routings: mem::replace(routings, List::new(alloc)),
     }
+}
+
+/// Gives a plan other counts.
+fn set_counts(plan: &mut Plan, kept: Kept)
+    ensures { plan.new ≡ record plan.old { counts = kept.counts; cost = kept.cost; routings = kept.routings } }
+{
+    let (counts, cost, routings) = (kept.counts, kept.cost, kept.routings);
+    plan.counts = counts;
+    plan.cost = cost;
+    plan.routings = routings;
+}
+
+/// Makes a plan cheaper by exchanging modules, also from other counts. Where memory runs out, the plan is left without counts and routings.
+fn swap_within(
+    alloc: Global,
+    net: &Network,
+    states: &States,
+    plan: &mut Plan,
+    starts: &[Counts],
+) -> Result<(), NoMemory>
+    requires belong { AreDemands (length net.now.nodes) plan.old.demands }
+    requires survivable { IsSurvivable (case net.now states.now plan.old.demands) }
+    requires routed { IsRoutedPlan (case net.now states.now plan.old.demands) plan.old }
+    requires starts { All (λ counts. AreCounts net.now.links counts × AreWithinLimits net.now.links counts) starts.now }
+    ensures { OnOk result (IsCheaperThanStarts (case net.now states.now plan.old.demands) plan.old starts.now plan.new) }
+{
+    let mut kept = taken(alloc, &mut plan.counts, plan.cost, &mut plan.routings);
+    let instance = Instance {
+        net,
+        states,
+        demands: &plan.demands,
+    };
+    swap_counts(alloc, &instance, &plan.certificate, &mut kept, starts)?;
+    set_counts(plan, kept);
+    Ok(())
 }
 
 /// Makes a plan cheaper by exchanging modules, also from other counts, the cheapest of which are kept.
@@ -95,20 +178,13 @@ pub fn swap_from(
     ensures { IfOk result (IsCheaperThanStarts (case net.now states.now plan.demands) plan starts.now) }
 {
     let mut plan = plan;
-    let mut routings = List::new(alloc);
-    mem::swap(&mut plan.routings, &mut routings);
-    let given = Kept {
-        counts: plan.counts.copy()?,
-        cost: plan.cost,
-        routings,
-    };
-    let instance = Instance {
-        net,
-        states,
-        demands: &plan.demands,
-    };
-    let kept = swapped_counts(alloc, &instance, &plan.certificate, given, starts)?;
-    Ok(with_counts(plan, kept))
+    match swap_within(alloc, net, states, &mut plan, starts) {
+        Ok(()) => Ok(plan),
+        Err(error) => {
+            discard(plan);
+            Err(error)
+        }
+    }
 }
 
 /// Makes a plan cheaper by exchanging modules.

@@ -4,9 +4,9 @@ ghost use Rattle.trim_plan.specs.Terms.{IsTestOf};
 ghost use Rattle.plan_swaps.specs.inner.Searching.{AreAskedCounts, AreCarryingCounts};
 
 use crate::kept::{Kept, keep_cheaper};
-use crate::moves::{Move, in_use, next_move};
+use crate::moves::{Move, Trying, in_use, next_move};
 use crate::raised::one_more;
-use crate::search::Search;
+use crate::search::{Search, refuses};
 use crate::sparing::spare_others;
 use net_core::{Copied, Counts, Instance, NoMemory};
 use std::alloc::Global;
@@ -26,6 +26,30 @@ pub enum Trial {
     Dear,
 }
 
+/// Keeps counts where they carry the demands and cost less.
+fn keep_counts(
+    instance: &Instance,
+    search: &mut Search,
+    kept: &mut Kept,
+    counts: &Counts,
+) -> Result<Trial, NoMemory>
+    requires survivable { IsSurvivable (case_of instance.now) }
+    requires asked { AreAskedCounts (case_of instance.now) search.old counts.now }
+    requires kept { AreCarryingCounts (case_of instance.now) kept.old }
+    ensures sound { IsTestOf (case_of instance.now) search.new.test }
+    ensures kept { AreCarryingCounts (case_of instance.now) kept.new }
+    ensures cheaper { kept.new.cost ≤ kept.old.cost }
+{
+    let met = search.refusals.len();
+    if keep_cheaper(instance, search, kept, counts)? {
+        Ok(Trial::Kept)
+    } else if search.refusals.len() > met {
+        Ok(Trial::Refused)
+    } else {
+        Ok(Trial::Dear)
+    }
+}
+
 /// Keeps counts less the modules that no cut that was met keeps, but none at one place, where the others carry the demands and cost less.
 fn keep_spared(
     instance: &Instance,
@@ -42,16 +66,9 @@ fn keep_spared(
     ensures kept { AreCarryingCounts (case_of instance.now) kept.new }
     ensures cheaper { kept.new.cost ≤ kept.old.cost }
 {
-    let met = search.refusals.len();
     let mut fewer = counts.copy()?;
     spare_others(instance, search, dearest, but, &mut fewer)?;
-    if keep_cheaper(instance, search, kept, &fewer)? {
-        Ok(Trial::Kept)
-    } else if search.refusals.len() > met {
-        Ok(Trial::Refused)
-    } else {
-        Ok(Trial::Dear)
-    }
+    keep_counts(instance, search, kept, &fewer)
 }
 
 /// Keeps counts less what can be spared of their modules, the dearest first, but none at one place, where that costs less.
@@ -101,6 +118,29 @@ fn moved(
     one_more(alloc, instance.net, &lower, what.on)
 }
 
+/// Keeps counts where they carry the demands and cost less; else measures those that are kept.
+fn keep_or_measure(
+    instance: &Instance,
+    search: &mut Search,
+    kept: &mut Kept,
+    counts: &Counts,
+) -> Result<bool, NoMemory>
+    requires survivable { IsSurvivable (case_of instance.now) }
+    requires asked { AreAskedCounts (case_of instance.now) search.old counts.now }
+    requires kept { AreCarryingCounts (case_of instance.now) kept.old }
+    ensures sound { IsTestOf (case_of instance.now) search.new.test }
+    ensures kept { AreCarryingCounts (case_of instance.now) kept.new }
+    ensures cheaper { kept.new.cost ≤ kept.old.cost }
+{
+    if keep_cheaper(instance, search, kept, counts)? {
+        return Ok(true);
+    }
+    search
+        .refusals
+        .measure(instance.net.links().items(), &kept.counts);
+    Ok(false)
+}
+
 /// Exchanges one module of the counts, which are measured, where the new counts carry the demands.
 fn try_move(
     alloc: Global,
@@ -117,16 +157,48 @@ fn try_move(
     ensures cheaper { kept.new.cost ≤ kept.old.cost }
 {
     let links = instance.net.links().items();
-    if search.keeps(links, what.off, Some(what.on)) {
+    if refuses(
+        &search.refusals,
+        &mut search.asks,
+        links,
+        what.off,
+        Some(what.on),
+    ) {
         return Ok(false);
     }
-    let Some(counts) = moved(alloc, instance, &kept.counts, what)? else {
-        return Ok(false);
-    };
-    if keep_cheaper(instance, search, kept, &counts)? {
-        return Ok(true);
+    match moved(alloc, instance, &kept.counts, what)? {
+        Some(counts) => keep_or_measure(instance, search, kept, &counts),
+        None => Ok(false),
     }
-    search.refusals.measure(links, &kept.counts);
+}
+
+/// Exchanges one module in use for a cheaper one, the move that saves most first.
+fn try_moves(
+    alloc: Global,
+    instance: &Instance,
+    search: &mut Search,
+    dearest: &[Priced],
+    kept: &mut Kept,
+    all: &mut [Trying],
+) -> Result<bool, NoMemory>
+    requires survivable { IsSurvivable (case_of instance.now) }
+    requires sound { IsTestOf (case_of instance.now) search.old.test }
+    requires kept { AreCarryingCounts (case_of instance.now) kept.old }
+    ensures sound { IsTestOf (case_of instance.now) search.new.test }
+    ensures kept { AreCarryingCounts (case_of instance.now) kept.new }
+    ensures cheaper { kept.new.cost ≤ kept.old.cost }
+{
+    for _ in 0..search.asks {
+        let Some(what) = next_move(dearest, all) else {
+            return Ok(false);
+        };
+        if search.asks == 0 {
+            return Ok(false);
+        }
+        if try_move(alloc, instance, search, kept, what)? {
+            return Ok(true);
+        }
+    }
     Ok(false)
 }
 
@@ -149,18 +221,7 @@ fn exchange(
     search
         .refusals
         .measure(instance.net.links().items(), &kept.counts);
-    for _ in 0..search.asks {
-        let Some(what) = next_move(dearest, all.items_mut()) else {
-            return Ok(false);
-        };
-        if search.asks == 0 {
-            return Ok(false);
-        }
-        if try_move(alloc, instance, search, kept, what)? {
-            return Ok(true);
-        }
-    }
-    Ok(false)
+    try_moves(alloc, instance, search, dearest, kept, all.items_mut())
 }
 
 /// Puts one module on and takes off what can be spared of the others, where that costs less.
@@ -232,6 +293,24 @@ fn improve(
     put_on(alloc, instance, search, dearest, kept)
 }
 
+/// Keeps the kept counts less what can be spared of their modules, where something can.
+fn spare(
+    instance: &Instance,
+    search: &mut Search,
+    dearest: &[Priced],
+    kept: &mut Kept,
+) -> Result<bool, NoMemory>
+    requires survivable { IsSurvivable (case_of instance.now) }
+    requires sound { IsTestOf (case_of instance.now) search.old.test }
+    requires kept { AreCarryingCounts (case_of instance.now) kept.old }
+    ensures sound { IsTestOf (case_of instance.now) search.new.test }
+    ensures kept { AreCarryingCounts (case_of instance.now) kept.new }
+    ensures cheaper { kept.new.cost ≤ kept.old.cost }
+{
+    let counts = kept.counts.copy()?;
+    keep_lesser(instance, search, dearest, kept, &counts, None)
+}
+
 /// Makes the kept counts cheaper, until nothing helps or all asks are spent.
 pub(crate) fn make_cheaper(
     alloc: Global,
@@ -249,8 +328,7 @@ pub(crate) fn make_cheaper(
 {
     search.asks = MOST_ASKS;
     for _ in 0..MOST_ASKS {
-        let counts = kept.counts.copy()?;
-        keep_lesser(instance, search, dearest, kept, &counts, None)?;
+        spare(instance, search, dearest, kept)?;
         if !improve(alloc, instance, search, dearest, kept)? {
             return Ok(());
         }

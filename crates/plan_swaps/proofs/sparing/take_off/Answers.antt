@@ -1,6 +1,4 @@
 use Rattle.std.proofs.Common.{List, ℕ, subst, sym}
-use Rattle.plan_terms.specs.Terms.{case_of}
-use Rattle.trim_plan.specs.Terms.{IsTestOf}
 use Rattle.trim_plan.specs.Trimmed.{AreAtMost}
 use Rattle.trim_plan.proofs.AtMost.{limits_at_most, one_less_at_most, shape_at_most}
 use Rattle.plan_swaps.proofs.sparing.take_off.Goals as goal
@@ -13,7 +11,7 @@ returns c =
     let le = subst (λ (l : List (List ℕ)). AreAtMost l counts) (sym c.in_ok-counts.ensures) (one_less_at_most counts c.args.place.link c.args.place.«module») in
     record {
       asked = record {
-        test = subst (IsTestOf (case_of c.args.instance.now)) (sym c.keeps.ensures) c.requires.asked.test;
+        test = c.requires.asked.test;
         shape = shape_at_most links lower counts le c.requires.asked.shape;
         limits = limits_at_most links lower counts le c.requires.asked.limits;
       };

@@ -2,7 +2,7 @@ use Rattle.std.proofs.Common.{◌≤◌}
 use Rattle.plan_terms.specs.Terms.{case_of}
 use Rattle.trim_plan.specs.Terms.{IsTestOf}
 use Rattle.plan_swaps.specs.inner.Searching.{AreCarryingCounts}
-use Rattle.plan_swaps.proofs.swaps.exchange.Given as goal
+use Rattle.plan_swaps.proofs.swaps.try_moves.Given as goal
 
 -- the counts that are kept carry the demands, and cost no more
 abbrev pub invariant-loop : goal.invariant-loop
