@@ -5,10 +5,10 @@ use Rattle.plan_terms.specs.Terms.{Demand, Routing, Case, AreCounts, AreWithinLi
 use Rattle.net_core.proofs.Lists.{all_at}
 use Rattle.plan_report.specs.Terms.{IsRoutingInForm, Plan}
 use Rattle.route_law.specs.Terms.{IsLowestRouting}
-use Rattle.able_counts.specs.AbleTests.{AreRoutingsWithin}
-use Rattle.trim_plan.specs.Trimmed.{IsRoutedPlan, IsTrimming}
-use Rattle.trim_plan.specs.inner.Sparing.{AreTrimmedCounts}
-use Rattle.trim_plan.specs.declared.trimming.Trimming.{Trimming}
+use Rattle.able_counts.specs.AbleTests.{AreRoutedCounts, AreRoutingsWithin}
+use Rattle.able_counts.specs.declared.able_test.AbleTest.{AbleTest}
+use Rattle.trim_plan.specs.Trimmed.{AreAtMost, IsRoutedPlan, IsTrimmedBy, IsTrimming}
+use Rattle.trim_plan.specs.declared.trimming.Block.{Block}
 use Rattle.trim_plan.proofs.AtMost.{total_at_most}
 
 -- the routings of a plan are within the capacities of its counts
@@ -53,17 +53,17 @@ routed_with p plan counts cost routings same is shape limits within paid cheaper
     }
 
 -- a plan with trimmed counts
-pub trimming_of : (p : Case) (plan : Plan) (t : Trimming) → plan.demands ≡ p.demands → IsRoutedPlan p plan → AreTrimmedCounts p plan.counts t
-    → IsTrimming p plan (record { plan = record plan { counts = t.counts; cost = t.cost; routings = t.routings }; blocks = t.blocks })
-trimming_of p plan t same is are =
-    let le = total_at_most p.links t.counts plan.counts are.fewer in
-    let paid = are.paid in
+pub trimming_of : (p : Case) (plan : Plan) (t : AbleTest) (counts : List (List ℕ)) (cost : ℕ) (blocks : List Block) → plan.demands ≡ p.demands → IsRoutedPlan p plan
+    → AreRoutedCounts p counts t → AreAtMost counts plan.counts → cost ≡ total_cost p.links counts → IsTrimmedBy p counts blocks
+    → IsTrimming p plan (record { plan = record plan { counts = counts; cost = cost; routings = t.routings }; blocks = blocks })
+trimming_of p plan t counts cost blocks same is are fewer paid trimmed =
+    let le = total_at_most p.links counts plan.counts fewer in
     let costed : plan.cost ≡ total_cost p.links plan.counts = is.costed in
-    let cheaper : t.cost ≤ plan.cost = omega (arith, le, paid, costed) in
+    let cheaper : cost ≤ plan.cost = omega (arith, le, paid, costed) in
     record {
       same = refl;
-      routed = routed_with p plan t.counts t.cost t.routings same is are.shape are.limits are.routings paid cheaper;
-      fewer = are.fewer;
+      routed = routed_with p plan counts cost t.routings same is are.shape are.limits are.routings paid cheaper;
+      fewer = fewer;
       cheaper = cheaper;
-      trimmed = are.trimmed;
+      trimmed = trimmed;
     }

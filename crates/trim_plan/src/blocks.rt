@@ -47,6 +47,28 @@ fn add_blocks(
     Ok(true)
 }
 
+/// Puts a block for each module of positive count into an empty list; false where a module is taken off instead.
+fn add_all_blocks(
+    instance: &Instance,
+    test: &mut AbleTest,
+    counts: &mut Counts,
+    blocks: &mut List<Block>,
+) -> Result<bool, NoMemory>
+    requires survivable { IsSurvivable (case_of instance.now) }
+    requires routed { AreRoutedCounts (case_of instance.now) counts.old test.old }
+    requires empty { blocks.old ≡ [] }
+    ensures routed { OnOk result (AreRoutedCounts (case_of instance.now) counts.new test.new) }
+    ensures lowered { IfOk result (λ b. b ≡ false → LowersCounts counts.old counts.new) }
+    ensures trimmed { IfOk result (λ b. IsTrue b → (counts.new ≡ counts.old) × IsTrimmedBy (case_of instance.now) counts.old blocks.new) }
+{
+    for e in 0..instance.net.links().len() {
+        if !add_blocks(instance, test, counts, e, blocks)? {
+            return Ok(false);
+        }
+    }
+    Ok(true)
+}
+
 /// A block for each module of positive count; none where a module is taken off instead.
 fn blocks_or_less(
     alloc: Global,
@@ -61,12 +83,11 @@ fn blocks_or_less(
         (λ blocks. (counts.new ≡ counts.old) × IsTrimmedBy (case_of instance.now) counts.old blocks)) }
 {
     let mut blocks = List::new(alloc);
-    for e in 0..instance.net.links().len() {
-        if !add_blocks(instance, test, counts, e, &mut blocks)? {
-            return Ok(None);
-        }
+    if add_all_blocks(instance, test, counts, &mut blocks)? {
+        Ok(Some(blocks))
+    } else {
+        Ok(None)
     }
-    Ok(Some(blocks))
 }
 
 /// What keeps each module, once those that can be spared are taken off.

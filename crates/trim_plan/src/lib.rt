@@ -13,6 +13,7 @@
 
 mod blocks;
 mod dearest;
+mod discard;
 pub mod law;
 mod lowered;
 mod sparing;

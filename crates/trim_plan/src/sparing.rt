@@ -3,7 +3,8 @@ ghost use Rattle.plan_terms.specs.Terms.{case_of, IsSurvivable, capacities};
 ghost use Rattle.able_counts.specs.AbleTests.{AreRoutedCounts, IsStopAt, whole_caps};
 ghost use Rattle.trim_plan.specs.Trimmed.{AreAtMost, module_count, one_less};
 
-use crate::dearest::dearest_first;
+use crate::dearest::{Priced, dearest_first};
+use crate::discard::discard;
 use crate::lowered::{Place, module_count, one_less};
 use able_counts::{AbleTest, Stop};
 use net_core::{Counts, Instance, NoMemory};
@@ -39,6 +40,30 @@ pub(crate) fn take_off(
     }
 }
 
+/// Takes one module off, if there is one and the others carry the demands in each state, and says whether it did.
+fn take_one_off(
+    instance: &Instance,
+    test: &mut AbleTest,
+    counts: &mut Counts,
+    place: Place,
+) -> Result<bool, NoMemory>
+    requires survivable { IsSurvivable (case_of instance.now) }
+    requires routed { AreRoutedCounts (case_of instance.now) counts.old test.old }
+    ensures routed { OnOk result (AreRoutedCounts (case_of instance.now) counts.new test.new) }
+    ensures fewer { OnOk result (AreAtMost counts.new counts.old) }
+{
+    if module_count(counts, place) == 0 {
+        return Ok(false);
+    }
+    match take_off(instance, test, counts, place)? {
+        None => Ok(true),
+        Some(stop) => {
+            discard(stop);
+            Ok(false)
+        }
+    }
+}
+
 /// Takes modules of one kind off a link, as long as the others carry the demands in each state.
 fn take_all_off(
     instance: &Instance,
@@ -52,12 +77,27 @@ fn take_all_off(
     ensures fewer { OnOk result (AreAtMost counts.new counts.old) }
 {
     for _ in 0..module_count(counts, place) {
-        if module_count(counts, place) == 0 {
+        if !take_one_off(instance, test, counts, place)? {
             return Ok(());
         }
-        if take_off(instance, test, counts, place)?.is_some() {
-            return Ok(());
-        }
+    }
+    Ok(())
+}
+
+/// Takes modules off, as long as the others carry the demands in each state, in their order.
+fn spare_in_order(
+    instance: &Instance,
+    test: &mut AbleTest,
+    counts: &mut Counts,
+    order: &[Priced],
+) -> Result<(), NoMemory>
+    requires survivable { IsSurvivable (case_of instance.now) }
+    requires routed { AreRoutedCounts (case_of instance.now) counts.old test.old }
+    ensures routed { OnOk result (AreRoutedCounts (case_of instance.now) counts.new test.new) }
+    ensures fewer { OnOk result (AreAtMost counts.new counts.old) }
+{
+    for priced in order {
+        take_all_off(instance, test, counts, priced.place)?;
     }
     Ok(())
 }
@@ -78,8 +118,5 @@ pub fn spare_modules(
     ensures fewer { OnOk result (AreAtMost counts.new counts.old) }
 {
     let dearest = dearest_first(alloc, instance.net)?;
-    for i in 0..dearest.len() {
-        take_all_off(instance, test, counts, dearest.items()[i].place)?;
-    }
-    Ok(())
+    spare_in_order(instance, test, counts, dearest.items())
 }

@@ -1,14 +1,14 @@
-ghost use Rattle.std.specs.Prelude.{◌≡◌, IfOk, length};
+ghost use Rattle.std.specs.Prelude.{◌≡◌, IfOk, OnOk, length};
 ghost use Rattle.plan_terms.specs.Terms.{AreDemands, case, case_of, IsSurvivable};
-ghost use Rattle.able_counts.specs.AbleTests.{IsTestOf};
-ghost use Rattle.trim_plan.specs.Trimmed.{IsRoutedPlan, IsTrimming};
-ghost use Rattle.trim_plan.specs.inner.Sparing.{AreTrimmedCounts};
+ghost use Rattle.able_counts.specs.AbleTests.{AreRoutedCounts, IsTestOf};
+ghost use Rattle.trim_plan.specs.Trimmed.{AreAtMost, IsRoutedPlan, IsTrimmedBy, IsTrimming};
 
 use crate::blocks::settled_blocks;
+use crate::discard::discard;
 use crate::sparing::spare_modules;
 use able_counts::{AbleTest, Stop};
 use module_choice::cost;
-use net_core::{Copied, Counts, Instance, LinkId, List, Network, NoMemory, Routing, States};
+use net_core::{Copied, Counts, Instance, LinkId, List, Network, NoMemory, States};
 use plan_types::{Certificate, Plan};
 use std::alloc::Global;
 
@@ -28,15 +28,6 @@ pub struct Trimmed {
     pub blocks: List<Block>,
 }
 
-/// Counts from which no module can be spared, their cost, a routing for each state, and the blocks.
-#[derive(Drop)]
-pub struct Trimming {
-    pub counts: Counts,
-    pub cost: u128,
-    pub routings: List<Routing>,
-    pub blocks: List<Block>,
-}
-
 /// Tells a test the cuts of a plan's certificate, so that it asks the states about fewer counts.
 fn know_certificate(
     instance: &Instance,
@@ -53,40 +44,65 @@ fn know_certificate(
     Ok(())
 }
 
-/// The trimmed counts of a plan.
-fn trimmed_counts(alloc: Global, instance: &Instance, plan: &Plan) -> Result<Trimming, NoMemory>
-    requires survivable { IsSurvivable (case_of instance.now) }
+/// A test that has a copy of a plan's routings, and knows the cuts of its certificate.
+fn test_of(alloc: Global, instance: &Instance, plan: &Plan) -> Result<AbleTest, NoMemory>
     requires demands { plan.now.demands ≡ instance.now.demands.now }
     requires routed { IsRoutedPlan (case_of instance.now) plan.now }
-    ensures { IfOk result (AreTrimmedCounts (case_of instance.now) plan.now.counts) }
+    ensures { IfOk result (AreRoutedCounts (case_of instance.now) plan.now.counts) }
 {
-    let mut counts = plan.counts.copy()?;
     let mut test = AbleTest::new(alloc, instance, plan.routings.copy()?)?;
-    know_certificate(instance, &plan.certificate, &mut test)?;
-    spare_modules(alloc, instance, &mut test, &mut counts)?;
-    let blocks = settled_blocks(alloc, instance, &mut test, &mut counts)?;
-    let cost = cost(instance.net, &counts);
-    Ok(Trimming {
-        counts,
-        cost,
-        routings: test.into_routings(),
-        blocks,
-    })
+    match know_certificate(instance, &plan.certificate, &mut test) {
+        Ok(()) => Ok(test),
+        Err(error) => {
+            discard(test);
+            Err(error)
+        }
+    }
 }
 
-/// The plan with trimmed counts.
-fn with_counts(plan: Plan, t: Trimming) -> Trimmed
-    ensures { result ≡ record { plan = record plan { counts = t.counts; cost = t.cost; routings = t.routings }; blocks = t.blocks } }
+/// Takes modules off counts until none can be spared, and says of each that is left what keeps it.
+fn trim_counts(
+    alloc: Global,
+    instance: &Instance,
+    test: &mut AbleTest,
+    counts: &mut Counts,
+) -> Result<List<Block>, NoMemory>
+    requires survivable { IsSurvivable (case_of instance.now) }
+    requires routed { AreRoutedCounts (case_of instance.now) counts.old test.old }
+    ensures routed { OnOk result (AreRoutedCounts (case_of instance.now) counts.new test.new) }
+    ensures fewer { OnOk result (AreAtMost counts.new counts.old) }
+    ensures blocks { IfOk result (IsTrimmedBy (case_of instance.now) counts.new) }
 {
-    Trimmed {
-        plan: Plan {
-            counts: t.counts,
-            cost: t.cost,
-            routings: t.routings,
-            ..plan
-        },
-        blocks: t.blocks,
-    }
+    spare_modules(alloc, instance, test, counts)?;
+    let blocks = settled_blocks(alloc, instance, test, counts)?;
+    Ok(blocks)
+}
+
+/// Takes modules off a plan until none can be spared, and says of each that is left what keeps it.
+fn trim_plan(
+    alloc: Global,
+    net: &Network,
+    states: &States,
+    plan: &mut Plan,
+) -> Result<List<Block>, NoMemory>
+    requires belong { AreDemands (length net.now.nodes) plan.old.demands }
+    requires survivable { IsSurvivable (case net.now states.now plan.old.demands) }
+    requires routed { IsRoutedPlan (case net.now states.now plan.old.demands) plan.old }
+    ensures { IfOk result (λ blocks. IsTrimming (case net.now states.now plan.old.demands) plan.old (record { plan = plan.new; blocks = blocks })) }
+{
+    let mut counts = plan.counts.copy()?;
+    let instance = Instance {
+        net,
+        states,
+        demands: &plan.demands,
+    };
+    let mut test = test_of(alloc, &instance, plan)?;
+    let blocks = trim_counts(alloc, &instance, &mut test, &mut counts)?;
+    let cost = cost(net, &counts);
+    plan.counts = counts;
+    plan.cost = cost;
+    plan.routings = test.into_routings();
+    Ok(blocks)
 }
 
 /// Takes modules off a plan until no single one is known to be spare, and says of each that is left what keeps it.
@@ -104,11 +120,12 @@ pub fn trim(alloc: Global, net: &Network, states: &States, plan: Plan) -> Result
     requires routed { IsRoutedPlan (case net.now states.now plan.demands) plan }
     ensures { IfOk result (IsTrimming (case net.now states.now plan.demands) plan) }
 {
-    let instance = Instance {
-        net,
-        states,
-        demands: &plan.demands,
-    };
-    let trimming = trimmed_counts(alloc, &instance, &plan)?;
-    Ok(with_counts(plan, trimming))
+    let mut plan = plan;
+    match trim_plan(alloc, net, states, &mut plan) {
+        Ok(blocks) => Ok(Trimmed { plan, blocks }),
+        Err(error) => {
+            discard(plan);
+            Err(error)
+        }
+    }
 }

@@ -3,7 +3,7 @@ use Rattle.plan_terms.specs.Terms.{case_of}
 use Rattle.able_counts.specs.AbleTests.{AreRoutedCounts}
 use Rattle.trim_plan.specs.Trimmed.{IsBlockAt, links_in_use}
 use Rattle.trim_plan.specs.inner.Sparing.{block_places}
-use Rattle.trim_plan.proofs.blocks.blocks_or_less.Given as goal
+use Rattle.trim_plan.proofs.blocks.add_all_blocks.Given as goal
 
 -- the links so far have their blocks
 abbrev pub invariant-loop-e : goal.invariant-loop-e

@@ -1,14 +1,15 @@
-use Rattle.std.proofs.Common.{◌∙◌, ◌≤◌, ◌<◌, ◌++◌, All, IsTrue, ap, arith, get_or, length, List, [], ℕ, subst, sym, rules, take_all}
+use Rattle.std.proofs.Common.{◌∙◌, ◌≤◌, ◌<◌, ◌++◌, All, IsTrue, ap, arith, get_or, length, List, [], ℕ, refl, subst, sym, rules, take_all}
+use Rattle.net_core.proofs.Library.{All-nil}
 use Rattle.plan_terms.specs.Terms.{case_of}
 use Rattle.able_counts.specs.AbleTests.{AreRoutedCounts}
 use Rattle.module_choice.proofs.Pairs.{counts_long}
 use Rattle.trim_plan.specs.Trimmed.{IsBlockAt, links_in_use, modules_in_use}
 use Rattle.trim_plan.specs.inner.Sparing.{block_places}
 use Rattle.trim_plan.proofs.Lowering.{links_more}
-use Rattle.trim_plan.proofs.blocks.blocks_or_less.Goals as goal
+use Rattle.trim_plan.proofs.blocks.add_all_blocks.Goals as goal
 
-pub returns-clause-blocks : goal.returns-clause-blocks
-returns-clause-blocks c =
+pub returns-clause-trimmed : goal.returns-clause-trimmed
+returns-clause-trimmed c _ =
     let links = c.args.instance.now.net.now.links in
     let counts = c.args.counts.now in
     let long = counts_long links counts c.requires.routed.shape in
@@ -19,6 +20,14 @@ returns-clause-blocks c =
         blocked = c.loop-e.invariant.blocked;
       },
     )
+
+pub loop-e-init : goal.loop-e-init
+loop-e-init c = record {
+  same = refl;
+  routed = c.requires.routed;
+  blocked = subst (All (IsBlockAt (case_of c.args.instance.now) c.args.counts.now)) (sym c.requires.empty) (All-nil (IsBlockAt (case_of c.args.instance.now) c.args.counts.now));
+  places = ap block_places c.requires.empty;
+}
 
 pub loop-e-preserved : goal.loop-e-preserved
 loop-e-preserved c =
