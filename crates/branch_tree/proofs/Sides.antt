@@ -9,9 +9,10 @@ use Rattle.plan_types.specs.declared.plan.Plan.{Plan}
 use Rattle.tree_check.specs.Terms.{IsSplitOf, any_count, beyond, least_counts, lower_side, span_at, spans_of, up_to, upper_side, whole_box, TreeBox}
 use Rattle.box_search.specs.Terms.{Span, AreLow, HaveCounts, IsFoundAt, IsSearchBox, HasLearned, handed_in}
 use Rattle.tree_check.proofs.LeftBoxes.{shape_set, whole_shape}
-use Rattle.branch_tree.specs.inner.Growing.{AreSidesOf, IsChoiceOf}
+use Rattle.branch_tree.specs.inner.Growing.{AreSidesOf, IsChoiceOf, sides_with}
 use Rattle.branch_tree.specs.declared.choice.Choice.{Choice}
 use Rattle.box_search.specs.declared.search.Search.{Search}
+use Rattle.box_search.specs.declared.found.Found.{Found}
 use Rattle.box_search.specs.declared.found.Found.TheVariants as found
 use Rattle.branch_tree.specs.declared.growth.Sides.TheVariants as sides
 use Rattle.box_search.specs.declared.twigs.Twig.{Twig}
@@ -90,7 +91,7 @@ whole_searched links = record { shape = whole_shape links; some = any_some links
         (λ i l lt. All-replicate (λ (t : Span). t.least ≤ 2 ^ 44 + 0) (length (get_or links i l).modules) any_count (omega arith))
 
 -- what was found at the lower side, and then at the upper one
-pub sides_found : (p : Case) (plan : Plan) (n : ℕ) (box : TreeBox) (c : Choice) (before between after : Search) (lower upper : Twig)
+sides_found : (p : Case) (plan : Plan) (n : ℕ) (box : TreeBox) (c : Choice) (before between after : Search) (lower upper : Twig)
     → before.handed ≤ length before.known.entries → HasLearned before between → HasLearned between after
     → IsFoundAt p plan (handed_in before) between.known.tested n (lower_side box c.place.link c.place.module c.at) (found.Twig lower)
     → IsFoundAt p plan (handed_in between) after.known.tested n (upper_side box c.place.link c.place.module c.at) (found.Twig upper)
@@ -99,3 +100,13 @@ sides_found p plan n box c before between after lower upper inside first second 
   (twig_on p plan between.known.tested after.known.tested second.tested (handed_in before) n n (omega arith) (lower_side box c.place.link c.place.module c.at) lower below.0, below.1),
   subst (λ (handed : List CutLine). IsFoundAt p plan handed after.known.tested n (upper_side box c.place.link c.place.module c.at) (found.Twig upper)) (handed_same before between first inside) above,
 )
+
+-- whatever that was
+pub sides_found_with : (p : Case) (plan : Plan) (n : ℕ) (box : TreeBox) (c : Choice) (before between after : Search) (lower : Twig) (second_found : Found)
+    → before.handed ≤ length before.known.entries → HasLearned before between → HasLearned between after
+    → IsFoundAt p plan (handed_in before) between.known.tested n (lower_side box c.place.link c.place.module c.at) (found.Twig lower)
+    → IsFoundAt p plan (handed_in between) after.known.tested n (upper_side box c.place.link c.place.module c.at) second_found
+    → AreSidesOf p plan (handed_in before) after.known.tested n box c (sides_with lower second_found)
+sides_found_with p plan n box c before between after lower (found.Twig upper) inside first second below above =
+    sides_found p plan n box c before between after lower upper inside first second below above
+sides_found_with p plan n box c before between after lower (found.Cheaper cheaper) inside first second below above = above

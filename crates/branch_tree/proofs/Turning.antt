@@ -1,14 +1,16 @@
 -- trees with another place, or with one split more
-use Rattle.std.proofs.Common.{◌≡◌, ℕ, zero, suc, ◌+◌, ◌<◌, cond, List, [], ◌∷◌, ◌++◌, Some, Bool, drop, get_or, insert, length, set, slice_get, take, refl, ap, sym, subst, add-one, arith, length-append}
+use Rattle.std.proofs.Common.{◌≡◌, ℕ, zero, suc, ◌+◌, ◌<◌, cond, MatchOption, None, Option, List, [], ◌∷◌, ◌++◌, Some, Bool, drop, get_or, insert, length, set, slice_get, take, refl, ap, sym, subst, add-one, arith, length-append}
 use Rattle.net_core.proofs.Library.{slice_get_read, slice_get_within, sum_by-append, sum_by-cons}
 use Rattle.plan_terms.specs.Terms.{Case, CutLine}
 use Rattle.plan_types.specs.declared.plan.Plan.{Plan}
 use Rattle.line_check.specs.declared.tested.Tested.{Tested}
 use Rattle.tree_check.specs.Terms.{IsSplitOf, lower_side, upper_side, whole_box, TreeBox}
-use Rattle.box_search.specs.Terms.{Split, is_split, IsOpenBox, IsTwigOf, IsLeafTwig, node_of}
-use Rattle.branch_tree.specs.inner.Growing.{AreSidesOf, IsChoiceOf, IsGrowing}
+use Rattle.box_search.specs.Terms.{AreCheaperCounts, Split, is_split, IsOpenBox, IsTwigOf, IsLeafTwig, node_of}
+use Rattle.branch_tree.specs.inner.Growing.{AreSidesOf, IsChoiceOf, IsGrowing, IsGrownTo, IsGrownTree, growth_of}
 use Rattle.branch_tree.specs.inner.Places.{AreTwigsOf, twig_sides, twig_splits}
 use Rattle.branch_tree.specs.declared.choice.Choice.{Choice}
+use Rattle.branch_tree.specs.declared.tree.Tree.{Tree}
+use Rattle.box_search.specs.declared.found.Cheaper.{Cheaper}
 use Rattle.box_search.specs.declared.found.Found.TheVariants as found
 use Rattle.branch_tree.specs.declared.growth.Sides.TheVariants as sides
 use Rattle.box_search.specs.declared.twigs.OpenBox.{OpenBox}
@@ -167,3 +169,10 @@ module _ (p : Case) (plan : Plan) (handed : List CutLine) (tested : List Tested)
             length-append (take i twigs) (twig.Open o ∷ rest),
           );
         }
+
+-- what becomes of a tree that needn't grow, or of cheaper counts
+pub grown_with : (p : Case) (plan : Plan) (handed : List CutLine) (tested : List Tested) (limit : ℕ) (tree : Tree) (o : Option Cheaper)
+    → MatchOption o (IsGrownTree p plan handed tested limit tree) (AreCheaperCounts p plan.cost)
+    → IsGrownTo p plan handed tested limit (growth_of tree o)
+grown_with p plan handed tested limit tree None is = is
+grown_with p plan handed tested limit tree (Some c) is = is

@@ -1,11 +1,12 @@
-ghost use Rattle.std.specs.Prelude.{◌≡◌, ◌+◌, ◌*◌, ◌≤◌, ◌<◌, ◌^◌, IfOk, IfSome, None, OnOk, Some, length, slice_set};
-ghost use Rattle.tree_check.specs.Boxes.{whole_box};
-ghost use Rattle.box_search.specs.Terms.{AreCheaperCounts, IsOpenBox, HasLearned, IsAim, IsSearch, aimed, handed_in, most_entries};
-ghost use Rattle.branch_tree.specs.inner.Growing.{AreSidesOf, IsChoiceOf, IsGrowing, IsGrownTo, IsTurnTo};
+ghost use Rattle.std.specs.Prelude.{◌≡◌, ◌+◌, ◌*◌, ◌≤◌, ◌<◌, ◌^◌, IfOk, IfSome, MatchOption, None, OnOk, Some, length, slice_set};
+ghost use Rattle.tree_check.specs.Boxes.{lower_side, upper_side, whole_box};
+ghost use Rattle.box_search.specs.Terms.{AreCheaperCounts, IsFoundAt, IsOpenBox, IsSearchBox, HasLearned, IsAim, IsSearch, aimed, handed_in, most_entries};
+ghost use Rattle.branch_tree.specs.inner.Growing.{AreSidesOf, IsChoiceOf, IsFirstTree, IsGrowing, IsGrownTo, IsGrownTree, IsTurnTo, growth_of, sides_with};
 ghost use Rattle.branch_tree.specs.inner.Places.{IsOpenPlace};
 
 use crate::choice::{Choice, choose};
 use crate::tree::{Tree, least_open, open_boxes, set_twig};
+use box_search::trim_plan::Place;
 use box_search::{Aim, Cheaper, Found, OpenBox, Search, Twig, copied, look, make_first_lines};
 use net_core::{Copied, LinkId, NoMemory};
 use outside_io::{Gate, TreeFigures};
@@ -25,6 +26,74 @@ pub(crate) enum Growth {
 enum Sides {
     Twigs(Twig, Twig),
     Cheaper(Cheaper),
+}
+
+/// What is found at the lower side of a split.
+fn look_lower(
+    alloc: Global,
+    aim: &Aim,
+    search: &mut Search,
+    open: &OpenBox,
+    choice: &Choice,
+    splits: u32,
+) -> Result<Found, NoMemory>
+    requires aim { IsAim search.old.known.entries aim.now }
+    requires search { IsSearch (aimed aim.now) search.old }
+    requires room { most_entries search.old + 1 < 2 ^ 31 }
+    requires splits { splits < 2 ^ 14 }
+    requires search_box { IsSearchBox (aimed aim.now).links splits open.now.boxed }
+    requires choice { IsChoiceOf (aimed aim.now).links aim.now.plan.now.cost splits open.now.boxed choice.now }
+    ensures search { OnOk result (IsSearch (aimed aim.now) search.new) }
+    ensures learned { OnOk result (HasLearned search.old search.new) }
+    ensures few { OnOk result (length search.new.known.entries ≤ most_entries search.old + 1) }
+    ensures found { IfOk result (IsFoundAt (aimed aim.now) aim.now.plan.now (handed_in search.old) search.new.known.tested (splits + 1)
+        (lower_side open.now.boxed choice.now.place.link choice.now.place.module choice.now.at)) }
+{
+    let Place { link, module } = choice.place;
+    let side = lower_side(&open.boxed, link, module, choice.at)?;
+    look(alloc, aim, search, side, &open.best.cert, splits + 1)
+}
+
+/// What is found at the upper side of a split.
+fn look_upper(
+    alloc: Global,
+    aim: &Aim,
+    search: &mut Search,
+    open: &OpenBox,
+    choice: &Choice,
+    splits: u32,
+) -> Result<Found, NoMemory>
+    requires aim { IsAim search.old.known.entries aim.now }
+    requires search { IsSearch (aimed aim.now) search.old }
+    requires room { most_entries search.old + 1 < 2 ^ 31 }
+    requires splits { splits < 2 ^ 14 }
+    requires search_box { IsSearchBox (aimed aim.now).links splits open.now.boxed }
+    requires choice { IsChoiceOf (aimed aim.now).links aim.now.plan.now.cost splits open.now.boxed choice.now }
+    ensures search { OnOk result (IsSearch (aimed aim.now) search.new) }
+    ensures learned { OnOk result (HasLearned search.old search.new) }
+    ensures few { OnOk result (length search.new.known.entries ≤ most_entries search.old + 1) }
+    ensures found { IfOk result (IsFoundAt (aimed aim.now) aim.now.plan.now (handed_in search.old) search.new.known.tested (splits + 1)
+        (upper_side open.now.boxed choice.now.place.link choice.now.place.module choice.now.at)) }
+{
+    let Place { link, module } = choice.place;
+    let side = upper_side(&open.boxed, link, module, choice.at)?;
+    look(alloc, aim, search, side, &open.best.cert, splits + 1)
+}
+
+/// Lets a value go.
+pub(crate) fn discard<T: Drop>(_value: T) {}
+
+/// The sides of a split, of which the first one left a twig.
+fn sides_with(first: Twig, found: Found) -> Sides
+    ensures { result ≡ sides_with first found }
+{
+    match found {
+        Found::Cheaper(cheaper) => {
+            discard(first);
+            Sides::Cheaper(cheaper)
+        }
+        Found::Twig(second) => Sides::Twigs(first, second),
+    }
 }
 
 /// What is found at the two sides of a split.
@@ -48,16 +117,16 @@ fn look_sides(
     ensures found { IfOk result (AreSidesOf (aimed aim.now) aim.now.plan.now (handed_in search.old) search.new.known.tested (splits + 1)
         open.now.boxed choice.now) }
 {
-    let (link, module) = (choice.place.link, choice.place.module);
-    let lower = lower_side(&open.boxed, link, module, choice.at)?;
-    let upper = upper_side(&open.boxed, link, module, choice.at)?;
-    let first = match look(alloc, aim, search, lower, &open.best.cert, splits + 1)? {
+    let first = match look_lower(alloc, aim, search, open, choice, splits)? {
         Found::Cheaper(cheaper) => return Ok(Sides::Cheaper(cheaper)),
         Found::Twig(twig) => twig,
     };
-    match look(alloc, aim, search, upper, &open.best.cert, splits + 1)? {
-        Found::Cheaper(cheaper) => Ok(Sides::Cheaper(cheaper)),
-        Found::Twig(second) => Ok(Sides::Twigs(first, second)),
+    match look_upper(alloc, aim, search, open, choice, splits) {
+        Ok(found) => Ok(sides_with(first, found)),
+        Err(no_memory) => {
+            discard(first);
+            Err(no_memory)
+        }
     }
 }
 
@@ -211,6 +280,72 @@ fn figures_of(tree: &Tree, cost: u128, splits: u32, limit: u32) -> TreeFigures {
     }
 }
 
+/// The tree of the box of all counts alone. That has this certificate besides.
+fn first_tree(
+    alloc: Global,
+    aim: &Aim,
+    search: &mut Search,
+    root: &BoxCert,
+) -> Result<Growth, NoMemory>
+    requires aim { IsAim search.old.known.entries aim.now }
+    requires search { IsSearch (aimed aim.now) search.old }
+    requires room { most_entries search.old + 1 < 2 ^ 31 }
+    ensures search { OnOk result (IsSearch (aimed aim.now) search.new) }
+    ensures learned { OnOk result (HasLearned search.old search.new) }
+    ensures few { OnOk result (length search.new.known.entries ≤ most_entries search.old + 1) }
+    ensures tree { IfOk result (IsFirstTree (aimed aim.now) aim.now.plan.now (handed_in search.old) search.new.known.tested) }
+{
+    let whole = whole_box(alloc, aim.instance.net)?;
+    match look(alloc, aim, search, whole, root, 0)? {
+        Found::Cheaper(cheaper) => Ok(Growth::Cheaper(cheaper)),
+        Found::Twig(twig) => Ok(Growth::Tree(Tree::new(alloc, twig)?)),
+    }
+}
+
+/// Grows a tree of no split by as many splits as a limit says, or until no box is open, or until cheaper counts are found.
+fn grow<G: Gate>(
+    alloc: Global,
+    aim: &Aim,
+    search: &mut Search,
+    tree: &mut Tree,
+    limit: u32,
+    gate: &G,
+) -> Result<Option<Cheaper>, NoMemory>
+    requires aim { IsAim search.old.known.entries aim.now }
+    requires search { IsSearch (aimed aim.now) search.old }
+    requires room { most_entries search.old + 2 * limit < 2 ^ 31 }
+    requires limit { limit ≤ 9999 }
+    requires growing { IsGrowing (aimed aim.now) aim.now.plan.now (handed_in search.old) search.old.known.tested 0 tree.old.twigs.items }
+    ensures search { OnOk result (IsSearch (aimed aim.now) search.new) }
+    ensures learned { OnOk result (HasLearned search.old search.new) }
+    ensures few { OnOk result (length search.new.known.entries ≤ most_entries search.old + 2 * limit) }
+    ensures grown { IfOk result (λ o. MatchOption o
+        (IsGrownTree (aimed aim.now) aim.now.plan.now (handed_in search.old) search.new.known.tested limit tree.new)
+        (AreCheaperCounts (aimed aim.now) aim.now.plan.now.cost)) }
+{
+    for splits in 0..limit {
+        match grow_once(alloc, aim, search, tree, splits)? {
+            Turn::Split => gate.split(figures_of(tree, aim.plan.cost, splits, limit)),
+            Turn::Done => return Ok(None),
+            Turn::Cheaper(cheaper) => return Ok(Some(cheaper)),
+        }
+    }
+    Ok(None)
+}
+
+/// What becomes of a tree in which no cheaper counts were found, or some.
+fn growth_of(tree: Tree, found: Option<Cheaper>) -> Growth
+    ensures { result ≡ growth_of tree found }
+{
+    match found {
+        None => Growth::Tree(tree),
+        Some(cheaper) => {
+            discard(tree);
+            Growth::Cheaper(cheaper)
+        }
+    }
+}
+
 /// Grows a tree by what is known, by as many splits as a limit says, or until no box is open, or until cheaper counts are found. The box
 /// of all counts has this certificate besides.
 fn grown_on<G: Gate>(
@@ -230,20 +365,12 @@ fn grown_on<G: Gate>(
     ensures few { OnOk result (length search.new.known.entries ≤ most_entries search.old + 2 * limit + 1) }
     ensures grown { IfOk result (IsGrownTo (aimed aim.now) aim.now.plan.now (handed_in search.old) search.new.known.tested limit) }
 {
-    let whole = whole_box(alloc, aim.instance.net)?;
-    let root = match look(alloc, aim, search, whole, root, 0)? {
-        Found::Cheaper(cheaper) => return Ok(Growth::Cheaper(cheaper)),
-        Found::Twig(twig) => twig,
+    let mut tree = match first_tree(alloc, aim, search, root)? {
+        Growth::Cheaper(cheaper) => return Ok(Growth::Cheaper(cheaper)),
+        Growth::Tree(tree) => tree,
     };
-    let mut tree = Tree::new(alloc, root)?;
-    for splits in 0..limit {
-        match grow_once(alloc, aim, search, &mut tree, splits)? {
-            Turn::Split => gate.split(figures_of(&tree, aim.plan.cost, splits, limit)),
-            Turn::Done => return Ok(Growth::Tree(tree)),
-            Turn::Cheaper(cheaper) => return Ok(Growth::Cheaper(cheaper)),
-        }
-    }
-    Ok(Growth::Tree(tree))
+    let found = grow(alloc, aim, search, &mut tree, limit, gate)?;
+    Ok(growth_of(tree, found))
 }
 
 /// Grows a tree so, after lines were made for its root if lines are to be made. The best certificate of the box of all counts that they

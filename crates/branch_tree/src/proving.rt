@@ -1,12 +1,12 @@
-ghost use Rattle.std.specs.Prelude.{◌≡◌, ℕ, List, [], ◌+◌, ◌^◌, ◌≤◌, ◌<◌, IfOk, false, length, map, take};
+ghost use Rattle.std.specs.Prelude.{◌≡◌, ℕ, List, [], ◌+◌, ◌^◌, ◌≤◌, ◌<◌, All, IfOk, OnOk, false, length, map, take};
 ghost use Rattle.plan_terms.specs.Terms.{AreDemands, IsAble, IsSurvivable, case, case_of, total_cost};
 ghost use Rattle.plan_types.specs.Terms.{IsCertifiedPlan};
-ghost use Rattle.box_search.specs.Terms.{IsRoutedPlan, IsCheaperPlan, AreCheaperCounts, IsKnown, IsOwnCert, IsSearch, handed_in};
+ghost use Rattle.box_search.specs.Terms.{IsRoutedPlan, IsCheaperPlan, AreCheaperCounts, IsKnown, IsOwnCert, IsSearch, IsSoundEntry, IsTestOf, cuts_among, handed_in};
 ghost use Rattle.branch_tree.specs.FewSplits.{AreCharged};
 ghost use Rattle.branch_tree.specs.Proving.{AreHandedCuts, IsProofOf};
 ghost use Rattle.branch_tree.specs.inner.Making.{AreFirstOf, IsProofMade, IsProofWith};
 
-use crate::growth::{Growth, grown};
+use crate::growth::{Growth, discard, grown};
 use crate::own::own_cert;
 use crate::tree::{Tree, finished};
 use box_search::able_counts::AbleTest;
@@ -17,6 +17,7 @@ use net_core::{Copied, CutLine, Instance, List, Network, NoMemory, States};
 use outside_io::Gate;
 use plan_types::Plan;
 use std::alloc::Global;
+use std::mem;
 use tree_check::{BoxCert, Proof, Verdict};
 
 /// The plan with cheaper counts.
@@ -62,52 +63,64 @@ fn first_cuts(cuts: List<CutLine>, most: usize) -> List<CutLine>
     List::from_vec(all)
 }
 
-/// What is known; or, where there are more entries than this number, this number of the first cuts alone.
+/// What is known of this number of the first cuts of entries alone.
 fn first_known(
     alloc: Global,
     instance: &Instance,
-    known: Known,
+    entries: List<Entry>,
     most: usize,
+    divides: bool,
 ) -> Result<Known, NoMemory>
-    requires { IsKnown (case_of instance.now) known }
+    requires few { length entries < 2 ^ 31 }
+    requires most { most < length entries }
+    requires sound { All (IsSoundEntry (case_of instance.now)) entries }
     ensures known { IfOk result (IsKnown (case_of instance.now)) }
-    ensures entries { IfOk result (AreFirstOf most known.entries) }
-    ensures divides { IfOk result (λ k. k.divides ≡ known.divides) }
+    ensures entries { IfOk result (λ k. k.entries ≡ map Entry.Cut (take most (cuts_among entries))) }
+    ensures divides { IfOk result (λ k. k.divides ≡ divides) }
 {
-    if known.entries.len() <= most {
-        return Ok(known);
-    }
-    let Known {
-        entries,
-        divides,
-        ..
-    } = known;
     let none = List::new(alloc);
     let Ordered { cuts, .. } = in_order(alloc, entries, none)?;
     Known::new(alloc, instance, first_cuts(cuts, most), divides)
 }
 
-/// What a search has learned, with as many further entries as whole points may add: so they don't grow without bound.
-fn begun_anew(alloc: Global, instance: &Instance, search: Search) -> Result<Search, NoMemory>
-    requires { IsSearch (case_of instance.now) search }
-    ensures search { IfOk result (IsSearch (case_of instance.now)) }
-    ensures handed { IfOk result (λ s. handed_in s ≡ handed_in search) }
-    ensures divides { IfOk result (λ s. s.known.divides ≡ search.known.divides) }
-    ensures few { IfOk result (λ s. length s.known.entries ≤ s.room) }
+/// Takes off what is known but this number of the first cuts, where there are more entries than that.
+fn keep_first(
+    alloc: Global,
+    instance: &Instance,
+    known: &mut Known,
+    most: usize,
+) -> Result<(), NoMemory>
+    requires { IsKnown (case_of instance.now) known.old }
+    ensures known { OnOk result (IsKnown (case_of instance.now) known.new) }
+    ensures entries { OnOk result (AreFirstOf most known.old.entries known.new) }
+    ensures divides { OnOk result (known.new.divides ≡ known.old.divides) }
 {
-    let Search {
-        known,
-        test,
-        handed,
-        room,
-    } = search;
-    let known = first_known(alloc, instance, known, room)?;
-    Ok(Search {
-        known,
-        test,
-        handed,
-        room,
-    })
+    if known.entries.len() <= most {
+        return Ok(());
+    }
+    let mut entries = List::new(alloc);
+    mem::swap(&mut known.entries, &mut entries);
+    *known = first_known(alloc, instance, entries, most, known.divides)?;
+    Ok(())
+}
+
+/// What a search has learned, with as many further entries as whole points may add: so they don't grow without bound.
+fn begin_anew(alloc: Global, instance: &Instance, search: &mut Search) -> Result<(), NoMemory>
+    requires { IsSearch (case_of instance.now) search.old }
+    ensures search { OnOk result (IsSearch (case_of instance.now) search.new) }
+    ensures handed { OnOk result (handed_in search.new ≡ handed_in search.old) }
+    ensures divides { OnOk result (search.new.known.divides ≡ search.old.known.divides) }
+    ensures few { OnOk result (length search.new.known.entries ≤ search.new.room) }
+{
+    keep_first(alloc, instance, &mut search.known, search.room)?;
+    Ok(())
+}
+
+/// The entries that a search has found.
+fn entries_of(search: Search) -> List<Entry>
+    ensures { result ≡ search.known.entries }
+{
+    search.known.entries
 }
 
 /// The proof that a tree is, with the entries that its nodes name in the order of a proof.
@@ -158,9 +171,9 @@ fn proved<'a, G: Gate>(
         match grown(alloc, &aim, &mut search, &mut root, limit, gate)? {
             Growth::Cheaper(cheaper) => {
                 plan = cheaper_plan(alloc, instance, plan, cheaper)?;
-                search = begun_anew(alloc, instance, search)?;
+                begin_anew(alloc, instance, &mut search)?;
             }
-            Growth::Tree(tree) => return proof_of(alloc, plan, search.known.entries, tree),
+            Growth::Tree(tree) => return proof_of(alloc, plan, entries_of(search), tree),
         }
     }
 }
@@ -176,6 +189,71 @@ fn room_for(handed: usize, divides: bool) -> usize
         handed + handed + handed + MOST_SET_CUTS + MOST_SET_CUTS + MOST_FURTHER
     } else {
         handed + MOST_FURTHER
+    }
+}
+
+/// A test of counts that tries the routings of a plan first.
+fn test_of(alloc: Global, instance: &Instance, plan: &Plan) -> Result<AbleTest, NoMemory>
+    requires demands { plan.now.demands ≡ instance.now.demands.now }
+    requires routed { IsRoutedPlan (case_of instance.now) plan.now }
+    ensures { IfOk result (IsTestOf (case_of instance.now)) }
+{
+    AbleTest::new(alloc, instance, plan.routings.copy()?)
+}
+
+/// A search that knows handed-in cuts.
+fn first_search(
+    alloc: Global,
+    instance: &Instance,
+    plan: &Plan,
+    cuts: List<CutLine>,
+    divides: bool,
+) -> Result<Search, NoMemory>
+    requires demands { plan.now.demands ≡ instance.now.demands.now }
+    requires routed { IsRoutedPlan (case_of instance.now) plan.now }
+    requires cuts { AreHandedCuts (case_of instance.now) plan.now cuts }
+    ensures search { IfOk result (IsSearch (case_of instance.now)) }
+    ensures handed { IfOk result (λ s. handed_in s ≡ cuts) }
+    ensures divides { IfOk result (λ s. s.known.divides ≡ divides) }
+    ensures few { IfOk result (λ s. length s.known.entries ≤ s.room) }
+{
+    let handed = cuts.len();
+    let known = Known::new(alloc, instance, cuts, divides)?;
+    let test = test_of(alloc, instance, plan)?;
+    Ok(Search {
+        known,
+        test,
+        handed,
+        room: room_for(handed, divides),
+    })
+}
+
+/// The proof of a plan, or of a cheaper one, from handed-in cuts and its own certificate.
+fn searched_from<'a, G: Gate>(
+    alloc: Global,
+    instance: &'a Instance<'a>,
+    plan: Plan,
+    own: &'a BoxCert,
+    cuts: List<CutLine>,
+    limit: u32,
+    divides: bool,
+    gate: &G,
+) -> Result<Proof, NoMemory>
+    requires limit { limit ≤ 9999 }
+    requires survivable { IsSurvivable (case_of instance.now) }
+    requires demands { plan.demands ≡ instance.now.demands.now }
+    requires routed { IsRoutedPlan (case_of instance.now) plan }
+    requires certified { IsCertifiedPlan (case_of instance.now) plan }
+    requires cuts { AreHandedCuts (case_of instance.now) plan cuts }
+    requires own { IsOwnCert (map Entry.Cut cuts) plan own.now }
+    ensures { IfOk result (IsProofWith (case_of instance.now) divides plan cuts limit) }
+{
+    match first_search(alloc, instance, &plan, cuts, divides) {
+        Ok(search) => proved(alloc, instance, plan, own, search, limit, gate),
+        Err(no_memory) => {
+            discard(plan);
+            Err(no_memory)
+        }
     }
 }
 
@@ -197,15 +275,14 @@ fn searched<G: Gate>(
     requires cuts { AreHandedCuts (case_of instance.now) plan cuts }
     ensures { IfOk result (IsProofWith (case_of instance.now) divides plan cuts limit) }
 {
-    let own = own_cert(alloc, &plan, cuts.items())?;
-    let handed = cuts.len();
-    let search = Search {
-        known: Known::new(alloc, instance, cuts, divides)?,
-        test: AbleTest::new(alloc, instance, plan.routings.copy()?)?,
-        handed,
-        room: room_for(handed, divides),
-    };
-    proved(alloc, instance, plan, &own, search, limit, gate)
+    match own_cert(alloc, &plan, cuts.items()) {
+        Ok(own) => searched_from(alloc, instance, plan, &own, cuts, limit, divides, gate),
+        Err(no_memory) => {
+            discard(plan);
+            discard(cuts);
+            Err(no_memory)
+        }
+    }
 }
 
 /// Exchanges modules, and then searches for the proof.

@@ -35,11 +35,33 @@ impl Tree {
         requires { at < length self.old.twigs.items }
         ensures { OnOk result (self.new.twigs.items ≡ slice_set (insert (insert self.old.twigs.items (at + 1) upper) (at + 1) lower) at (Twig.Settled node)) }
     {
-        self.twigs.insert(at + 1, upper)?;
-        self.twigs.insert(at + 1, lower)?;
-        set_twig(&mut self.twigs, at, Twig::Settled(node));
-        Ok(())
+        put_three(&mut self.twigs, at, Twig::Settled(node), lower, upper)
     }
+}
+
+/// Another item at a place.
+fn set_item<T: Drop>(items: &mut [T], at: usize, item: T)
+    requires { at < length items.old }
+    ensures { items.new ≡ slice_set items.old at item }
+{
+    items[at] = item;
+}
+
+/// Another item at a place, and two more after it.
+fn put_three<T: Drop>(
+    items: &mut Vec<T>,
+    at: usize,
+    item: T,
+    second: T,
+    third: T,
+) -> Result<(), NoMemory>
+    requires { at < length items.old.items }
+    ensures { OnOk result (items.new.items ≡ slice_set (insert (insert items.old.items (at + 1) third) (at + 1) second) at item) }
+{
+    items.insert(at + 1, third)?;
+    items.insert(at + 1, second)?;
+    set_item(items, at, item);
+    Ok(())
 }
 
 /// Another twig at a place.
@@ -47,7 +69,7 @@ pub(crate) fn set_twig(twigs: &mut [Twig], at: usize, twig: Twig)
     requires { at < length twigs.old }
     ensures { twigs.new ≡ slice_set twigs.old at twig }
 {
-    twigs[at] = twig;
+    set_item(twigs, at, twig);
 }
 
 /// An open place of a tree, with its rank.

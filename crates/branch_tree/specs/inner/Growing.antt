@@ -1,5 +1,5 @@
 -- trees on the way: what is known at each of their places
-use Rattle.std.specs.Prelude.{◌≡◌, ℕ, ◌+◌, ◌*◌, ◌^◌, ◌≤◌, ◌<◌, ◌⊎◌, List, [], ◌∷◌, length}
+use Rattle.std.specs.Prelude.{◌≡◌, ℕ, ◌+◌, ◌*◌, ◌^◌, ◌≤◌, ◌<◌, ◌⊎◌, List, [], ◌∷◌, Option, None, Some, length}
 use Rattle.plan_terms.specs.Terms.{Case, CutLine, Link}
 use Rattle.plan_types.specs.declared.plan.Plan.{Plan}
 use Rattle.line_check.specs.Terms.{entry}
@@ -8,6 +8,7 @@ use Rattle.tree_check.specs.Terms.{IsSplitOf, lower_side, upper_side, whole_box,
 use Rattle.box_search.specs.Terms.{Split, AreCheaperCounts, IsFoundAt, IsTwigOf}
 use Rattle.branch_tree.specs.inner.Places.{AreSettled, AreTwigsOf, twig_splits}
 use Rattle.box_search.specs.declared.found.Cheaper.{Cheaper}
+use Rattle.box_search.specs.declared.found.Found.{Found}
 use Rattle.box_search.specs.declared.found.Found.TheVariants as found
 use Rattle.branch_tree.specs.declared.choice.Choice.{Choice}
 use Rattle.branch_tree.specs.declared.growth.Growth.{Growth}
@@ -37,6 +38,16 @@ abbrev pub IsGrownTo : Case → Plan → List CutLine → List Tested → ℕ �
 IsGrownTo p plan handed tested limit (growth.Tree tree) = IsGrownTree p plan handed tested limit tree
 IsGrownTo p plan handed tested limit (growth.Cheaper c) = AreCheaperCounts p plan.cost c
 
+-- what becomes of a tree in which no cheaper counts were found, or some
+abbrev pub growth_of : Tree → Option Cheaper → Growth
+growth_of tree None = growth.Tree tree
+growth_of tree (Some c) = growth.Cheaper c
+
+-- a tree of no split, or cheaper counts
+abbrev pub IsFirstTree : Case → Plan → List CutLine → List Tested → Growth → Type 0
+IsFirstTree p plan handed tested (growth.Tree tree) = IsGrowing p plan handed tested 0 tree.twigs.items
+IsFirstTree p plan handed tested (growth.Cheaper c) = AreCheaperCounts p plan.cost c
+
 -- a box can be split so: at a number of modules that cost less than the plan, and that isn't large
 pub record IsChoiceOf (links : List Link) (cost n : ℕ) (box : TreeBox) (c : Choice) : Type 0 where
   pub split : IsSplitOf box c.place.link c.place.module c.at
@@ -49,6 +60,11 @@ AreSidesOf p plan handed tested n box c (sides.Twigs lower upper) =
     IsFoundAt p plan handed tested n (lower_side box c.place.link c.place.module c.at) (found.Twig lower)
     × IsFoundAt p plan handed tested n (upper_side box c.place.link c.place.module c.at) (found.Twig upper)
 AreSidesOf p plan handed tested n box c (sides.Cheaper cheaper) = AreCheaperCounts p plan.cost cheaper
+
+-- the sides of a split, of which the first one left a twig
+abbrev pub sides_with : Twig → Found → Sides
+sides_with first (found.Twig second) = sides.Twigs first second
+sides_with first (found.Cheaper cheaper) = sides.Cheaper cheaper
 
 -- what a turn leaves: a tree with one split more, one that has no open box, or cheaper counts
 abbrev pub IsTurnTo : Case → Plan → List CutLine → List Tested → ℕ → List Twig → Turn → Type 0

@@ -1,51 +1,52 @@
-use Rattle.std.proofs.Common.{◌+◌, subst, sym}
-use Rattle.tree_check.specs.Trees.{TreeBox}
+use Rattle.std.proofs.Common.{◌+◌, ◌≤◌, arith, length, subst, sym}
+use Rattle.tree_check.specs.Terms.{lower_side, upper_side}
 use Rattle.box_search.specs.declared.found.Found.{Found}
-use Rattle.box_search.specs.declared.found.Found.TheVariants as found
-use Rattle.box_search.specs.Terms.{IsFoundAt, IsSearchBox, aimed, handed_in}
-use Rattle.box_search.proofs.Extending.{aim_on, learned_on}
-use Rattle.branch_tree.proofs.Sides.{lower_searched, sides_found, upper_searched}
+use Rattle.box_search.specs.Terms.{HasLearned, IsFoundAt, aimed, handed_in, most_entries}
+use Rattle.box_search.proofs.Extending.{aim_on, learned_on, most_more}
+use Rattle.branch_tree.specs.declared.growth.Sides.{Sides}
+use Rattle.branch_tree.specs.inner.Growing.{AreSidesOf}
+use Rattle.branch_tree.proofs.Sides.{sides_found_with}
 use Rattle.branch_tree.proofs.growth.look_sides.Goals as goal
 
-pub look-requires-clause-search_box : goal.look-requires-clause-search_box
-look-requires-clause-search_box c =
-    let p = aimed c.args.aim.now in
-    let o = c.args.open.now in
-    subst (λ (box : TreeBox). IsSearchBox p.links (c.args.splits + 1) box) (sym c.in_ok-lower.ensures)
-    (lower_searched p.links c.args.aim.now.plan.now.cost c.args.splits o.boxed c.args.choice.now c.requires.open.search_box c.requires.choice)
+pub look_lower-requires-clause-search_box : goal.look_lower-requires-clause-search_box
+look_lower-requires-clause-search_box c = c.requires.open.search_box
 
-pub look-requires-2-clause-aim : goal.look-requires-2-clause-aim
-look-requires-2-clause-aim c =
-    aim_on c.args.aim.now c.args.search.now.known.entries c.look.new.search.known.entries c.in_ok-cheaper.ensures.learned.extends c.requires.aim
+pub look_upper-requires-clause-search_box : goal.look_upper-requires-clause-search_box
+look_upper-requires-clause-search_box c = c.requires.open.search_box
 
-pub look-requires-2-clause-search_box : goal.look-requires-2-clause-search_box
-look-requires-2-clause-search_box c =
-    let p = aimed c.args.aim.now in
-    let o = c.args.open.now in
-    subst (λ (box : TreeBox). IsSearchBox p.links (c.args.splits + 1) box) (sym c.in_ok-upper.ensures)
-    (upper_searched p.links c.args.aim.now.plan.now.cost c.args.splits o.boxed c.args.choice.now c.requires.open.search_box c.requires.choice)
+pub look_upper-requires-clause-aim : goal.look_upper-requires-clause-aim
+look_upper-requires-clause-aim c =
+    aim_on c.args.aim.now c.args.search.now.known.entries c.look_lower.new.search.known.entries c.in_ok-cheaper.ensures.learned.extends c.requires.aim
 
-pub returns-in-Cheaper-2-clause-learned : goal.returns-in-Cheaper-2-clause-learned
-returns-in-Cheaper-2-clause-learned c =
-    learned_on c.args.search.now c.look.new.search c.look-2.new.search c.in_ok-cheaper.ensures.learned c.in_ok-cheaper-2.ensures.learned
+pub look_upper-requires-clause-room : goal.look_upper-requires-clause-room
+look_upper-requires-clause-room c =
+    let told = c.in_ok-cheaper.ensures in
+    omega (arith, most_more c.args.search.now c.look_lower.new.search 1 told.learned told.few, c.requires.room)
 
-pub returns-in-Twig-2-clause-learned : goal.returns-in-Twig-2-clause-learned
-returns-in-Twig-2-clause-learned c =
-    learned_on c.args.search.now c.look.new.search c.look-2.new.search c.in_ok-cheaper.ensures.learned c.in_ok-cheaper-2.ensures.learned
+pub returns-in-Ok-clause-learned : goal.returns-in-Ok-clause-learned
+returns-in-Ok-clause-learned c =
+    learned_on c.args.search.now c.look_lower.new.search c.look_upper.new.search c.in_ok-cheaper.ensures.learned (rw c.in-Ok.is at c.look_upper.ensures.learned)
 
-pub returns-in-Twig-2-clause-found : goal.returns-in-Twig-2-clause-found
-returns-in-Twig-2-clause-found c =
+pub returns-in-Ok-clause-few : goal.returns-in-Ok-clause-few
+returns-in-Ok-clause-few c =
+    let told = c.in_ok-cheaper.ensures in
+    let more : length c.look_upper.new.search.known.entries ≤ most_entries c.look_lower.new.search + 1 = rw c.in-Ok.is at c.look_upper.ensures.few in
+    omega (arith, most_more c.args.search.now c.look_lower.new.search 1 told.learned told.few, more)
+
+pub returns-in-Ok-clause-found : goal.returns-in-Ok-clause-found
+returns-in-Ok-clause-found c =
     let p = aimed c.args.aim.now in
     let plan = c.args.aim.now.plan.now in
     let n = c.args.splits + 1 in
     let s0 = c.args.search.now in
-    let s1 = c.look.new.search in
-    let s2 = c.look-2.new.search in
-    let lower = c.in-Twig.twig in
-    let upper = c.in-Twig-2.second in
-    let below = subst (λ (b : TreeBox). IsFoundAt p plan (handed_in s0) s1.known.tested n b (found.Twig lower)) c.in_ok-lower.ensures
-    (subst (λ (f : Found). IsFoundAt p plan (handed_in s0) s1.known.tested n c.in_ok-lower.lower f) c.in-Twig.is c.in_ok-cheaper.ensures.found) in
-    let above = subst (λ (b : TreeBox). IsFoundAt p plan (handed_in s1) s2.known.tested n b (found.Twig upper)) c.in_ok-upper.ensures
-    (subst (λ (f : Found). IsFoundAt p plan (handed_in s1) s2.known.tested n c.in_ok-upper.upper f) c.in-Twig-2.is c.in_ok-cheaper-2.ensures.found) in
-    sides_found p plan n c.args.open.now.boxed c.args.choice.now s0 s1 s2 lower upper c.requires.search.inside c.in_ok-cheaper.ensures.learned
-    c.in_ok-cheaper-2.ensures.learned below above
+    let s1 = c.look_lower.new.search in
+    let s2 = c.look_upper.new.search in
+    let box = c.args.open.now.boxed in
+    let choice = c.args.choice.now in
+    let below = subst (λ (f : Found). IsFoundAt p plan (handed_in s0) s1.known.tested n (lower_side box choice.place.link choice.place.module choice.at) f) c.in-Twig.is
+    c.in_ok-cheaper.ensures.found in
+    let learned : HasLearned s1 s2 = rw c.in-Ok.is at c.look_upper.ensures.learned in
+    let above : IsFoundAt p plan (handed_in s1) s2.known.tested n (upper_side box choice.place.link choice.place.module choice.at) c.in-Ok.found =
+    rw c.in-Ok.is at c.look_upper.ensures.found in
+    subst (λ (s : Sides). AreSidesOf p plan (handed_in s0) s2.known.tested n box choice s) (sym c.sides_with.ensures)
+    (sides_found_with p plan n box choice s0 s1 s2 c.in-Twig.twig c.in-Ok.found c.requires.search.inside c.in_ok-cheaper.ensures.learned learned below above)

@@ -1,9 +1,11 @@
-use Rattle.std.proofs.Common.{◌∙◌, refl, subst}
+use Rattle.std.proofs.Common.{◌∙◌, List, IfOk, refl, subst}
 use Rattle.std.proofs.lemmas.Result.{IfOk-weaker}
 use Rattle.plan_terms.specs.Terms.{case_of}
 use Rattle.branch_tree.specs.declared.growth.Growth.{Growth}
 use Rattle.branch_tree.specs.inner.Growing.{IsGrownTo}
+use Rattle.box_search.specs.Terms.{Entry}
 use Rattle.box_search.specs.Searches.{handed_in}
+use Rattle.branch_tree.specs.inner.Making.{IsProofMade}
 use Rattle.box_search.proofs.Extending.{handed_same}
 use Rattle.branch_tree.proofs.Restarts.{aim_of, attempt_room, cheaper_both, cheaper_none, made_proof}
 use Rattle.branch_tree.proofs.proving.proved.Goals as goal
@@ -25,10 +27,10 @@ attempt-preserved g c =
     let told = c.in_ok-cheaper.ensures in
     record {
       plan = cheaper_both p c.args.plan c.attempt.plan _ c.attempt.invariant.plan c.in_ok-plan-in-Cheaper.ensures.plan;
-      search = c.in_ok-search-in-Cheaper.ensures.search;
-      handed = c.in_ok-search-in-Cheaper.ensures.handed ∙ (handed_same old c.grown.new.search told.learned c.attempt.invariant.search.inside ∙ c.attempt.invariant.handed);
-      divides = c.in_ok-search-in-Cheaper.ensures.divides ∙ (told.learned.divides ∙ c.attempt.invariant.divides);
-      few = c.in_ok-search-in-Cheaper.ensures.few;
+      search = c.in_ok-begin_anew-in-Cheaper.ensures.search;
+      handed = c.in_ok-begin_anew-in-Cheaper.ensures.handed ∙ (handed_same old c.grown.new.search told.learned c.attempt.invariant.search.inside ∙ c.attempt.invariant.handed);
+      divides = c.in_ok-begin_anew-in-Cheaper.ensures.divides ∙ (told.learned.divides ∙ c.attempt.invariant.divides);
+      few = c.in_ok-begin_anew-in-Cheaper.ensures.few;
     }
 
 pub returns-in-Tree : goal.returns-in-Tree
@@ -42,4 +44,4 @@ returns-in-Tree g c =
     (made_proof p c.args.plan c.attempt.plan old new c.in-Tree.tree c.args.limit (handed_in c.args.search) c.args.search.known.divides c.attempt.invariant.handed
     (told.learned.divides ∙ c.attempt.invariant.divides) c.attempt.invariant.plan c.requires.certified c.requires.limit
     c.attempt.invariant.search told.search told.learned is)
-    c.proof_of.ensures
+    (subst (λ (es : List Entry). IfOk c.proof_of.result (IsProofMade c.attempt.plan es c.in-Tree.tree.twigs.items)) c.entries_of.ensures c.proof_of.ensures)
