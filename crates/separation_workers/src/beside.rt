@@ -1,6 +1,7 @@
-ghost use Rattle.std.specs.Prelude.{◌<◌, ◌≤◌, ◌+◌, All, IfOk, length};
+ghost use Rattle.std.specs.Prelude.{◌<◌, ◌≤◌, ◌+◌, All, IfOk, OnOk, length};
 ghost use Rattle.std.specs.Thread.{IsSync};
 ghost use Rattle.separation_workers.specs.inner.Rounds.{AreFound, IsFoundOf, IsStateFound};
+ghost use Rattle.separation_workers.specs.inner.Together.{AreOfBoth};
 
 use crate::discard::discard;
 use crate::hints::hinted_cut;
@@ -74,6 +75,28 @@ fn find_or_stop(round: &Round, work: &Work, state: StateId) -> Result<RouteAnswe
     found
 }
 
+/// Puts what is found of the next state after what is found, if there is one that nobody has taken. Whether there is. The gate, which is
+/// a hold, hears of it.
+fn find_next<G: Gate>(
+    gate: &G,
+    round: &Round,
+    work: &Work,
+    found: &mut Vec<StateFound>,
+) -> Result<bool, NoMemory>
+    requires end { work.now.end ≤ length round.now.instance.states.now.listed + 1 }
+    requires before { All (IsStateFound round.now) found.old.items }
+    ensures { OnOk result (All (IsStateFound round.now) found.new.items) }
+{
+    let Some(state) = work.take() else {
+        return Ok(false);
+    };
+    gate.before(round.caller, state.0);
+    let answer = find_or_stop(round, work, state)?;
+    gate.after(round.caller, state.0);
+    found.push(StateFound { state, answer })?;
+    Ok(true)
+}
+
 /// What one worker finds of the states that it takes. The gate, which is a hold, hears of each.
 fn find_some<G: Gate>(gate: &G, round: &Round, work: &Work) -> Result<Vec<StateFound>, NoMemory>
     requires { work.now.end ≤ length round.now.instance.states.now.listed + 1 }
@@ -81,15 +104,24 @@ fn find_some<G: Gate>(gate: &G, round: &Round, work: &Work) -> Result<Vec<StateF
 {
     let mut found = Vec::new(round.alloc);
     for _ in 0..round.instance.states.count() {
-        let Some(state) = work.take() else {
+        if !find_next(gate, round, work, &mut found)? {
             break;
-        };
-        gate.before(round.caller, state.0);
-        let answer = find_or_stop(round, work, state)?;
-        gate.after(round.caller, state.0);
-        found.push(StateFound { state, answer })?;
+        }
     }
     Ok(found)
+}
+
+/// What two groups of workers find.
+fn both(
+    one: Result<Vec<StateFound>, NoMemory>,
+    two: Result<Vec<StateFound>, NoMemory>,
+) -> Result<Vec<StateFound>, NoMemory>
+    ensures { AreOfBoth one two result }
+{
+    let mut all = one?;
+    let mut more = two?;
+    all.append(&mut more)?;
+    Ok(all)
 }
 
 /// What this thread and a number of helpers find, each on a thread of its own. A worker takes the next state that nobody has taken, so
@@ -119,10 +151,7 @@ fn find_beside<R: Threads, G: Gate + Sync>(
         ensures { IfOk result (λ v. All (IsStateFound round.entry.now) v.items) }
     { find_beside(rt, gate, round, work, helpers - 1) };
     let (one, rest) = thread::join(rt, here, beside);
-    let mut found = one?;
-    let mut others = rest?;
-    found.append(&mut others)?;
-    Ok(found)
+    both(one, rest)
 }
 
 /// Puts what is found of a state at the state's place.
@@ -139,20 +168,37 @@ fn place(round: &Round, places: &mut [Option<StateFound>], found: StateFound)
     }
 }
 
+/// A place for each state, with nothing found.
+fn no_places(round: &Round) -> Result<List<Option<StateFound>>, NoMemory>
+    ensures { IfOk result (AreFound round.now) }
+{
+    let count = round.instance.states.count() as usize;
+    let mut places = List::from_vec(Vec::with_capacity(round.alloc, count)?);
+    for _ in 0..count {
+        places.push(None)?;
+    }
+    Ok(places)
+}
+
+/// Puts what is found each at the place of its state.
+fn place_all(round: &Round, places: &mut [Option<StateFound>], found: Vec<StateFound>)
+    requires found { All (IsStateFound round.now) found.items }
+    requires before { AreFound round.now places.old }
+    ensures { AreFound round.now places.new }
+{
+    for one in found {
+        place(round, places, one);
+    }
+}
+
 /// What is found, each at the place of its state.
 fn by_state(round: &Round, found: Vec<StateFound>) -> Result<List<Option<StateFound>>, NoMemory>
     requires { All (IsStateFound round.now) found.items }
     ensures { IfOk result (AreFound round.now) }
 {
-    let count = round.instance.states.count() as usize;
-    let mut places: Vec<Option<StateFound>> = Vec::with_capacity(round.alloc, count)?;
-    for _ in 0..count {
-        places.push(None)?;
-    }
-    for one in found {
-        place(round, places.as_mut_slice(), one);
-    }
-    Ok(List::from_vec(places))
+    let mut places = no_places(round)?;
+    place_all(round, places.items_mut(), found);
+    Ok(places)
 }
 
 /// What is found of the first state, on this thread, where no state has a basis: the others begin with the one that it leaves.
@@ -164,6 +210,24 @@ fn find_first<G: Gate>(gate: &G, round: &Round, from: u32) -> Result<Vec<StateFo
         return Ok(Vec::new(round.alloc));
     }
     find_some(gate, round, &Work::of(from, from + 1))
+}
+
+/// What the workers of a round find of the states from one on to before another. They begin with the basis of the state
+/// before these where that is nearer to an answer than their own.
+fn find_others<R: Threads, G: Gate + Sync>(
+    rt: &R,
+    gate: &G,
+    round: &Round,
+    from: u32,
+    to: u32,
+) -> Result<Vec<StateFound>, NoMemory>
+    requires from { from < to }
+    requires to { to ≤ length round.now.instance.states.now.listed + 1 }
+    ensures { IfOk result (λ found. All (IsStateFound round.now) found.items) }
+{
+    lend(round, from, to)?;
+    let helpers = HELPERS.min(to - from - 1);
+    find_beside(rt, gate, round, &Work::of(from, to), helpers)
 }
 
 /// What the workers of a round find of the states from one on to before another, each at the place of its state. They begin with the basis
@@ -182,14 +246,12 @@ pub fn find_states<R: Threads, G: Gate + Sync>(
     requires to { to ≤ length round.now.instance.states.now.listed + 1 }
     ensures { IfOk result (AreFound round.now) }
 {
-    let mut found = find_first(gate, round, from)?;
-    let next = if found.is_empty() { from } else { from + 1 };
-    if next < to {
-        lend(round, next, to)?;
-        let work = Work::of(next, to);
-        let helpers = HELPERS.min(to - next - 1);
-        let mut others = find_beside(rt, gate, round, &work, helpers)?;
-        found.append(&mut others)?;
+    let first = find_first(gate, round, from)?;
+    let next = if first.is_empty() { from } else { from + 1 };
+    if next == to {
+        return by_state(round, first);
     }
+    let others = find_others(rt, gate, round, next, to);
+    let found = both(Ok(first), others)?;
     by_state(round, found)
 }

@@ -6,6 +6,7 @@ ghost use Rattle.route_law.specs.Terms.{ArePricedSomewhere};
 ghost use Rattle.separator.specs.Findings.{IsFoundCutOf};
 
 use crate::depths::depth;
+use crate::discard::discard;
 use crate::round::Round;
 use hint_board::HintBoard;
 use metric_cut::{Cut, CutFault, violated_by};
@@ -27,27 +28,36 @@ fn is_deeper(depth: Option<u128>, least: Option<u128>) -> bool {
 }
 
 /// Of the lengths that are shown and positive on a link that the state fails (any lengths where none fails), those along which the
-/// links give least for what they ask for.
-fn deepest(round: &Round, state: StateId) -> Result<Option<Lengths>, NoMemory>
-    requires { state.0 < length round.now.instance.states.now.listed + 1 }
-    ensures { IfOk result (λ o. IfSome o (AreHintLengths (hint_links round.now.hints.now))) }
+/// links give least for what they ask for. `parts` has a number for each node.
+fn deepest<'r>(round: &'r Round, graph: &Surviving, parts: &mut [u32]) -> Option<&'r Lengths>
+    requires net { graph.now.net.now ≡ round.now.instance.net.now }
+    requires nodes { length parts.old ≡ length graph.now.net.now.nodes }
+    ensures { IfSome result (λ lengths. AreHintLengths (hint_links round.now.hints.now) lengths.now) }
 {
-    let Instance { net, states, .. } = round.instance;
-    let graph = Surviving { net, states, state };
-    let mut parts = List::filled(round.alloc, 0, net.nodes().len())?;
     let mut least: Option<u128> = None;
     let mut best: Option<&Lengths> = None;
     for at in 0..MOST_HINTS {
         let Some(lengths) = round.hints.get(at) else {
             break;
         };
-        let depth = depth(round, &graph, lengths.items(), parts.items_mut());
+        let depth = depth(round, graph, lengths.items(), parts);
         if is_deeper(depth, least) {
             least = depth;
             best = Some(lengths);
         }
     }
-    match best {
+    best
+}
+
+/// A copy of the deepest lengths of a state.
+fn deepest_in(round: &Round, state: StateId) -> Result<Option<Lengths>, NoMemory>
+    requires { state.0 < length round.now.instance.states.now.listed + 1 }
+    ensures { IfOk result (λ o. IfSome o (AreHintLengths (hint_links round.now.hints.now))) }
+{
+    let Instance { net, states, .. } = round.instance;
+    let graph = Surviving { net, states, state };
+    let mut parts = List::filled(round.alloc, 0, net.nodes().len())?;
+    match deepest(round, &graph, parts.items_mut()) {
         Some(lengths) => Ok(Some(lengths.copy()?)),
         None => Ok(None),
     }
@@ -67,9 +77,12 @@ fn if_violated(round: &Round, state: StateId, lengths: Lengths) -> Result<Option
         Err(_) => return Ok(None),
     };
     let line = line_of(&cut, instance.demands)?;
-    if violated_by(&line, round.caps) {
+    let is_violated = violated_by(&line, round.caps);
+    discard(line);
+    if is_violated {
         Ok(Some(cut))
     } else {
+        discard(cut);
         Ok(None)
     }
 }
@@ -83,7 +96,7 @@ pub fn hinted_cut(round: &Round, state: StateId) -> Result<Option<Cut>, NoMemory
     if !are_narrow(round.caps.nums.items()) {
         return Ok(None);
     }
-    match deepest(round, state)? {
+    match deepest_in(round, state)? {
         Some(lengths) => if_violated(round, state, lengths),
         None => Ok(None),
     }

@@ -56,16 +56,24 @@ fn lend_to(round: &Round, lent: &KnownState, state: u32) -> Result<(), NoMemory>
     Ok(())
 }
 
+/// Gives each state from one on to before another a copy of this basis, where less is short with it than with its own.
+fn lend_to_all(round: &Round, lent: &KnownState, from: u32, to: u32) -> Result<(), NoMemory>
+    requires { to ≤ length round.now.instance.states.now.listed + 1 }
+{
+    for state in from..to {
+        lend_to(round, lent, state)?;
+    }
+    Ok(())
+}
+
 /// Gives each state from one on to before another the basis of the state before the first of them in the ring, or else the first one that
 /// there is, where less is short with it than with its own. It is called while no worker has a state in hand, so that it doesn't hang on
 /// which of them is ahead.
 pub(crate) fn lend(round: &Round, from: u32, to: u32) -> Result<(), NoMemory>
     requires { to ≤ length round.now.instance.states.now.listed + 1 }
 {
-    if let Some(lent) = begun_before(round, from)? {
-        for state in from..to {
-            lend_to(round, &lent, state)?;
-        }
+    match begun_before(round, from)? {
+        Some(lent) => lend_to_all(round, &lent, from, to),
+        None => Ok(()),
     }
-    Ok(())
 }

@@ -10,7 +10,7 @@ ghost use Rattle.separation_workers.specs.inner.Rounds.{AreFound, IsInRound, IsP
 use crate::beside::find_states;
 use crate::hold::Hold;
 use crate::round::{Round, StateFound};
-use crate::workers::{answer_cut, answer_state, found_of};
+use crate::workers::{answer_at, answer_cut};
 use board_desk::Caller;
 use net_core::{List, NoMemory, StateId};
 use outside_io::Gate;
@@ -53,6 +53,29 @@ fn answer_set<R: Wait, G: Gate>(
     }
 }
 
+/// The cuts of violated sets of nodes, one of each state of which one is found, put into the pool.
+fn answer_all_sets<R: Wait, G: Gate>(
+    rt: &R,
+    gate: &G,
+    round: &Round,
+    sets: &RoomySets,
+    caller: &mut Caller,
+) -> Result<List<StateAnswer>, NoMemory>
+    requires caller { IsInRound round.now caller.old }
+    requires room { HasRoomOver round.now.caps.now sets.now }
+    ensures goes { SeesOn caller.old caller.new }
+    ensures below { AreCutsBelow (case_of round.now.instance) round.now.caps.now (length round.now.instance.states.now.listed + 1)
+        (cuts_since (caller_seen caller.old) (caller_seen caller.new)) }
+    ensures cuts { IfOk result (AreCutsAnswered (case_of round.now.instance) round.now.caps.now (length round.now.instance.states.now.listed + 1)
+        (caller_seen caller.new).history (cuts_since (caller_seen caller.old) (caller_seen caller.new))) }
+{
+    let mut answers = List::new(round.alloc);
+    for s in 0..round.instance.states.count() {
+        answer_set(rt, gate, round, StateId(s), sets, caller, &mut answers)?;
+    }
+    Ok(answers)
+}
+
 /// The cuts of sets of nodes that are violated with the room of a level, one of each state of which one is found, put into the pool.
 fn answer_sets<R: Wait, G: Gate>(
     rt: &R,
@@ -69,11 +92,7 @@ fn answer_sets<R: Wait, G: Gate>(
         (caller_seen caller.new).history (cuts_since (caller_seen caller.old) (caller_seen caller.new))) }
 {
     let sets = sets_of_round(round.alloc, &round.instance, round.caps, level)?;
-    let mut answers = List::new(round.alloc);
-    for s in 0..round.instance.states.count() {
-        answer_set(rt, gate, round, StateId(s), &sets, caller, &mut answers)?;
-    }
-    Ok(answers)
+    answer_all_sets(rt, gate, round, &sets, caller)
 }
 
 /// The cuts of violated sets of nodes, with the most room from a level on with which some are found.
@@ -138,8 +157,7 @@ fn answer_places<R: Wait, G: Gate>(
 {
     let mut cuts = List::new(round.alloc);
     for s in from..to {
-        let found = found_of(round, places, StateId(s))?;
-        let answer = answer_state(rt, gate, round, StateId(s), found, caller)?;
+        let answer = answer_at(rt, gate, round, StateId(s), places, caller)?;
         put_answer(answer, &mut cuts, others)?;
     }
     Ok(cuts)

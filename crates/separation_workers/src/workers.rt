@@ -9,6 +9,7 @@ ghost use Rattle.separation_workers.specs.Callers.{HasSeenHistory, SeesOn, calle
 ghost use Rattle.separation_workers.specs.inner.Rounds.{AreFound, IsFoundOf, IsInRound, IsStateFound};
 
 use crate::beside::{find_state, find_states};
+use crate::discard::discard;
 use crate::hints::post;
 use crate::hold::Hold;
 use crate::round::{KeptState, Round, StateFound};
@@ -125,7 +126,7 @@ fn taken(round: &Round, places: &mut [Option<StateFound>], state: StateId) -> Op
 }
 
 /// What is found of a state of the round, also where no worker has told of it.
-pub fn found_of(
+fn found_of(
     round: &Round,
     places: &mut [Option<StateFound>],
     state: StateId,
@@ -135,9 +136,14 @@ pub fn found_of(
     ensures left { AreFound round.now places.new }
     ensures of { IfOk result (IsFoundOf round.now state.0) }
 {
-    match taken(round, places, state) {
-        Some(found) if found.state == state => Ok(found.answer),
-        _ => find_state(round, state),
+    let Some(found) = taken(round, places, state) else {
+        return find_state(round, state);
+    };
+    if found.state == state {
+        Ok(found.answer)
+    } else {
+        discard(found);
+        find_state(round, state)
     }
 }
 
@@ -168,7 +174,7 @@ pub fn answer_cut<R: Wait>(
 }
 
 /// What is answered of a state, its cut put into the pool, and its lengths shown.
-pub fn answer_state<R: Wait, G: Gate>(
+fn answer_state<R: Wait, G: Gate>(
     rt: &R,
     gate: &G,
     round: &Round,
@@ -199,6 +205,29 @@ pub fn answer_state<R: Wait, G: Gate>(
     }
 }
 
+/// What is answered of a state by what is found of it at its place.
+pub fn answer_at<R: Wait, G: Gate>(
+    rt: &R,
+    gate: &G,
+    round: &Round,
+    state: StateId,
+    places: &mut [Option<StateFound>],
+    caller: &mut Caller,
+) -> Result<StateAnswer, NoMemory>
+    requires caller { IsInRound round.now caller.old }
+    requires state { state.0 < length round.now.instance.states.now.listed + 1 }
+    requires found { AreFound round.now places.old }
+    ensures left { AreFound round.now places.new }
+    ensures goes { SeesOn caller.old caller.new }
+    ensures cuts { AreCutsOf (case_of round.now.instance) round.now.caps.now state.0 (cuts_since (caller_seen caller.old) (caller_seen caller.new)) }
+    ensures state { IfOk result (λ a. a.state ≡ state) }
+    ensures answer { IfOk result (λ a. IsAnswerOf (case_of round.now.instance) round.now.caps.now (caller_seen caller.new).history state.0 a.answer) }
+    ensures among { IfOk result (λ a. All (Contains (cut_answered a.answer)) (cuts_since (caller_seen caller.old) (caller_seen caller.new))) }
+{
+    let found = found_of(round, places, state)?;
+    answer_state(rt, gate, round, state, found, caller)
+}
+
 /// What is answered of each state, the cuts put into the pool in the order of the states.
 fn answer_states<R: Wait, G: Gate>(
     rt: &R,
@@ -218,9 +247,8 @@ fn answer_states<R: Wait, G: Gate>(
 {
     let mut answers = List::new(round.alloc);
     for s in 0..round.instance.states.count() {
-        let state = StateId(s);
-        let found = found_of(round, places, state)?;
-        answers.push(answer_state(rt, gate, round, state, found, caller)?)?;
+        let answer = answer_at(rt, gate, round, StateId(s), places, caller)?;
+        answers.push(answer)?;
     }
     Ok(answers)
 }

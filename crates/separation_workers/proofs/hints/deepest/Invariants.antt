@@ -5,5 +5,5 @@ use Rattle.separation_workers.proofs.hints.deepest.Given as goal
 
 abbrev pub invariant-loop-at : goal.invariant-loop-at
 invariant-loop-at l =
-    (length l.parts ≡ length l.round.instance.net.now.nodes)
+    (length l.parts ≡ length l.graph.net.now.nodes)
     × IfSome l.best (λ lengths. AreHintLengths (hint_links l.round.hints.now) lengths.now)

@@ -3,14 +3,14 @@ use Rattle.plan_terms.specs.Terms.{graph_in, case_of, Violates}
 use Rattle.node_sets.proofs.Boundaries.{violated_at}
 use Rattle.separation_workers.proofs.hints.if_violated.Goals as goal
 
-pub returns-then-violated_by : goal.returns-then-violated_by
-returns-then-violated_by c =
+pub returns-then-is_violated : goal.returns-then-is_violated
+returns-then-is_violated c =
     let p = case_of c.args.round.now.instance in
     let g = graph_in p c.args.state.0 in
     let caps = c.args.round.now.caps.now in
     let cut = c.in-Ok.cut in
     let line = c.in_ok-line.line in
-    let violated : Violates caps line = c.violated_by.ensures.0 c.if-violated_by.true in
+    let violated : Violates caps line = c.violated_by-is_violated.ensures.0 c.if-is_violated.true in
     let along : sum_by (λ q. q.0 * q.1) (zip cut.lengths caps.nums) < line.right * caps.scale =
     subst (λ ls. sum_by (λ q. q.0 * q.1) (zip ls caps.nums) < line.right * caps.scale) c.in_ok-line.ensures.lengths violated in
     record {

@@ -3,7 +3,7 @@ use Rattle.separator.specs.Separators.{cuts_since}
 use Rattle.separator.specs.inner.Working.{AreCutsAnswered, AreCutsBelow}
 use Rattle.board_desk.specs.Turns.{caller_seen}
 use Rattle.separation_workers.specs.Callers.{SeesOn}
-use Rattle.separation_workers.proofs.some_states.answer_sets.Given as goal
+use Rattle.separation_workers.proofs.some_states.answer_all_sets.Given as goal
 
 -- the states so far
 abbrev pub invariant-loop-s : goal.invariant-loop-s
