@@ -3,6 +3,7 @@ ghost use Rattle.plan_terms.specs.Terms.{edit_need};
 ghost use Rattle.board_desk.specs.Turns.{IsAtDesk, IsSameCaller, caller_seen};
 ghost use Rattle.session_run.specs.inner.Turns.{EndsEdit, IsDoneBy};
 
+use crate::discard::discard;
 use crate::setting::Stop;
 use board_desk::Caller;
 use cut_pool::EditAnswer;
@@ -14,11 +15,13 @@ use std::sync::Wait;
 fn done_by(answer: EditAnswer) -> Result<(), Stop>
     ensures { IsDoneBy answer result }
 {
-    match answer {
+    let done = match &answer {
         EditAnswer::At { .. } => Ok(()),
         EditAnswer::Full(_) => Err(Stop::Full),
         EditAnswer::NoMemory(_) => Err(Stop::NoMemory),
-    }
+    };
+    discard(answer);
+    done
 }
 
 /// Makes a caller's edit in a turn. The gate hears of its beginning and its end. It may never return.

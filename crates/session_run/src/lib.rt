@@ -2,6 +2,7 @@
 #![tactic(auto)]
 
 mod boards;
+mod discard;
 mod edits;
 mod groups;
 mod one_caller;

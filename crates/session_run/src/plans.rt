@@ -7,6 +7,7 @@ ghost use Rattle.planner.specs.SnapshotPlans.{IsSnapshotAnswer, IsSnapshotIn, Po
 ghost use Rattle.session_run.specs.inner.Running.{IsOfSetting, case_made};
 ghost use Rattle.session_run.specs.inner.Turns.{IsOutcomeFor, IsSnapshotHere, NamesDemand, PlansAt, PlansSince};
 
+use crate::discard::discard;
 use crate::setting::Setting;
 use board_desk::Caller;
 use cut_pool::Snapshot;
@@ -15,6 +16,7 @@ use outside_io::Gate;
 use plan_types::Outcome;
 use planner::{PlanAnswer, plan_snapshot};
 use separation_workers::{Hold, Workers};
+use std::mem;
 use std::sync::Wait;
 use std::thread::Threads;
 
@@ -48,7 +50,7 @@ fn plan_beside<R: Threads + Wait, G: Gate>(
     let (alloc, hints) = (setting.alloc, setting.hints);
     let mut workers = Workers::new(rt, alloc, gate, &hold, hints, caller.take());
     let answer = plan_snapshot(alloc, setting.net, setting.states, snapshot, &mut workers);
-    *caller = workers.into_caller();
+    discard(mem::replace(caller, workers.into_caller()));
     answer
 }
 

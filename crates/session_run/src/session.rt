@@ -7,6 +7,7 @@ ghost use Rattle.session_run.specs.Transcripts.{IsTranscript};
 ghost use Rattle.session_run.specs.inner.Running.{HaveRun, all_own};
 
 use crate::boards::board_for;
+use crate::discard::discard;
 use crate::groups::run_callers;
 use crate::reports::report;
 use crate::setting::{Setting, Stop};
@@ -52,8 +53,28 @@ fn run_on<'a, R: Threads + Wait + Sync, G: Gate + Sync>(
     let board = desk.close(pass);
     match outcomes {
         Ok(outcomes) => Ok((List::from_vec(outcomes), board)),
-        Err(stop) => Err(no_memory(stop)),
+        Err(stop) => {
+            discard(board);
+            Err(no_memory(stop))
+        }
     }
+}
+
+/// Runs the commands of a setting on a new board of the opening demands, and reports.
+fn run_setting<R: Threads + Wait + Sync, G: Gate + Sync>(
+    rt: &R,
+    gate: &G,
+    setting: &Setting,
+    opening: Demands,
+) -> Result<Report, NoMemory>
+    requires opening { AreDemands (length setting.now.net.now.nodes) opening }
+    requires script { IsScript setting.now.commands.now }
+    ensures { IfOk result (IsTranscript (case setting.now.net.now setting.now.states.now opening) setting.now.net.now.notes setting.now.commands.now) }
+{
+    let (alloc, net, commands) = (setting.alloc, setting.net, setting.commands);
+    let board = board_for(alloc, net, setting.states, opening, commands)?;
+    let (outcomes, board) = run_on(rt, gate, setting, board)?;
+    report(rt, alloc, net, &board, outcomes, commands)
 }
 
 /// Runs the commands of a script on one board of the network's opening demands, and reports the journal, the pool with its right
@@ -83,7 +104,6 @@ pub fn run_session<R: Threads + Wait + Sync, G: Gate + Sync>(
     ensures { IfOk result (IsTranscript (case net.now states.now opening) net.now.notes script.now.commands) }
 {
     let hints = HintBoard::new(alloc, net.links().len() as u32)?;
-    let board = board_for(alloc, net, states, opening, script.commands.items())?;
     let setting = Setting {
         alloc,
         net,
@@ -91,8 +111,7 @@ pub fn run_session<R: Threads + Wait + Sync, G: Gate + Sync>(
         commands: script.commands.items(),
         hints: &hints,
     };
-    let (outcomes, board) = run_on(rt, gate, &setting, board)?;
-    report(rt, alloc, net, &board, outcomes, script.commands.items())
+    run_setting(rt, gate, &setting, opening)
 }
 
 /// The script of one plan command, of caller 1. It takes constant time, and memory for the command.
