@@ -1,135 +1,29 @@
 -- Comment lines that were put below a text are comments of their items.
-use Rattle.std.proofs.Common.{◌≡◌, ℕ, ◌+◌, ◌-◌, ◌≤◌, ◌<◌, ◌==◌, ◌||◌, Bool, true, false, cond, not, List, [], ◌∷◌, ◌++◌, length, get_or, take, drop, refl, sym, ap, subst, ◌∙◌, arith, length-drop, length-append, drop-cons, add-one, append_assoc, decimal, flat_map, All}
+use Rattle.std.proofs.Common.{◌≡◌, ℕ, ◌+◌, ◌≤◌, ◌==◌, Bool, cond, not, List, [], ◌∷◌, ◌++◌, length, take, drop, refl, sym, ap, subst, ◌∙◌, arith, length-drop, length-append, append_assoc, flat_map, All}
 use Rattle.std.proofs.lemmas.List.{drop-drop, drop-take, length-take}
 use Rattle.std.proofs.Math.Seq.{drop-append_seam}
 use Rattle.net_core.proofs.Library.{AllByRecursion, All-head, All-tail, list_all, and_parts}
-use Rattle.snd_tokens.specs.declared.token.TokenKind.TheVariants as kinds
-use Rattle.net_core.specs.Terms.{is_plain, is_space, is_word_byte}
-use Rattle.snd_tokens.specs.Terms.{line_length, run_length, starts_token, token_of, token_bytes, tokens_from, Text, WordAt, OpenAt, CloseAt, EndAt, text_of, text_from}
-use Rattle.snd_tokens.proofs.Scan.{tokens_from-close, tokens_from-end, tokens_from-open, tokens_from-space, tokens_from-word}
-use Rattle.text_kit.specs.Items.{Item, Verbatim, Whole, Money, Opening, Closing, SpellsItem, Begins, IsMadeOf}
-use Rattle.text_kit.specs.Written.{IsWritable, money_word, word_of}
-use Rattle.text_kit.proofs.Numerals.{decimal_plain, decimal_writes, drop_first, money_again, money_plain, take_first, whole_again}
+use Rattle.net_core.specs.Terms.{is_space}
+use Rattle.snd_tokens.specs.Terms.{line_length, run_length, Text, EndAt, text_from}
+use Rattle.text_kit.specs.Items.{Item, Begins, IsMadeOf}
+use Rattle.text_kit.specs.Written.{IsWritable, word_of}
+use Rattle.text_kit.proofs.Lemmas.{from_is, item_begins, space_passed, text_ends}
+use Rattle.text_kit.proofs.Numerals.{drop_first, take_first}
 use Rattle.comment_lines.specs.Comments.{AddsLines, IsOneLine, comment_line, spaced_items}
 use Rattle.proof_reader.specs.CommentTexts.{AreCommentsOf, Comments, CommentAt, comments_from}
 use Rattle.proof_reader.proofs.Scanning.{comments_end, comments_hash, comments_space}
-
--- ---- the words of a line
-
--- a byte at a place, and the bytes after it
-record From (whole : List ℕ) (at b : ℕ) (bytes : List ℕ) : Type 0 where
-  pub within : at < length whole
-  pub first : get_or whole at 0 ≡ b
-  pub rest : drop (at + 1) whole ≡ bytes
-
-from_is : (whole : List ℕ) (at b : ℕ) (bytes : List ℕ) → drop at whole ≡ b ∷ bytes → From whole at b bytes
-from_is whole at b bytes e =
-    let within : at < length whole = omega (arith, ap length e, length-drop at whole) in
-    let split : drop at whole ≡ get_or whole at 0 ∷ drop (at + 1) whole = rw add-one (drop-cons whole at 0 within) in
-    let both : get_or whole at 0 ∷ drop (at + 1) whole ≡ b ∷ bytes = sym split ∙ e in
-    let one : get_or whole at 0 ≡ b = cc in
-    let two : drop (at + 1) whole ≡ bytes = cc in
-    record { within = within; first = one; rest = two }
-
--- a space is passed over
-passed : (whole : List ℕ) (at : ℕ) (bytes : List ℕ) → drop at whole ≡ 32 ∷ bytes → (text_from at whole ≡ text_from (at + 1) whole) × (drop (at + 1) whole ≡ bytes) × (at + 1 ≤ length whole)
-unfolding text_from
-passed whole at bytes e =
-    let f = from_is whole at 32 bytes e in
-    (ap (text_of whole) (tokens_from-space at whole f.within (ap is_space f.first)), f.rest, omega (arith, f.within))
-
-opened : (whole : List ℕ) (at : ℕ) (bytes : List ℕ) → drop at whole ≡ 40 ∷ bytes → (text_from at whole ≡ OpenAt at (text_from (at + 1) whole)) × (drop (at + 1) whole ≡ bytes) × (at + 1 ≤ length whole)
-unfolding text_from
-opened whole at bytes e =
-    let f = from_is whole at 40 bytes e in
-    (ap (text_of whole) (tokens_from-open at (at + 1) whole f.within f.first refl), f.rest, omega (arith, f.within))
-
-closed : (whole : List ℕ) (at : ℕ) (bytes : List ℕ) → drop at whole ≡ 41 ∷ bytes → (text_from at whole ≡ CloseAt at (text_from (at + 1) whole)) × (drop (at + 1) whole ≡ bytes) × (at + 1 ≤ length whole)
-unfolding text_from
-closed whole at bytes e =
-    let f = from_is whole at 41 bytes e in
-    (ap (text_of whole) (tokens_from-close at (at + 1) whole f.within f.first refl), f.rest, omega (arith, f.within))
-
--- a run of word bytes before something else
-run_before : (w more : List ℕ) → run_length more ≡ 0 → list_all is_word_byte w ≡ true → run_length (w ++ more) ≡ length w
-run_before [] more stop all = stop
-run_before (b ∷ w) more stop all =
-    let p = and_parts (is_word_byte b) (list_all is_word_byte w) all in
-    rw (p.0, run_before w more stop p.1) (omega arith)
-
-not_parts : (a b : Bool) → not (a || b) ≡ true → (a ≡ false) × (b ≡ false)
-not_parts true b e = absurd cc
-not_parts false true e = absurd cc
-not_parts false false e = (refl, refl)
-
-not_is : (a : Bool) → not a ≡ true → a ≡ false
-not_is true e = absurd cc
-not_is false e = refl
-
--- a byte of a word that isn't `#` begins a word
-starts : (b : ℕ) → is_word_byte b ≡ true → (b == 35) ≡ false → starts_token b ≡ true
-starts b word other =
-    let p = not_parts (is_space b || b == 40) (b == 41) word in
-    let q = not_parts (is_space b) (b == 40) (ap not p.0) in
-    rw (q.0, other) refl
-
-worded : (whole : List ℕ) (at : ℕ) (w more : List ℕ) → run_length more ≡ 0 → 1 ≤ length w → is_plain w ≡ true → drop at whole ≡ w ++ more
-    → (text_from at whole ≡ WordAt at w (text_from (at + length w) whole)) × (drop (at + length w) whole ≡ more) × (at + length w ≤ length whole)
-unfolding text_from
-worded whole at [] more stop some plain e = absurd (omega (arith, some))
-worded whole at (b ∷ w) more stop some plain e =
-    let f = from_is whole at b (w ++ more) e in
-    let p = and_parts (not (b == 35)) (list_all is_word_byte (b ∷ w)) plain in
-    let all = and_parts (is_word_byte b) (list_all is_word_byte w) p.1 in
-    let run : run_length (drop (at + 1) whole) ≡ length w = ap run_length f.rest ∙ run_before w more stop all.1 in
-    let end = at + length (b ∷ w) in
-    let word = tokens_from-word at end whole f.within (ap starts_token f.first ∙ starts b all.0 (not_is (b == 35) p.0)) (ap is_word_byte f.first ∙ all.0) (omega (arith, run)) in
-    let size : at + (end - at) - at ≡ length (b ∷ w) = omega arith in
-    let bytes_are : token_bytes whole (token_of kinds.Word at (end - at)) ≡ b ∷ w =
-    ap (λ k. take k (drop at whole)) size ∙ (ap (take (length (b ∷ w))) e ∙ take_first (b ∷ w) more) in
-    let after_are : drop end whole ≡ more = sym (drop-drop (length (b ∷ w)) at whole) ∙ (ap (drop (length (b ∷ w))) e ∙ drop_first (b ∷ w) more) in
-    let long = length-drop at whole in
-    let both = length-append (b ∷ w) more in
-    (ap (text_of whole) word ∙ ap (λ (v : List ℕ). WordAt at v (text_of whole (tokens_from end whole))) bytes_are, after_are, omega (arith, f.within, ap length e, long, both))
 
 -- items after a space end the word before them
 spaced_stop : (is : List Item) → run_length (spaced_items is) ≡ 0
 spaced_stop [] = refl
 spaced_stop (i ∷ is) = refl
 
--- a word, and then further items
-word_first : (i : Item) (is : List Item) (whole : List ℕ) (at : ℕ) (w : List ℕ) → (1 ≤ length w) × (is_plain w ≡ true) → SpellsItem w i → drop at whole ≡ w ++ spaced_items is
-    → (drop (at + length w) whole ≡ spaced_items is → at + length w ≤ length whole → Begins is (text_from (at + length w) whole) (EndAt (length whole)))
-    → Begins (i ∷ is) (text_from at whole) (EndAt (length whole))
-word_first i is whole at w word spells e later =
-    let o = worded whole at w (spaced_items is) (spaced_stop is) word.0 word.1 e in
-    subst (λ (t : Text). Begins (i ∷ is) t (EndAt (length whole))) (sym o.0) (spells, later o.1 o.2)
-
--- an item, and then further ones
-item_begins : (i : Item) (is : List Item) (whole : List ℕ) (at : ℕ) → IsWritable i → drop at whole ≡ word_of i ++ spaced_items is
-    → ((next : ℕ) → next ≤ length whole → drop next whole ≡ spaced_items is → Begins is (text_from next whole) (EndAt (length whole)))
-    → Begins (i ∷ is) (text_from at whole) (EndAt (length whole))
-item_begins Opening is whole at form e later =
-    let o = opened whole at (spaced_items is) e in
-    subst (λ (t : Text). Begins (Opening ∷ is) t (EndAt (length whole))) (sym o.0) (refl, later (at + 1) o.2 o.1)
-item_begins Closing is whole at form e later =
-    let o = closed whole at (spaced_items is) e in
-    subst (λ (t : Text). Begins (Closing ∷ is) t (EndAt (length whole))) (sym o.0) (refl, later (at + 1) o.2 o.1)
-item_begins (Verbatim w) is whole at form e later = word_first (Verbatim w) is whole at w form refl e (λ d le. later (at + length w) le d)
-item_begins (Whole n) is whole at form e later =
-    word_first (Whole n) is whole at (decimal n) (decimal_plain n form) (whole_again n (decimal n) form (decimal_writes n form)) e (λ d le. later (at + length (decimal n)) le d)
-item_begins (Money p n) is whole at form e later =
-    word_first (Money p n) is whole at (money_word p n) (money_plain p n form) (money_again p n form) e (λ d le. later (at + length (money_word p n)) le d)
-
 -- words after one space each are their items
 spaced_begins : (is : List Item) (whole : List ℕ) (at : ℕ) → AllByRecursion IsWritable is → at ≤ length whole → drop at whole ≡ spaced_items is → Begins is (text_from at whole) (EndAt (length whole))
-unfolding text_from
-spaced_begins [] whole at all within e =
-    let end : at ≡ length whole = omega (arith, within, ap length e, length-drop at whole) in
-    ap (λ k. text_of whole (tokens_from k whole)) end ∙ ap (text_of whole) (tokens_from-end whole)
+spaced_begins [] whole at all within e = text_ends whole at within e
 spaced_begins (i ∷ is) whole at all within e =
-    let p = passed whole at (word_of i ++ spaced_items is) e in
-    subst (λ (t : Text). Begins (i ∷ is) t (EndAt (length whole))) (sym p.0) (item_begins i is whole (at + 1) all.0 p.1 (λ next le d. spaced_begins is whole next all.1 le d))
+    let p = space_passed whole at 32 (word_of i ++ spaced_items is) refl e in
+    subst (λ (t : Text). Begins (i ∷ is) t (EndAt (length whole))) (sym p.0) (item_begins i is whole (at + 1) (spaced_items is) (spaced_stop is) all.0 p.1 (λ next le d. spaced_begins is whole next all.1 le d))
 
 -- ---- lines
 

@@ -11,3 +11,4 @@ pub use Rattle.text_kit.proofs.Online.{Failed, IsOnline, TakesSome, Took, err_pa
 pub use Rattle.text_kit.proofs.Outcomes.{if_ok, ok_is, unless_ok}
 pub use Rattle.text_kit.proofs.Spelled.{Spelled, SpelledAfter, after_parts, law_spelled, parts_after, spelled_as, spelled_give, spelled_law, spelled_list, spelled_then, spelled_word}
 pub use Rattle.text_kit.proofs.Turns.{each_turn, list_fails, list_turn, lists_alike}
+pub use Rattle.text_kit.proofs.Written.{from_is, item_begins, space_passed, text_ends}
