@@ -1,7 +1,5 @@
 pub mod Making
 pub mod Choosing
-pub mod Runs
-pub mod RunsOnline
 pub mod Elements
 pub mod LinesOnline
 pub mod Scanning

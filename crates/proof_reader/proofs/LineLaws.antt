@@ -1,9 +1,12 @@
 -- The readings of one comment line of a tree take exactly their texts.
-use Rattle.std.proofs.Common.{◌≡◌, inl, inr, ℕ, ◌+◌, ◌^◌, ◌<◌, true, List, [], ◌∷◌, ◌++◌, length, All, Err, refl, ap, ◌∙◌, arith, append-nil, append_assoc, codes, flat_map}
+use Rattle.std.proofs.Common.{◌≡◌, inl, inr, ℕ, ◌+◌, ◌^◌, ◌<◌, true, List, [], ◌∷◌, ◌++◌, length, All, Result, Ok, Err, refl, ap, ◌∙◌, arith, append-nil, append_assoc, codes, flat_map}
 use Rattle.plan_terms.specs.Terms.{Demand, Evidence}
-use Rattle.text_kit.specs.Terms.{Item, Verbatim, Whole, no_fault, of_length}
+use Rattle.snd_tokens.specs.declared.whole_number.WholeFault.{WholeFault}
+use Rattle.snd_tokens.specs.declared.whole_number.WholeFault.TheVariants.{NotANumber}
+use Rattle.snd_tokens.specs.Terms.{whole_of}
+use Rattle.text_kit.specs.Terms.{Item, TheEnd, TheWord, Verbatim, Whole, no_fault, of_length}
 use Rattle.text_kit.proofs.Beginnings.{AnyText, IsEnd}
-use Rattle.text_kit.proofs.Lemmas.{after_all, all_after, lawful_as}
+use Rattle.text_kit.proofs.Lemmas.{after_all, all_after, lawful_as, lawful_list}
 use Rattle.text_kit.proofs.Spelled.{Lawful}
 use Rattle.plan_report.specs.Terms.{KnownNames, evidence_items}
 use Rattle.report_words.specs.declared.fault.ReportKind.TheVariants.{Token, Limit}
@@ -29,7 +32,6 @@ use Rattle.proof_reader.specs.Trees.{IsBoxCertificateInForm, IsBoxCutInForm, IsL
 use Rattle.proof_reader.proofs.Choosing.{Chosen, chosen_as, chosen_more, chosen_none, made_or}
 use Rattle.proof_reader.proofs.LineVariants.{any_from, later_from, line_cases}
 use Rattle.proof_reader.proofs.Making.{law_made_on, made_end, made_final, made_on}
-use Rattle.proof_reader.proofs.Runs.{lawful_run}
 
 -- ---- lists of numbers
 
@@ -41,7 +43,7 @@ lengths_law n = lawful_as (lengths_at n) _ wholes _ (λ ns. (length ns ≡ n) ×
     (λ ns h. append-nil (wholes ns))
     (λ ns h. (length_is n Limit ns h.0, (rooms_few n (λ k. k < 2 ^ 32) ns h.1).1))
     (λ ns h. (is_length n Limit ns h.0, few_rooms n (λ k. k < 2 ^ 32) ns (omega (arith, h.0)) h.1))
-    (lawful_run LineEnd (of_length n Limit) (next_number_at n (2 ^ 32)) (λ k. Whole k ∷ []) (λ sofar k. (has_room n sofar ≡ true) × (k < 2 ^ 32)) (λ k. tt)
+    (lawful_list TheEnd (of_length n Limit) (next_number_at n (2 ^ 32)) (λ k. Whole k ∷ []) (λ sofar k. (has_room n sofar ≡ true) × (k < 2 ^ 32)) (λ k. tt)
     (λ sofar. lawful_as (next_number_at n (2 ^ 32) sofar) (λ k. Whole k ∷ []) (λ k. Whole k ∷ []) _ (λ k. (has_room n sofar ≡ true) × (k < 2 ^ 32)) AnyText (λ k h. refl) (λ k h. (h.0, h.1.1)) (λ k h. (h.0, (omega arith, h.1)))
     (number_within_law (has_room n sofar) 0 (2 ^ 32))))
 
@@ -50,7 +52,7 @@ weights_law = lawful_as weights_at _ wholes _ (All (λ k. k < 2 ^ 32)) IsEnd
     (λ ns h. append-nil (wholes ns))
     (λ ns h. after_all (λ k. k < 2 ^ 32) [] ns h.1)
     (λ ns h. (refl, all_after (λ k. k < 2 ^ 32) [] ns h))
-    (lawful_run LineEnd no_fault (λ sofar. number_at 0 (2 ^ 32)) (λ k. Whole k ∷ []) (λ sofar k. k < 2 ^ 32) (λ k. tt)
+    (lawful_list TheEnd no_fault (λ sofar. number_at 0 (2 ^ 32)) (λ k. Whole k ∷ []) (λ sofar k. k < 2 ^ 32) (λ k. tt)
     (λ sofar. lawful_as (number_at 0 (2 ^ 32)) (λ k. Whole k ∷ []) (λ k. Whole k ∷ []) _ (λ k. k < 2 ^ 32) AnyText (λ k h. refl) (λ k h. h.1) (λ k h. (omega arith, h)) (number_law 0 (2 ^ 32))))
 
 abbrev term_items : Multiplier → List Item
@@ -70,17 +72,21 @@ terms_end_law = lawful_as (terms_at LineEnd) _ multiplier_items _ (All IsTerm) I
     (λ ms h. append-nil (multiplier_items ms))
     (λ ms h. after_all IsTerm [] ms h.1)
     (λ ms h. (refl, all_after IsTerm [] ms h))
-    (lawful_run LineEnd no_fault (λ sofar. term_at) term_items (λ sofar m. IsTerm m) (λ m. tt) (λ sofar. term_law))
+    (lawful_list TheEnd no_fault (λ sofar. term_at) term_items (λ sofar m. IsTerm m) (λ m. tt) (λ sofar. term_law))
 
 abbrev wide_after : List Multiplier → List Item
 wide_after ms = multiplier_items ms ++ Verbatim (codes "wide") ∷ []
+
+wide_no_number : (n : ℕ) → whole_of (codes "wide") ≡ Ok n → ⊥
+unfolding whole_of
+wide_no_number n e = let two : (let q : Result ℕ WholeFault = Err NotANumber in q ≡ Ok n) = e in absurd cc
 
 terms_wide_law : Lawful (terms_at Wide) wide_after (All IsTerm) AnyText
 terms_wide_law = lawful_as (terms_at Wide) _ wide_after _ (All IsTerm) AnyText
     (λ ms h. refl)
     (λ ms h. after_all IsTerm [] ms h.1)
     (λ ms h. (refl, all_after IsTerm [] ms h))
-    (lawful_run Wide no_fault (λ sofar. term_at) term_items (λ sofar m. IsTerm m) (λ m. tt) (λ sofar. term_law))
+    (lawful_list (TheWord (codes "wide")) no_fault (λ sofar. term_at) term_items (λ sofar m. IsTerm m) (λ m. wide_no_number m.num) (λ sofar. term_law))
 
 certificate_end_law : Lawful (certificate_to LineEnd) box_certificate_items IsBoxCertificateInForm IsEnd
 unfolding certificate_to

@@ -2,8 +2,8 @@
 use Rattle.std.proofs.Common.{ℕ, ◌^◌, ◌==◌, Bool, true, false, cond, List, [], ◌∷◌, length, Err, codes}
 use Rattle.plan_terms.specs.Terms.{Demand}
 use Rattle.plan_report.specs.Terms.{KnownNames}
-use Rattle.text_kit.specs.Terms.{give, no_fault, of_length}
-use Rattle.text_kit.proofs.Lemmas.{IsOnline, online_end, online_give, online_then, online_word}
+use Rattle.text_kit.specs.Terms.{TheEnd, give, no_fault, of_length}
+use Rattle.text_kit.proofs.Lemmas.{IsOnline, online_end, online_give, online_list, online_then, online_word}
 use Rattle.report_words.specs.declared.fault.ReportKind.TheVariants.{Token, Ended, Limit}
 use Rattle.report_words.specs.ReportChoices.{next_number_at}
 use Rattle.report_words.specs.Terms.{Branches, branch_at, number_at}
@@ -17,19 +17,19 @@ use Rattle.proof_reader.specs.declared.run.Stop.TheVariants.{LineEnd, Wide}
 use Rattle.proof_reader.specs.declared.sofar.Sofar.{Sofar}
 use Rattle.proof_reader.specs.ReadingLines.{above_at, box_cut_at, certificate_to, cheapest_at, closed_at, cut_branches, divided_at, empty_at, kind_at, lengths_at, line_branches, node_branches, spent_at, split_at, stuck_at, table_at, term_at, terms_at, weights_at}
 use Rattle.proof_reader.specs.ReadingTrees.{next_index, tree_line_at}
+use Rattle.proof_reader.specs.Runs.{stop_ending}
 use Rattle.proof_reader.proofs.Elements.{term_online, term_some, weight_some}
-use Rattle.proof_reader.proofs.RunsOnline.{online_run}
 
 -- ---- lists of numbers
 
 lengths_online : (n : ℕ) → IsOnline (lengths_at n)
-lengths_online n = online_run LineEnd (of_length n Limit) (next_number_at n (2 ^ 32)) (λ sofar. online_word Token Ended _) (next_number_some n (2 ^ 32)) []
+lengths_online n = online_list TheEnd (of_length n Limit) (next_number_at n (2 ^ 32)) (λ sofar. online_word Token Ended _) (next_number_some n (2 ^ 32)) []
 
 weights_online : IsOnline weights_at
-weights_online = online_run LineEnd no_fault (λ sofar. number_at 0 (2 ^ 32)) (λ sofar. online_word Token Ended _) (λ sofar. weight_some) []
+weights_online = online_list TheEnd no_fault (λ sofar. number_at 0 (2 ^ 32)) (λ sofar. online_word Token Ended _) (λ sofar. weight_some) []
 
 terms_online : (stop : Stop) → IsOnline (terms_at stop)
-terms_online stop = online_run stop no_fault (λ sofar. term_at) (λ sofar. term_online) (λ sofar. term_some) []
+terms_online stop = online_list (stop_ending stop) no_fault (λ sofar. term_at) (λ sofar. term_online) (λ sofar. term_some) []
 
 certificate_online : (stop : Stop) → IsOnline (certificate_to stop)
 unfolding certificate_to

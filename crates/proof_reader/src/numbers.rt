@@ -2,9 +2,9 @@ ghost use Rattle.snd_tokens.specs.Terms.{left};
 ghost use Rattle.text_kit.specs.Terms.{ReadsAs};
 ghost use Rattle.proof_reader.specs.ReadingLines.{lengths_at, term_at, terms_at, weights_at};
 
-use crate::run::{Stop, run};
+use crate::run::Stop;
 use net_core::{Lengths, List};
-use report_words::element::Element;
+use report_words::element::{Element, list_to};
 use report_words::fault::{ReportKind, ReportRefusal};
 use report_words::numbers::of_length;
 use report_words::words::{medium, next_number, small};
@@ -119,14 +119,14 @@ pub(crate) fn lengths(
 ) -> Result<Lengths, ReportRefusal>
     ensures { ReadsAs (λ l. l) result (left text.new) (lengths_at count (left text.old)) }
 {
-    run(alloc, Stop::LineEnd, &LengthRun { count }, text)
+    list_to(alloc, &LengthRun { count }, &Stop::LineEnd, text)
 }
 
 /// Takes weights, up to the end of the line.
 pub(crate) fn weights(alloc: Global, text: &mut Cursor) -> Result<List<u32>, ReportRefusal>
     ensures { ReadsAs (λ l. l) result (left text.new) (weights_at (left text.old)) }
 {
-    run(alloc, Stop::LineEnd, &WeightRun, text)
+    list_to(alloc, &WeightRun, &Stop::LineEnd, text)
 }
 
 /// Takes numerators, each with the index of its line, up to what ends them.
@@ -137,5 +137,5 @@ pub(crate) fn terms(
 ) -> Result<List<Multiplier>, ReportRefusal>
     ensures { ReadsAs (λ l. l) result (left text.new) (terms_at stop (left text.old)) }
 {
-    run(alloc, stop, &TermRun, text)
+    list_to(alloc, &TermRun, &stop, text)
 }

@@ -1,8 +1,11 @@
 -- Texts that begin with items, and where lists of items end.
-use Rattle.std.proofs.Common.{◌≡◌, ℕ, ◌<◌, ◌≤◌, List, [], ◌∷◌, ◌++◌, Option, None, Some, Ok, refl, sym, ap, subst, arith}
+use Rattle.std.proofs.Common.{◌≡◌, ℕ, ◌<◌, ◌≤◌, Bool, true, false, cond, List, [], ◌∷◌, ◌++◌, Option, None, Some, Ok, refl, sym, ap, subst, arith}
+use Rattle.net_core.proofs.Checks.{same_is}
+use Rattle.net_core.proofs.Library.{Decides-eqb, slice_eq-Decides}
+use Rattle.net_core.specs.Terms.{are_same}
 use Rattle.snd_tokens.specs.Terms.{Text, WordAt, OpenAt, CloseAt, EndAt, size}
-use Rattle.text_kit.specs.Items.{Item, Verbatim, Whole, Money, Opening, Closing, Begins}
-use Rattle.text_kit.specs.Reading.{Ending, Parenthesis, TheEnd, past_ending, sound}
+use Rattle.text_kit.specs.Items.{Item, Verbatim, Whole, Money, Opening, Closing, SpellsItem, Begins}
+use Rattle.text_kit.specs.Reading.{Ending, Parenthesis, TheEnd, TheWord, past_ending, sound}
 
 -- what is left is any text, or the end
 abbrev pub AnyText : Text → Type 0
@@ -44,51 +47,75 @@ Starts (Closing ∷ is) = ⊥
 
 starts_open : (is more : List Item) (at : ℕ) (t rest : Text) → Starts is → Begins (is ++ more) (CloseAt at t) rest → ⊥
 starts_open [] more at t rest s b = s
-starts_open (Verbatim v ∷ is) more at t rest s b = let e : Verbatim v ≡ Closing = b.0 in cc
-starts_open (Whole n ∷ is) more at t rest s b = let e : Whole n ≡ Closing = b.0 in cc
-starts_open (Money p n ∷ is) more at t rest s b = let e : Money p n ≡ Closing = b.0 in cc
-starts_open (Opening ∷ is) more at t rest s b = let e : Opening ≡ Closing = b.0 in cc
 starts_open (Closing ∷ is) more at t rest s b = s
+starts_open (i ∷ is) more at t rest s b = let e : i ≡ Closing = b.0 in cc
 
 starts_text : (is more : List Item) (at : ℕ) (rest : Text) → Starts is → Begins (is ++ more) (EndAt at) rest → ⊥
 starts_text [] more at rest s b = s
 starts_text (i ∷ is) more at rest s b = b
 
-pub starts_less : (is : List Item) (text rest : Text) → Starts is → Begins is text rest → size rest < size text
-starts_less [] text rest s b = absurd s
-starts_less (i ∷ is) (WordAt at w t) rest s b = omega (arith, begins_size is t rest b.1)
-starts_less (i ∷ is) (OpenAt at t) rest s b = omega (arith, begins_size is t rest b.1)
-starts_less (i ∷ is) (CloseAt at t) rest s b = omega (arith, begins_size is t rest b.1)
-starts_less (i ∷ is) (EndAt at) rest s b = absurd b
+-- this word doesn't spell the first item
+abbrev pub IsOther : List ℕ → List Item → Type 0
+IsOther w [] = ⊥
+IsOther w (i ∷ is) = SpellsItem w i → ⊥
 
-pub no_ending : (e : Ending) (is more : List Item) (text rest : Text) → Starts is → Begins (is ++ more) text rest → past_ending e text ≡ None
-no_ending Parenthesis is more (WordAt at w t) rest s b = refl
-no_ending TheEnd is more (WordAt at w t) rest s b = refl
-no_ending Parenthesis is more (OpenAt at t) rest s b = refl
-no_ending TheEnd is more (OpenAt at t) rest s b = refl
+pub is_same : (a : List ℕ) → are_same a a ≡ true
+is_same a = (slice_eq-Decides Decides-eqb a a (are_same a a) refl).1 refl
+
+-- the word that is next
+pub this_word : (v w : List ℕ) (t r : Text) (same : Bool) → are_same w v ≡ same → (let o : Option Text = cond same (Some t) None in o ≡ Some r) → (w ≡ v) × (t ≡ r)
+this_word v w t r true s e = (same_is w v s, cc)
+this_word v w t r false s e = absurd cc
+
+-- a word that isn't next
+other_word : (v : List ℕ) (is more : List Item) (at : ℕ) (w : List ℕ) (t rest : Text) → IsOther v is → Begins (is ++ more) (WordAt at w t) rest → past_ending (TheWord v) (WordAt at w t) ≡ None
+other_word v [] more at w t rest s b = absurd s
+other_word v (i ∷ is) more at w t rest s b =
+    elim (are_same w v) as (λ same. are_same w v ≡ same → (let o : Option Text = cond same (Some t) None in o ≡ None)) [
+      | true ↦ λ e. absurd (s (subst (λ x. SpellsItem x i) (same_is w v e) b.0))
+      | false ↦ λ e. refl
+    ] refl
+
+-- the first item is none that ends the list
+abbrev pub StartsBefore : Ending → List Item → Type 0
+StartsBefore Parenthesis is = Starts is
+StartsBefore TheEnd is = Starts is
+StartsBefore (TheWord w) is = IsOther w is
+
+none_starts : (e : Ending) → StartsBefore e [] → ⊥
+none_starts Parenthesis s = s
+none_starts TheEnd s = s
+none_starts (TheWord w) s = s
+
+pub starts_less : (e : Ending) (is : List Item) (text rest : Text) → StartsBefore e is → Begins is text rest → size rest < size text
+starts_less e [] text rest s b = absurd (none_starts e s)
+starts_less e (i ∷ is) (WordAt at w t) rest s b = omega (arith, begins_size is t rest b.1)
+starts_less e (i ∷ is) (OpenAt at t) rest s b = omega (arith, begins_size is t rest b.1)
+starts_less e (i ∷ is) (CloseAt at t) rest s b = omega (arith, begins_size is t rest b.1)
+starts_less e (i ∷ is) (EndAt at) rest s b = absurd b
+
+pub no_ending : (e : Ending) (is more : List Item) (text rest : Text) → StartsBefore e is → Begins (is ++ more) text rest → past_ending e text ≡ None
 no_ending Parenthesis is more (CloseAt at t) rest s b = absurd (starts_open is more at t rest s b)
-no_ending TheEnd is more (CloseAt at t) rest s b = refl
-no_ending Parenthesis is more (EndAt at) rest s b = refl
 no_ending TheEnd is more (EndAt at) rest s b = absurd (starts_text is more at rest s b)
+no_ending (TheWord v) is more (WordAt at w t) rest s b = other_word v is more at w t rest s b
+no_ending _ is more _ rest s b = refl
 
 -- the items of an ending, and what it leaves
 abbrev pub ending_items : Ending → List Item
 ending_items Parenthesis = Closing ∷ []
 ending_items TheEnd = []
+ending_items (TheWord w) = Verbatim w ∷ []
 
 abbrev pub IsLeftBy : Ending → Text → Type 0
 IsLeftBy Parenthesis text = Unit {0}
 IsLeftBy TheEnd text = IsEnd text
+IsLeftBy (TheWord w) text = Unit {0}
 
 pub ending_takes : (e : Ending) (t r : Text) → past_ending e t ≡ Some r → Begins (ending_items e) t r × IsLeftBy e r
 ending_takes Parenthesis (CloseAt p t) r e = let is : t ≡ r = cc in ((refl, is), tt)
 ending_takes TheEnd (EndAt p) r e = let is : EndAt p ≡ r = cc in (is, (p, sym is))
-ending_takes TheEnd (CloseAt p t) r e = absurd cc
-ending_takes Parenthesis (EndAt p) r e = absurd cc
-ending_takes Parenthesis (WordAt p w t) r e = absurd cc
-ending_takes TheEnd (WordAt p w t) r e = absurd cc
-ending_takes Parenthesis (OpenAt p t) r e = absurd cc
-ending_takes TheEnd (OpenAt p t) r e = absurd cc
+ending_takes (TheWord v) (WordAt p w t) r e = (this_word v w t r (are_same w v) refl e, tt)
+ending_takes _ _ r e = absurd cc
 
 pub ending_again : (e : Ending) (t r : Text) → Begins (ending_items e) t r → IsLeftBy e r → past_ending e t ≡ Some r
 ending_again Parenthesis (CloseAt p t) r b left = ap (λ (u : Text). Some u) b.1
@@ -96,6 +123,10 @@ ending_again Parenthesis (OpenAt p t) r b left = absurd (let e : Closing ≡ Ope
 ending_again Parenthesis (WordAt p w t) r b left = absurd b.0
 ending_again Parenthesis (EndAt p) r b left = absurd b
 ending_again TheEnd t r b left = rw (b, left.1) refl
+ending_again (TheWord v) (WordAt p w t) r b left = rw (b.0, is_same v) (ap (λ (u : Text). Some u) b.1)
+ending_again (TheWord v) (OpenAt p t) r b left = absurd (let e : Verbatim v ≡ Opening = b.0 in cc)
+ending_again (TheWord v) (CloseAt p t) r b left = absurd (let e : Verbatim v ≡ Closing = b.0 in cc)
+ending_again (TheWord v) (EndAt p) r b left = absurd b
 
 pub sound_ok : {K X : Type 0} (x y : X) (o : Option K) → sound x o ≡ Ok y → (o ≡ None) × (x ≡ y)
 sound_ok x y None e = (refl, cc)

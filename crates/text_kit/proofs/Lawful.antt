@@ -1,11 +1,10 @@
 -- Readings that take exactly the texts of what they give.
 use Rattle.std.proofs.Common.{◌≡◌, ℕ, ◌<◌, ◌≤◌, Bool, true, false, cond, List, [], ◌∷◌, ◌++◌, length, Option, None, Result, Ok, Err, refl, sym, ap, subst, ◌∙◌, arith, append-nil, length-append, flat_map}
-use Rattle.net_core.proofs.Library.{Decides-eqb, slice_eq-Decides}
 use Rattle.net_core.specs.Terms.{are_same}
 use Rattle.snd_tokens.specs.Terms.{Text, WordAt, OpenAt, CloseAt, EndAt}
 use Rattle.text_kit.specs.Items.{ComeAfter, AreSpelled, Item, Verbatim, Whole, Money, Opening, Closing, SpellsItem, Begins}
 use Rattle.text_kit.specs.Reading.{Read, Reading, after, ◌>>=◌, give, word_at, open_at, close_at, end_at, expected, Ending, Parenthesis, list_at, not_empty, whole_at}
-pub use Rattle.text_kit.proofs.Beginnings.{AnyText, IsEnd, IsLeftBy, Starts, begins_both, begins_parts, ending_again, ending_items, ending_takes, no_ending, sound_ok, starts_less}
+pub use Rattle.text_kit.proofs.Beginnings.{AnyText, IsEnd, IsLeftBy, Starts, StartsBefore, begins_both, begins_parts, ending_again, ending_items, ending_takes, is_same, no_ending, sound_ok, starts_less}
 use Rattle.text_kit.proofs.Online.{ok_parts, placed_ok}
 pub use Rattle.text_kit.proofs.Spelled.{Lawful}
 use Rattle.text_kit.proofs.Spelled.{after_parts, law_spelled, parts_after, spelled_as, spelled_elements, spelled_law}
@@ -92,9 +91,6 @@ module _ {K X : Type 0} (other ended : K) (test : List ℕ → Result X K) (item
   pub lawful_word : Lawful (word_at other ended test) (λ x. item x ∷ []) is AnyText
   lawful_word = record { takes = word_takes; again = λ text x rest form b left. word_again text x rest form b }
 
-pub is_same : (a : List ℕ) → are_same a a ≡ true
-is_same a = (slice_eq-Decides Decides-eqb a a (are_same a a) refl).1 refl
-
 pub key_if : {K : Type 0} (other : K) (b : Bool) (x : Unit {0}) → (let r : Result (Unit {0}) K = cond b (Ok tt) (Err other) in r ≡ Ok x) → b ≡ true
 key_if other true x e = refl
 key_if other false x e = absurd cc
@@ -147,12 +143,12 @@ flat_spelled : {X : Type 0} (items : X → List Item) (xs : List X) → AreSpell
 flat_spelled items [] = refl
 flat_spelled items (x ∷ xs) = (items x, flat_map items xs, refl, flat_spelled items xs, refl)
 
-pub lawful_list : {K X : Type 0} (ending : Ending) (fault : List X → Option K) (one : List X → Reading K X) (items : X → List Item) (is : List X → X → Type 0) (starts : (x : X) → Starts (items x)) (law : (sofar : List X) → Lawful (one sofar) items (is sofar) AnyText)
+pub lawful_list : {K X : Type 0} (ending : Ending) (fault : List X → Option K) (one : List X → Reading K X) (items : X → List Item) (is : List X → X → Type 0) (starts : (x : X) → StartsBefore ending (items x)) (law : (sofar : List X) → Lawful (one sofar) items (is sofar) AnyText)
     → Lawful (list_at ending fault one []) (λ xs. flat_map items xs ++ ending_items ending) (λ xs. (fault xs ≡ None) × ComeAfter is [] xs) (IsLeftBy ending)
 lawful_list {X} ending fault one items is starts law = law_spelled _ _ _ _ (spelled_as _ _ (λ xs js. ((fault xs ≡ None) × ComeAfter is [] xs) × (js ≡ flat_map items xs ++ ending_items ending)) _
     (λ xs js s. let p = after_parts is (λ x ks. ks ≡ items x) [] xs s.1.0 s.1.1 in ((s.0, p.0), s.1.2 ∙ ap (λ (ks : List Item). ks ++ ending_items ending) (spelled_flat items xs s.1.0 p.1)))
     (λ xs js s. (s.0.0, (flat_map items xs, parts_after is (λ x ks. ks ≡ items x) [] xs (flat_map items xs) s.0.1 (flat_spelled items xs), s.1)))
-    (spelled_elements ending fault one (λ sofar x js. is sofar x × (js ≡ items x)) (λ sofar x js s. subst Starts (sym s.1) (starts x)) (λ sofar. spelled_law (one sofar) items (is sofar) AnyText (law sofar))))
+    (spelled_elements ending fault one (λ sofar x js. is sofar x × (js ≡ items x)) (λ sofar x js s. subst (StartsBefore ending) (sym s.1) (starts x)) (λ sofar. spelled_law (one sofar) items (is sofar) AnyText (law sofar))))
 
 -- ---- limits
 

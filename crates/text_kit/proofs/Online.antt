@@ -1,8 +1,10 @@
 -- Readings whose answer depends on no lexeme after what they take, nor after the place of their fault.
-use Rattle.std.proofs.Common.{◌≡◌, ℕ, zero, suc, ◌<◌, ◌≤◌, List, [], ◌∷◌, ◌++◌, Option, None, Some, Result, Ok, Err, refl, sym, ap, subst, ◌∙◌, arith}
+use Rattle.std.proofs.Common.{◌≡◌, ℕ, zero, suc, ◌<◌, ◌≤◌, Bool, true, false, cond, List, [], ◌∷◌, ◌++◌, Option, None, Some, Result, Ok, Err, refl, sym, ap, subst, ◌∙◌, arith}
+use Rattle.net_core.specs.Terms.{are_same}
 use Rattle.snd_tokens.specs.Terms.{Text, WordAt, OpenAt, CloseAt, EndAt, size}
 use Rattle.text_kit.specs.Places.{place}
-use Rattle.text_kit.specs.Reading.{Read, Reading, after, ◌>>=◌, give, placed, step_at, word_at, open_at, close_at, end_at, over_at, Ending, Parenthesis, TheEnd, past_ending, sound, ended_or, elements_at, list_at, whole_at}
+use Rattle.text_kit.specs.Reading.{Read, Reading, after, ◌>>=◌, give, placed, step_at, word_at, open_at, close_at, end_at, over_at, Ending, Parenthesis, TheEnd, TheWord, past_ending, sound, ended_or, elements_at, list_at, whole_at}
+use Rattle.text_kit.proofs.Beginnings.{is_same, this_word}
 use Rattle.text_kit.proofs.Alike.{AgreeThrough, Rises, Same, agree_same, past, past_size, past_sum, plus, plus_plus, plus_suc, same_all}
 
 -- what was read, by how many lexemes
@@ -185,22 +187,25 @@ ending_past Parenthesis (CloseAt p t) r e =
 ending_past TheEnd (EndAt p) r e =
     let is : EndAt p ≡ r = cc in
     (sym is, λ m u same. (EndAt p, ap (past_ending TheEnd) same, ap place same, subst (λ (i : Text). Same m i (EndAt p)) is (same_all m (EndAt p))))
-ending_past TheEnd (CloseAt p t) r e = absurd cc
-ending_past Parenthesis (EndAt p) r e = absurd cc
-ending_past Parenthesis (WordAt p w t) r e = absurd cc
-ending_past TheEnd (WordAt p w t) r e = absurd cc
-ending_past Parenthesis (OpenAt p t) r e = absurd cc
-ending_past TheEnd (OpenAt p t) r e = absurd cc
+ending_past (TheWord v) (WordAt p w t) r e =
+    let h = this_word v w t r (are_same w v) refl e in
+    (sym h.1, λ m u same. (same.0, ap (past_ending (TheWord v)) same.1 ∙ rw (h.0, is_same v) refl, ap place same.1, subst (λ (i : Text). Same m i same.0) h.1 same.2))
+ending_past _ _ r e = absurd cc
+
+none_word : (same : Bool) (t u : Text) → (let o : Option Text = cond same (Some t) None in o ≡ None) → (let o : Option Text = cond same (Some u) None in o ≡ None)
+none_word true t u e = absurd cc
+none_word false t u e = refl
 
 no_ending : (e : Ending) (t : Text) → past_ending e t ≡ None → (k : ℕ) (u : Text) → Same (suc k) t u → past_ending e u ≡ None
 no_ending Parenthesis (CloseAt p t) e k u same = absurd cc
 no_ending TheEnd (EndAt p) e k u same = absurd cc
-no_ending TheEnd (CloseAt p t) e k u same = ap (past_ending TheEnd) same.1
-no_ending Parenthesis (EndAt p) e k u same = ap (past_ending Parenthesis) same
-no_ending Parenthesis (WordAt p w t) e k u same = ap (past_ending Parenthesis) same.1
-no_ending TheEnd (WordAt p w t) e k u same = ap (past_ending TheEnd) same.1
+no_ending (TheWord v) (WordAt p w t) e k u same = ap (past_ending (TheWord v)) same.1 ∙ none_word (are_same w v) t same.0 e
+no_ending ending (WordAt p w t) e k u same = ap (past_ending ending) same.1
 no_ending Parenthesis (OpenAt p t) e k u same = ap (past_ending Parenthesis) same.1
 no_ending TheEnd (OpenAt p t) e k u same = ap (past_ending TheEnd) same.1
+no_ending (TheWord v) (OpenAt p t) e k u same = ap (past_ending (TheWord v)) same.1
+no_ending ending (CloseAt p t) e k u same = ap (past_ending ending) same.1
+no_ending ending (EndAt p) e k u same = ap (past_ending ending) same
 
 -- ---- lists
 

@@ -4,7 +4,7 @@ use Rattle.snd_tokens.specs.Terms.{Text, WordAt, OpenAt, CloseAt, EndAt, size}
 use Rattle.text_kit.specs.Items.{ComeAfter, AreSpelled, Item, Verbatim, Opening, Closing, Begins}
 use Rattle.text_kit.specs.Places.{place}
 use Rattle.text_kit.specs.Reading.{Read, Reading, after, ◌>>=◌, give, placed, word_at, Ending, Parenthesis, past_ending, sound, ended_or, list_at}
-use Rattle.text_kit.proofs.Beginnings.{AnyText, IsLeftBy, Starts, begins_both, begins_parts, ending_items, ending_takes, ending_again, no_ending, sound_ok, starts_less}
+use Rattle.text_kit.proofs.Beginnings.{AnyText, IsLeftBy, Starts, StartsBefore, begins_both, begins_parts, ending_items, ending_takes, ending_again, no_ending, sound_ok, starts_less}
 use Rattle.text_kit.proofs.Online.{at_ending, before_ending, elements, more, ok_parts, placed_ok}
 
 -- what is read from a text is spelled by items at its beginning, and what such items spell is read
@@ -108,7 +108,7 @@ pub parts_after : {X : Type 0} (C : List X → X → Type 0) (Of : X → List It
 parts_after C Of sofar [] is c s = s
 parts_after C Of sofar (x ∷ xs) is c s = (s.0, s.1, (c.0, s.2), parts_after C Of (sofar ++ x ∷ []) xs s.1 c.1 s.3, s.4)
 
-module _ {K X : Type 0} (ending : Ending) (fault : List X → Option K) (one : List X → Reading K X) (Of : List X → X → List Item → Type 0) (starts : (sofar : List X) (x : X) (is : List Item) → Of sofar x is → Starts is) (law : (sofar : List X) → Spelled (one sofar) (Of sofar) AnyText) where
+module _ {K X : Type 0} (ending : Ending) (fault : List X → Option K) (one : List X → Reading K X) (Of : List X → X → List Item → Type 0) (starts : (sofar : List X) (x : X) (is : List Item) → Of sofar x is → StartsBefore ending is) (law : (sofar : List X) → Spelled (one sofar) (Of sofar) AnyText) where
   abbrev E : ℕ → List X → Reading K (List X)
   E n sofar text = elements ending fault one n sofar text
 
@@ -130,7 +130,7 @@ module _ {K X : Type 0} (ending : Ending) (fault : List X → Option K) (one : L
   takes_more n sofar text (Err d) all rest read e enough later = absurd cc
   takes_more n sofar text (Ok x) all rest read e enough later =
       let h = (law sofar).takes text x.0 x.1 read in
-      let t = later x.0 x.1 (omega (arith, enough, starts_less h.0 text x.1 (starts sofar x.0 h.0 h.1) h.2)) e in
+      let t = later x.0 x.1 (omega (arith, enough, starts_less ending h.0 text x.1 (starts sofar x.0 h.0 h.1) h.2)) e in
       record {
         new = x.0 ∷ t.new;
         items = h.0 ++ t.items;
@@ -174,7 +174,7 @@ module _ {K X : Type 0} (ending : Ending) (fault : List X → Option K) (one : L
       let p = begins_parts each.0 following text rest joined in
       let begun = starts sofar x each.0 each.2 in
       let read = (law sofar).again text x p.0 each.0 each.2 p.1 tt in
-      let less = starts_less each.0 text p.0 begun p.1 in
+      let less = starts_less ending each.0 text p.0 begun p.1 in
       let all = append_assoc sofar (x ∷ []) xs in
       before_ending ending fault one n sofar text (no_ending ending each.0 following text rest begun joined)
       ∙ (ap (λ (q : Read K X). after q (λ y. M n sofar y)) read

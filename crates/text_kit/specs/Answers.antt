@@ -1,7 +1,8 @@
 -- what functions answer of a reading
 use Rattle.std.specs.Prelude.{◌≡◌, ℕ, Bool, true, false, Option, None, Some, Result, Ok, Err}
 use Rattle.snd_tokens.specs.Terms.{Text, WordAt, OpenAt, CloseAt, EndAt}
-use Rattle.text_kit.specs.Reading.{Read, Parenthesis, TheEnd, past_ending}
+use Rattle.text_kit.specs.Places.{place}
+use Rattle.text_kit.specs.Reading.{Read, Ending, Parenthesis, TheEnd, past_ending}
 use Rattle.text_kit.specs.declared.refusal.Refusal.{Refusal}
 use Rattle.text_kit.specs.declared.refusal.Refusal.TheVariants.{Bad, NoMemory}
 
@@ -42,6 +43,11 @@ Closes None old new = (new ≡ old) × (past_ending Parenthesis old ≡ None)
 abbrev pub IsAtEnd : Option ℕ → Text → Type 0
 IsAtEnd (Some at) text = text ≡ EndAt at
 IsAtEnd None text = past_ending TheEnd text ≡ None
+
+-- what ends a list was taken at this place, or it isn't next
+abbrev pub Passes : Ending → Option ℕ → Text → Text → Type 0
+Passes ending (Some at) old new = (past_ending ending old ≡ Some new) × (place old ≡ at)
+Passes ending None old new = (new ≡ old) × (past_ending ending old ≡ None)
 
 -- a turn of a list: with more to come, the reading of the whole is that of the rest; at the end it gave all; at a fault it fails with it
 abbrev pub TakesElement : {K X : Type 0} → Result Bool (Refusal K) → Read K X → Read K X → Read K X → Type 0

@@ -66,15 +66,17 @@ expected other wanted w = if are_same w wanted then Ok tt else Err other
 abbrev pub mapped : {K X Y : Type 0} → (X → Y) → Reading K X → Reading K Y
 mapped meaning r = r >>= λ x. give (meaning x)
 
--- what a list ends with: a closing parenthesis, or the end of the text
+-- what a list ends with: a closing parenthesis, the end of the text, or this very word
 pub data Ending : Type 0 where
   Parenthesis : Ending
   TheEnd : Ending
+  TheWord : List ℕ → Ending
 
 -- the text after the ending, if that is next
 abbrev pub past_ending : Ending → Text → Option Text
 past_ending Parenthesis (CloseAt at rest) = Some rest
 past_ending TheEnd (EndAt at) = Some (EndAt at)
+past_ending (TheWord wanted) (WordAt at w rest) = if are_same w wanted then Some rest else None
 past_ending _ _ = None
 
 -- a value, or the fault that it has
