@@ -12,4 +12,4 @@ mod totals;
 pub use alike::cover_needs;
 pub use covers::{Covering, cover};
 pub use fallback::{Fallback, fallback_plan};
-pub use totals::{capacities, cost};
+pub use totals::{capacities, cost, link_cost};

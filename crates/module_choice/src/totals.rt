@@ -43,8 +43,9 @@ fn installs(counts: &[u64]) -> bool
     counts.iter().any(|n| *n > 0)
 }
 
-/// What counts of the link's modules cost, with its setup once where some count is positive, in units of the network.
-pub(crate) fn link_cost(link: &Link, counts: &[u64]) -> u128
+/// What counts of the link's modules cost, with its setup once where some count is positive, in units of the network. It takes time in the
+/// number of modules, and no memory.
+pub fn link_cost(link: &Link, counts: &[u64]) -> u128
     requires shape { length counts.now ≡ length link.now.modules }
     requires few { length link.now.modules ≤ 16 }
     requires each { All IsModule link.now.modules }

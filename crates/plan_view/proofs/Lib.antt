@@ -1,6 +1,5 @@
 mod Firsts
 mod LineSums
-mod Pairs
 mod Plans
 mod RowLists
 mod Rounding

@@ -1,7 +1,6 @@
 //! The numbers that people read of a checked plan: a row for each link and for each state, and the whole.
 #![tactic(auto)]
 
-mod costs;
 mod fractions;
 mod greatest;
 mod links;

@@ -4,11 +4,10 @@ ghost use Rattle.plan_view.specs.Loads.{den_in, load_in};
 ghost use Rattle.plan_view.specs.Rows.{AreLinkRows, IsLinkRow, IsRowAt};
 ghost use Rattle.plan_view.specs.Sound.{IsSoundPlan};
 
-use crate::costs::link_cost;
 use crate::greatest::worst_state;
 use crate::loads::{use_of, whole_load};
 use crate::rows::LinkRow;
-use module_choice::capacities;
+use module_choice::{capacities, link_cost};
 use net_core::{Copied, Instance, Link, LinkId, List, NoMemory, StateId};
 use plan_types::Plan;
 use std::alloc::Global;
