@@ -4,8 +4,8 @@ ghost use Rattle.route_law.specs.Terms.{IsLowestRouting};
 ghost use Rattle.flow_router.specs.Answers.{IsRouted};
 ghost use Rattle.flow_mending.specs.inner.Counting.{AreMet, HasForm, IsCountedFlow, needs_over};
 
-use crate::dividing::common_divisor;
 use crate::loads::is_within;
+use flow_router::common_divisor;
 use net_core::{Demand, Flow, LinkId, List, NoMemory, RouteTask, Routing};
 use short_paths::is_path;
 use std::alloc::Global;
@@ -114,9 +114,10 @@ fn are_met(alloc: Global, task: &RouteTask, routing: &Routing) -> Result<bool, N
 
 /// Whether a routing is in lowest terms.
 fn is_lowest(routing: &Routing) -> bool
+    requires { 0 < routing.now.den }
     ensures { IsTrue result → IsLowestRouting routing.now }
 {
-    common_divisor(routing.den, routing.flows.items()) == 1
+    common_divisor(routing.den as u128, routing.flows.items()) == 1
 }
 
 /// Whether a routing is in lowest terms, with few flows.

@@ -2,13 +2,11 @@
 #![tactic(auto)]
 
 mod counting;
-mod dividing;
 mod loads;
 mod mending;
 pub mod reach;
 
 pub use counting::if_routed;
-pub use dividing::lowest;
 pub use flow_router;
 pub use loads::is_within;
 pub use mending::{bounded, mended};

@@ -3,8 +3,8 @@ ghost use Rattle.plan_terms.specs.Terms.{graph_of};
 ghost use Rattle.flow_router.specs.Answers.{IsRouted};
 
 use crate::counting::if_routed;
-use crate::dividing::lowest;
 use crate::reach::{Arc, FAR, Reach};
+use flow_router::lowest;
 use net_core::{Copied, Demand, Flow, LinkId, List, NoMemory, RouteTask, Routing};
 use std::alloc::Global;
 
@@ -203,6 +203,9 @@ pub fn mended(
 ) -> Result<Option<Routing>, NoMemory>
     ensures { IfOk result (λ o. IfSome o (IsRouted (graph_of task.now.graph) task.now.demands.now task.now.caps.now)) }
 {
+    if earlier.den == 0 {
+        return Ok(None);
+    }
     let flows = earlier.flows.copy()?;
     let room = room_after(alloc, task, earlier.den, flows.items())?;
     let missing = List::filled(alloc, 0, task.demands.len())?;
@@ -221,5 +224,9 @@ pub fn mended(
     }
     let Mending { flows, .. } = mending;
     let flows = not_empty(alloc, flows)?;
-    if_routed(alloc, task, lowest(earlier.den, flows))
+    let routing = Routing {
+        den: earlier.den,
+        flows,
+    };
+    if_routed(alloc, task, lowest(routing))
 }

@@ -12,7 +12,7 @@ use Rattle.route_law.specs.Terms.{AreFlowsOf, flow_times, scaled_need, total_sca
 use Rattle.route_law.proofs.Lemmas.{duals_below, flows_carry, carried_lowest, all_gained, some_left, no_slack, beside_after}
 use Rattle.flow_router.specs.Answers.{IsRouted}
 use Rattle.flow_router.specs.inner.Flowing.{AreBasisFlows, IsBasisFlow, LeavesNeed}
-use Rattle.flow_router.specs.inner.Lowest.{IsInLowest}
+use Rattle.flow_router.specs.Lowest.{IsInLowest}
 
 less_den : (c n limit : ℕ) → 0 < c → c * n < limit → n < limit
 less_den zero n limit pc big = absurd (omega (arith, pc))

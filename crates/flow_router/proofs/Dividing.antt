@@ -3,7 +3,7 @@ use Rattle.std.proofs.Common.{◌≡◌, ℕ, zero, suc, ◌+◌, ◌*◌, ◌/�
 use Rattle.net_core.proofs.Library.{IsGcd, ◌∣◌, take_more, take_more_set, get_or_default, dvd_trans, div-mul_cancel, mul-dvd-mul_left, dvd_of_mul-dvd-mul_left, eq-one_of_dvd-one, All-push, All-cons}
 use Rattle.plan_terms.specs.Terms.{Flow}
 use Rattle.route_law.specs.Terms.{flow_times}
-use Rattle.flow_router.specs.inner.Lowest.{IsCommonDivisor, IsInLowest}
+use Rattle.flow_router.specs.Lowest.{IsCommonDivisor, IsInLowest}
 use Rattle.net_core.proofs.Numbers.{positive_divisor}
 
 -- what holds of all holds of those before the last, and of the last

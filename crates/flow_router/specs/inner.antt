@@ -1,4 +1,3 @@
 pub mod Flowing
 pub mod Lengths
-pub mod Lowest
 pub mod Solutions

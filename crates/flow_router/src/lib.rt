@@ -13,10 +13,11 @@
 mod answer;
 mod cutting;
 mod flows;
-mod lowest;
+mod lowest_terms;
 mod numbers;
 mod prices;
 mod route;
 
 pub use answer::RouteAnswer;
+pub use lowest_terms::{common_divisor, lowest};
 pub use route::{route_state, route_task};

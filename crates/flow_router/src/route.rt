@@ -9,7 +9,7 @@ ghost use Rattle.flow_router.specs.inner.Solutions.{ArePricesBelow, IsSolution};
 use crate::answer::RouteAnswer;
 use crate::cutting::{LinkLengths, common_price, lengths_of};
 use crate::flows::{basis_flows, leaves_need};
-use crate::lowest::lowest;
+use crate::lowest_terms::lowest;
 use crate::numbers::wide_row;
 use crate::prices::link_prices;
 use greedy_router::greedy_in;

@@ -1,14 +1,12 @@
 -- the routings of a share, as those of counts that cover it
 use Rattle.std.proofs.Common.{◌≡◌, ℕ, zero, suc, ◌+◌, ◌*◌, ◌/◌, ◌^◌, ◌<◌, ◌≤◌, ◌∙◌, cond, eqb, List, [], ◌∷◌, ◌++◌, All, Option, None, Some, get_or, length, map, slice_get, slice_index, take, refl, sym, ap, subst, arith, eq-eqb, mul-le-mul_left}
-use Rattle.net_core.proofs.Library.{IsGcd, ◌∣◌, ∥∥₁_elim, ∥∥₁_map, props, All-map, All-more, dvd_trans, dvd-mul_right, dvd_of_mul-dvd-mul_left, eq-one_of_dvd-one, get_or-le-sum_by, get_or_from_slice_get, le_of_dvd, le_of_mul-le-mul_left, length-map, map-append, mul-div_cancel', mul-dvd-mul_left, slice_get-get_or, slice_get_within, take_more}
-use Rattle.net_core.proofs.Lists.{front_all}
-use Rattle.net_core.proofs.Numbers.{positive_divisor}
+use Rattle.net_core.proofs.Library.{◌∣◌, ∥∥₁_elim, ∥∥₁_map, props, All-map, dvd-mul_right, dvd_of_mul-dvd-mul_left, eq-one_of_dvd-one, get_or-le-sum_by, get_or_from_slice_get, le_of_dvd, le_of_mul-le-mul_left, length-map, map-append, mul-div_cancel', mul-dvd-mul_left, slice_get-get_or, slice_get_within, take_more}
 use Rattle.plan_terms.specs.Terms.{AreDemands, Caps, Carries, Case, Demand, Flow, Graph, IsDemand, Joins, Link, Routing, capacities, graph_in, sent}
 use Rattle.route_law.specs.Terms.{IsLowestRouting, flow_times, over_times}
 use Rattle.route_law.proofs.Lemmas.{carried_lowest}
 use Rattle.greedy_router.specs.Left.{IsLeft}
 use Rattle.greedy_router.specs.declared.left.Left.{Left}
-use Rattle.flow_mending.specs.Terms.{IsRouted}
+use Rattle.flow_mending.specs.Terms.{IsCommonDivisor, IsRouted}
 use Rattle.module_prices.specs.declared.cheapest.UnitPair.{UnitPair}
 use Rattle.plan_types.specs.declared.quality.Fractional.{Fractional}
 use Rattle.plan_types.specs.declared.quality.Quality.{Quality}
@@ -19,26 +17,10 @@ use Rattle.plan_law.specs.TightPlans.{CoversShare, IsProperShare}
 use Rattle.plan_law.proofs.Covering.{covers_carry}
 use Rattle.share_covers.specs.Choices.{CarriesShare, IsQualityOfShare}
 use Rattle.share_covers.specs.InstalledRoutes.{installed_caps}
-use Rattle.share_covers.specs.inner.SharedRoutes.{CarriesAtWhole, CoversCarriedShare, CoversQuality, DividesFlows, IsAtWhole, IsSmallAtWhole, IsStateAnswer, IsWholeAnswer}
+use Rattle.share_covers.specs.inner.SharedRoutes.{CarriesAtWhole, CoversCarriedShare, CoversQuality, IsAtWhole, IsSmallAtWhole, IsStateAnswer, IsWholeAnswer}
 use Rattle.share_covers.proofs.Certain.{carries_certain}
 
 -- ---- lowest terms
-
-last_all : (k : ℕ) (flows : List Flow) (f : Flow) → All (λ (x : Flow). k ∣ x.num) (flows ++ f ∷ []) → k ∣ f.num
-last_all k [] f all = all 0 f (omega arith)
-last_all k (g ∷ gs) f all = last_all k gs f (λ i d lt. all (suc i) d (omega (arith, lt)))
-
--- one flow more
-pub divides_next : (den : ℕ) (flows : List Flow) (n : ℕ) (f : Flow) (g h : ℕ) → n < length flows → f ≡ get_or flows n f → DividesFlows den (take n flows) g → IsGcd g f.num h → DividesFlows den (take (n + 1) flows) h
-divides_next den flows n f g h lt at before gcd = record {
-  positive = positive_divisor h g before.positive gcd.0;
-  of_den = dvd_trans h gcd.0 before.of_den;
-  of_nums = All-more (λ (x : Flow). h ∣ x.num) flows n f lt (λ k e l. dvd_trans h gcd.0 (before.of_nums k e l)) (subst (λ (x : Flow). h ∣ x.num) at gcd.1);
-  greatest = λ k of_den all.
-      let parts : All (λ (x : Flow). k ∣ x.num) (take n flows ++ get_or flows n f ∷ []) = subst (All (λ (x : Flow). k ∣ x.num)) (take_more flows n f lt) all in
-      gcd.2 k (before.greatest k of_den (front_all (λ (x : Flow). k ∣ x.num) (take n flows) (get_or flows n f ∷ []) parts))
-      (subst (λ (x : Flow). k ∣ x.num) (sym at) (last_all k (take n flows) (get_or flows n f) parts));
-}
 
 -- one flow more over a divisor
 pub over_next : (divisor : ℕ) (flows over : List Flow) (n : ℕ) (f : Flow) → n < length flows → f ≡ get_or flows n f → divisor ∣ f.num → map (flow_times divisor) over ≡ take n flows
@@ -51,7 +33,7 @@ over_next divisor flows over n f lt at divides before =
     ∙ (ap (λ (x : Flow). take n flows ++ x ∷ []) (whole ∙ at)
     ∙ sym (take_more flows n f lt)))
 
-module _ (scale : ℕ) (r : Routing) (common : ℕ) (divides : DividesFlows (r.den * scale) r.flows common) where
+module _ (scale : ℕ) (r : Routing) (common : ℕ) (divides : IsCommonDivisor (r.den * scale) r.flows common) where
   -- over the greatest divisor the routing is in lowest terms
   pub small_at_whole : (most : ℕ) (over : List Flow) → length r.flows ≤ most → r.den * scale / common < 2 ^ 62 → map (flow_times common) over ≡ r.flows
       → IsSmallAtWhole scale most r (record { den = r.den * scale / common; flows = over })

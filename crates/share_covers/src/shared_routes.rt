@@ -3,11 +3,11 @@ ghost use Rattle.std.specs.Int.{◌∣◌};
 ghost use Rattle.plan_terms.specs.Terms.{case_of, graph_in, AreCounts, IsSurvivable};
 ghost use Rattle.route_law.specs.Terms.{flow_times};
 ghost use Rattle.share_covers.specs.InstalledRoutes.{IsRoutesAnswer, installed_caps};
-ghost use Rattle.share_covers.specs.inner.SharedRoutes.{CarriesAtWhole, CoversCarriedShare, CoversQuality, DividesFlows};
+ghost use Rattle.share_covers.specs.inner.SharedRoutes.{CarriesAtWhole, CoversCarriedShare, CoversQuality};
 ghost use Rattle.share_covers.specs.inner.SharedRoutes.{IsSharedAnswer, IsStateAnswer, IsWholeAnswer};
 
 use crate::routes::{InstalledRoutes, route_installed};
-use checked_fraction::gcd;
+use flow_mending::flow_router::common_divisor;
 use flow_mending::mended;
 use greedy_router::greedy;
 use module_choice::capacities;
@@ -17,18 +17,6 @@ use std::alloc::Global;
 
 /// The denominators of routings are below this.
 const DEN_LIMIT: u128 = 1 << 62;
-
-/// The greatest common divisor of a denominator and the numbers of flows.
-fn common_divisor(den: u128, flows: &[Flow]) -> u128
-    requires { 0 < den }
-    ensures { DividesFlows den flows.now result }
-{
-    let mut common = den;
-    for flow in flows {
-        common = gcd(common, flow.num);
-    }
-    common
-}
 
 /// Flows with their numbers over a divisor of theirs.
 fn flows_over(alloc: Global, flows: &[Flow], divisor: u128) -> Result<List<Flow>, NoMemory>

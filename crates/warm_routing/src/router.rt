@@ -9,8 +9,9 @@ use crate::cut_of_row::cut_at;
 use crate::entering::{entering_path, entering_slack};
 use crate::searching::{Waiting, collect, given, set_lengths};
 use crate::start::{bounds_of, first_basis, needs_of};
+use flow_mending::flow_router::lowest;
+use flow_mending::if_routed;
 use flow_mending::reach::Reach;
-use flow_mending::{if_routed, lowest};
 use metric_cut::Cut;
 use net_core::{List, NoMemory, RouteColumn, RouteTask, Routing, StateId, Surviving};
 use node_sets::threshold_set;
@@ -131,10 +132,13 @@ fn routed(
 ) -> Result<Step, NoMemory>
     ensures { IfOk result (IsSoundStep (graph_of task.now.graph) task.now.demands.now task.now.caps.now) }
 {
-    let Some(Routing { den, flows }) = routing_of(alloc, basis, shares, needs)? else {
+    let Some(routing) = routing_of(alloc, basis, shares, needs)? else {
         return Ok(Step::GivenUp);
     };
-    let routing = lowest(den, flows);
+    if routing.den == 0 {
+        return Ok(Step::GivenUp);
+    }
+    let routing = lowest(routing);
     match if_routed(alloc, task, routing)? {
         Some(routing) => Ok(Step::Done(WarmAnswer::Routed(routing))),
         None => Ok(Step::GivenUp),

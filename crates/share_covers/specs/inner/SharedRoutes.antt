@@ -1,7 +1,6 @@
 -- the routings of a share as those of counts that cover it
-use Rattle.std.specs.Prelude.{◌≡◌, ℕ, ◌+◌, ◌*◌, ◌^◌, ◌<◌, ◌≤◌, ◌⊎◌, List, All, Option, None, Some, length, slice_get}
-use Rattle.std.specs.Int.{◌∣◌}
-use Rattle.plan_terms.specs.Terms.{Demand, Flow, Routing, Caps, Graph, Joins, Carries, Case}
+use Rattle.std.specs.Prelude.{◌≡◌, ℕ, ◌+◌, ◌*◌, ◌^◌, ◌<◌, ◌≤◌, ◌⊎◌, List, Option, None, Some, length, slice_get}
+use Rattle.plan_terms.specs.Terms.{Demand, Routing, Caps, Graph, Joins, Carries, Case}
 use Rattle.module_prices.specs.declared.cheapest.UnitPair.{UnitPair}
 use Rattle.plan_types.specs.declared.quality.Fractional.{Fractional}
 use Rattle.plan_types.specs.declared.quality.Quality.{Quality}
@@ -12,13 +11,6 @@ use Rattle.plan_law.specs.TightPlans.{CoversShare}
 use Rattle.flow_mending.specs.Terms.{IsRouted}
 use Rattle.share_covers.specs.Choices.{CarriesShare}
 use Rattle.share_covers.specs.InstalledRoutes.{AreRoutedWithin, installed_caps}
-
--- the greatest number that divides a denominator and each flow's number
-pub record DividesFlows (den : ℕ) (flows : List Flow) (d : ℕ) : Type 0 where
-  pub positive : 0 < d
-  pub of_den : d ∣ den
-  pub of_nums : All (λ f. d ∣ f.num) flows
-  pub greatest : (k : ℕ) → k ∣ den → All (λ f. k ∣ f.num) flows → k ∣ d
 
 -- another routing, some number of times over, has the first one's flows over its denominator times the scale
 pub record IsAtWhole (scale : ℕ) (routing whole : Routing) : Type 0 where

@@ -2,7 +2,7 @@ use Rattle.std.proofs.Common.{subst}
 use Rattle.net_core.proofs.Library.{IsGcd}
 use Rattle.plan_terms.specs.Terms.{Flow}
 use Rattle.flow_router.proofs.Dividing.{common_more}
-use Rattle.flow_router.proofs.lowest.common_divisor.Goals as goal
+use Rattle.flow_router.proofs.lowest_terms.common_divisor.Goals as goal
 
 pub loop-f-preserved : goal.loop-f-preserved
 loop-f-preserved c =

@@ -1,5 +1,5 @@
 use Rattle.flow_router.proofs.Dividing.{AreDividedFlows}
-use Rattle.flow_router.proofs.lowest.divide.Given as goal
+use Rattle.flow_router.proofs.lowest_terms.divide.Given as goal
 
 -- the flows so far are divided
 abbrev pub invariant-loop-i : goal.invariant-loop-i

@@ -1,6 +1,6 @@
 use Rattle.std.proofs.Common.{take}
-use Rattle.flow_router.specs.inner.Lowest.{IsCommonDivisor}
-use Rattle.flow_router.proofs.lowest.common_divisor.Given as goal
+use Rattle.flow_router.specs.Lowest.{IsCommonDivisor}
+use Rattle.flow_router.proofs.lowest_terms.common_divisor.Given as goal
 
 -- the divisor of the flows so far
 abbrev pub invariant-loop-f : goal.invariant-loop-f

@@ -1,6 +1,6 @@
 use Rattle.std.proofs.Common.{arith}
 use Rattle.flow_router.proofs.Dividing.{divided_end, divided_none, divided_write}
-use Rattle.flow_router.proofs.lowest.divide.Goals as goal
+use Rattle.flow_router.proofs.lowest_terms.divide.Goals as goal
 
 pub loop-i-init : goal.loop-i-init
 loop-i-init c = divided_none c.args.common c.args.flows.now

@@ -1,7 +1,7 @@
 use Rattle.std.proofs.Common.{subst}
-use Rattle.flow_router.specs.inner.Lowest.{IsCommonDivisor}
+use Rattle.flow_router.specs.Lowest.{IsCommonDivisor}
 use Rattle.flow_router.proofs.Dividing.{in_lowest}
-use Rattle.flow_router.proofs.lowest.lowest.Goals as goal
+use Rattle.flow_router.proofs.lowest_terms.lowest.Goals as goal
 
 pub divide_list-requires-clause-divides : goal.divide_list-requires-clause-divides
 divide_list-requires-clause-divides c = rw c.items.ensures at c.common_divisor-common.ensures.of_nums
