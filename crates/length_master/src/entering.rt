@@ -36,11 +36,6 @@ pub(crate) fn product_of(nums: &[i64], entries: &[Entry]) -> i128 {
     sum
 }
 
-/// A surplus by its weight, in a fixed point.
-fn rate_of(surplus: u128, weight: u128) -> u128 {
-    part(surplus.min(1 << 104).wrapping_mul(1 << 20), weight).max(1)
-}
-
 /// The line of greatest surplus by weight, if one gains.
 fn line_of(prices: &KeptRow, lines: &[Line]) -> Option<Entrant> {
     let mut most = 0;
@@ -53,7 +48,8 @@ fn line_of(prices: &KeptRow, lines: &[Line]) -> Option<Entrant> {
             .wrapping_mul(prices.den as i128)
             .wrapping_sub(cost);
         if surplus > 0 {
-            let rate = rate_of(surplus.unsigned_abs(), line.weight);
+            let size = surplus.unsigned_abs().min(1 << 104).wrapping_mul(1 << 20);
+            let rate = part(size, line.weight).max(1);
             if rate > most {
                 most = rate;
                 found = Some(Entrant {

@@ -56,11 +56,6 @@ pub(crate) fn word(number: i128) -> i64 {
     }
 }
 
-/// A quotient by a positive word; by another one the number itself.
-fn word_over(number: i64, by: i64) -> i64 {
-    if by > 1 { number / by } else { number }
-}
-
 /// A quotient by a positive number; by 0 the number itself.
 pub(crate) fn part(number: u128, by: u128) -> u128 {
     if by > 1 { number / by } else { number }
@@ -148,10 +143,11 @@ fn combine_words(row: &mut KeptRow, times: i64, other: &[i64], less: i64) -> Opt
     let whole = row.den.wrapping_mul(times);
     let shared = shared_of(row.nums.items(), whole.unsigned_abs());
     let by = word(shared as i128);
+    row.den = whole;
     if by > 1 {
         divide(row.nums.items_mut(), by);
+        row.den = whole / by;
     }
-    row.den = word_over(whole, by);
     if (bits_of(row.nums.items()) as u128) < WIDE {
         Some(shared as u128)
     } else {
@@ -210,10 +206,12 @@ fn shared_of(nums: &[i64], one: u64) -> u64 {
     shared
 }
 
-/// Divides each number.
+/// Divides each number by a positive one; by another one it leaves them.
 fn divide(nums: &mut [i64], by: i64) {
     for e in 0..nums.len() {
-        nums[e] = word_over(nums[e], by);
+        if by > 1 {
+            nums[e] /= by;
+        }
     }
 }
 
