@@ -72,6 +72,7 @@ mod metric_cut {
 
 mod separator {
     pub mod one_state;
+    pub mod question;
     pub mod ranges;
 
     pub use one_state::separate_state;

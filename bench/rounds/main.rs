@@ -53,6 +53,7 @@ mod metric_cut {
 mod separator {
     pub mod known_state;
     pub mod one_state;
+    pub mod question;
     pub mod ranges;
     pub mod roomy_sets;
     pub mod warm_start;
@@ -79,6 +80,7 @@ use share_covers::shared_routes::route_covers;
 use share_covers::{InstalledRoutes, cover_share};
 use node_sets::{RoundSets, grown_set, round_set};
 use separator::roomy_sets::{NO_ROOM, set_in_state, sets_of_round};
+use separator::question::StateQuestion;
 use separator::warm_start::KnownStates;
 
 impl Copied for master_bound::answer::Multiplier {
@@ -207,7 +209,7 @@ fn main() {
         if way == "each" || rounds == 0 {
             for s in 0..states.count() {
                 tests += 1;
-                match kept.separate_state(&instance, StateId(s), &caps).unwrap() {
+                match kept.separate_state(&instance, StateId(s), &caps, StateQuestion::SetsFirst).unwrap() {
                     RouteAnswer::Routed(routing) => routings.push((s, routing)),
                     answer => further.extend(cut_in(answer)),
                 }

@@ -10,24 +10,25 @@ use crate::round::{Round, StateFound, Work};
 use net_core::{List, NoMemory, StateId};
 use outside_io::Gate;
 use separator::flow_router::RouteAnswer;
-use separator::{KnownState, separate_state};
+use separator::{KnownState, StateQuestion, separate_state};
 use std::thread;
 use std::thread::Threads;
 
 /// The number of threads that work for a caller beside its own.
 const HELPERS: u32 = 3;
 
-/// What is found of a state by what is kept of it, and before that among sets of nodes, if it isn't asked by routing alone.
+/// What is found of a state with what is kept of it.
 fn ask(round: &Round, state: StateId, known: &mut KnownState) -> Result<RouteAnswer, NoMemory>
     requires { state.0 < length round.now.instance.states.now.listed + 1 }
     ensures { IfOk result (IsFoundOf round.now state.0) }
 {
-    let instance = &round.instance;
-    if round.by_routing_alone {
-        known.route(round.alloc, instance, state, round.caps)
-    } else {
-        known.separate(round.alloc, instance, state, round.caps)
-    }
+    known.separate(
+        round.alloc,
+        &round.instance,
+        state,
+        round.caps,
+        round.question,
+    )
 }
 
 /// Routes a state with what is kept of it. Where another worker has that in hand, it is routed without.
@@ -54,12 +55,12 @@ pub fn find_state(round: &Round, state: StateId) -> Result<RouteAnswer, NoMemory
     requires { state.0 < length round.now.instance.states.now.listed + 1 }
     ensures { IfOk result (IsFoundOf round.now state.0) }
 {
-    if round.by_routing_alone {
-        return route(round, state);
-    }
-    match hinted_cut(round, state)? {
-        Some(cut) => Ok(RouteAnswer::Violated(cut)),
-        None => route(round, state),
+    match round.question {
+        StateQuestion::SetsFirst => match hinted_cut(round, state)? {
+            Some(cut) => Ok(RouteAnswer::Violated(cut)),
+            None => route(round, state),
+        },
+        StateQuestion::RoutingAlone => route(round, state),
     }
 }
 

@@ -4,8 +4,8 @@ ghost use Rattle.hint_board.specs.Hints.{hint_links};
 
 use hint_board::HintBoard;
 use net_core::{Caps, Instance, StateId};
-use separator::KnownState;
 use separator::flow_router::RouteAnswer;
+use separator::{KnownState, StateQuestion};
 use std::alloc::Global;
 use std::sync::Mutex;
 use std::sync::atomic::{AtomicU32, Ordering};
@@ -24,8 +24,8 @@ pub struct Round<'i, 'c, 'h, 'k> {
     pub hints: &'h HintBoard,
     /// What is kept of each state, from state 0 on; where there is nothing, a state is routed without.
     pub kept: &'k [KeptState],
-    /// Whether states are asked by routing alone: without the lengths that are shown, and without sets of nodes.
-    pub by_routing_alone: bool,
+    /// How states are asked. By routing alone the lengths that are shown aren't looked at either.
+    pub question: StateQuestion,
     pub ghost survivable: { IsSurvivable (case_of instance) },
     pub ghost scale: { 0 < caps.now.scale },
     pub ghost count: { length caps.now.nums ≡ length instance.net.now.links },

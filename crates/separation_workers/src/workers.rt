@@ -23,7 +23,7 @@ use net_core::{Caps, Instance, List, NoMemory, StateId};
 use outside_io::{Gate, RoundFigures};
 use plan_types::Spot;
 use separator::flow_router::RouteAnswer;
-use separator::{KnownState, Separate, Separated, StateAnswer, line_of};
+use separator::{KnownState, Separate, Separated, StateAnswer, StateQuestion, line_of};
 use std::alloc::Global;
 use std::sync::{Mutex, Wait};
 use std::thread::Threads;
@@ -308,7 +308,7 @@ impl<'r, 'd, 'a, R: Threads + Wait, G: Gate> Separate for Workers<'r, 'd, 'a, R,
             caller: self.caller.number(),
             hints: self.hints,
             kept: self.kept.items(),
-            by_routing_alone: false,
+            question: StateQuestion::SetsFirst,
         };
         answer_round(self.rt, self.gate, self.hold, &round, &mut self.caller)
     }
@@ -330,7 +330,7 @@ impl<'r, 'd, 'a, R: Threads + Wait, G: Gate> Separate for Workers<'r, 'd, 'a, R,
             caller: self.caller.number(),
             hints: self.hints,
             kept: self.kept.items(),
-            by_routing_alone: true,
+            question: StateQuestion::RoutingAlone,
         };
         answer_some(
             self.rt,

@@ -3,7 +3,8 @@ ghost use Rattle.plan_terms.specs.Terms.{graph_in, case_of};
 ghost use Rattle.route_law.specs.Terms.{AreJoined};
 ghost use Rattle.separator.specs.Findings.{IsFinding};
 
-use crate::one_state::{route_from, separate_from};
+use crate::one_state::separate_from;
+use crate::question::StateQuestion;
 use net_core::{Caps, Instance, List, NoMemory, RouteColumn, RouteTask, StateId};
 use std::alloc::Global;
 use warm_routing::WarmRouter;
@@ -67,6 +68,7 @@ impl KnownState {
         instance: &Instance,
         state: StateId,
         caps: &Caps,
+        question: StateQuestion,
     ) -> Result<RouteAnswer, NoMemory>
         requires state { state.0 < length instance.now.states.now.listed + 1 }
         requires scale { 0 < caps.now.scale }
@@ -80,31 +82,7 @@ impl KnownState {
             instance,
             state,
             caps,
-            &mut self.columns,
-            &mut self.warm,
-        )
-    }
-
-    /// Answers the state as `route_from` does. Where memory runs out, the columns are as they were.
-    pub fn route(
-        &mut self,
-        alloc: Global,
-        instance: &Instance,
-        state: StateId,
-        caps: &Caps,
-    ) -> Result<RouteAnswer, NoMemory>
-        requires state { state.0 < length instance.now.states.now.listed + 1 }
-        requires scale { 0 < caps.now.scale }
-        requires caps { length caps.now.nums ≡ length instance.now.net.now.links }
-        requires joined { AreJoined (graph_in (case_of instance.now) state.0) instance.now.demands.now }
-        ensures found { IfOk result (IsFinding (graph_in (case_of instance.now) state.0) instance.now.demands.now caps.now) }
-        ensures same { OnErr result (self.new.columns ≡ self.old.columns) }
-    {
-        route_from(
-            alloc,
-            instance,
-            state,
-            caps,
+            question,
             &mut self.columns,
             &mut self.warm,
         )

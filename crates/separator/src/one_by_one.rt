@@ -1,13 +1,13 @@
-ghost use Rattle.std.specs.Prelude.{◌≡◌, ◌≤◌, ◌<◌, ◌+◌, [], List as Seq, All, Contains, IfOk, ℕ, length};
+ghost use Rattle.std.specs.Prelude.{◌≡◌, ◌≤◌, ◌<◌, ◌+◌, [], IfOk, length};
 ghost use Rattle.plan_terms.specs.Terms.{case_of, IsSurvivable};
-ghost use Rattle.separator.specs.Separators.{IsAnswerOf, cut_answered, cuts_after};
-ghost use Rattle.separator.specs.inner.Working.{AreAnswersBelow, PoolsBelow, PoolsOf};
+ghost use Rattle.separator.specs.Separators.{cuts_after};
+ghost use Rattle.separator.specs.inner.Working.{AreAnswersBelow, PoolsBelow};
 
 use crate::admission::spot_of;
 use crate::answers::StateAnswer;
-use crate::found::answer_found;
+use crate::question::StateQuestion;
 use crate::separating::Separate;
-use crate::some_states::answer_some;
+use crate::some_states::{answer_some, answer_state};
 use crate::warm_start::KnownStates;
 use cut_pool::Board;
 use metric_cut::Cut;
@@ -66,29 +66,6 @@ impl<'a> OneByOne<'a> {
     }
 }
 
-/// What is found of a state, its cut admitted to the board's pool.
-fn answer_state(
-    instance: &Instance,
-    state: StateId,
-    caps: &Caps,
-    board: &mut Board,
-    known: &mut KnownStates,
-) -> Result<StateAnswer, NoMemory>
-    requires net { board.old.net.now ≡ instance.now.net.now }
-    requires listed { board.old.states.now ≡ instance.now.states.now }
-    requires state { state.0 < length instance.now.states.now.listed + 1 }
-    requires survivable { IsSurvivable (case_of instance.now) }
-    requires scale { 0 < caps.now.scale }
-    requires caps { length caps.now.nums ≡ length instance.now.net.now.links }
-    ensures pools { PoolsOf (case_of instance.now) caps.now state.0 board.old board.new (cuts_after board.old.entries board.new.entries) }
-    ensures state { IfOk result (λ a. a.state ≡ state) }
-    ensures answer { IfOk result (λ a. IsAnswerOf (case_of instance.now) caps.now board.new.entries state.0 a.answer) }
-    ensures among { IfOk result (λ a. All (Contains (cut_answered a.answer)) (cuts_after board.old.entries board.new.entries)) }
-{
-    let found = known.separate_state(instance, state, caps)?;
-    answer_found(instance, state, caps, found, board)
-}
-
 /// What is found of each state, the cuts admitted to the board's pool.
 fn answer_states(
     alloc: Global,
@@ -107,9 +84,10 @@ fn answer_states(
     ensures answers { IfOk result (AreAnswersBelow (case_of instance.now) caps.now (length instance.now.states.now.listed + 1)
         board.new.entries (cuts_after board.old.entries board.new.entries)) }
 {
+    let question = StateQuestion::SetsFirst;
     let mut answers = List::new(alloc);
     for s in 0..instance.states.count() {
-        answers.push(answer_state(instance, StateId(s), caps, board, known)?)?;
+        answers.push(answer_state(instance, StateId(s), caps, question, board, known)?)?;
     }
     Ok(answers)
 }

@@ -4,6 +4,7 @@ ghost use Rattle.route_law.specs.Terms.{AreJoined};
 ghost use Rattle.warm_routing.specs.WarmAnswers.{IsWarmAnswer};
 ghost use Rattle.separator.specs.Findings.{IsFinding, IsFoundCutOf};
 
+use crate::question::StateQuestion;
 use crate::ranges::are_caps;
 use metric_cut::Cut;
 use net_core::{Caps, Instance, List, NoMemory, RouteColumn, RouteTask, StateId};
@@ -113,10 +114,11 @@ fn route_warm(
     }
 }
 
-/// A violated cut of a set of nodes that grow, else what a kept basis finds, else what routing finds.
+/// A violated cut of a set of nodes that grow, where the question asks for it, else what a kept basis finds, else what routing finds.
 fn separate_task_warm(
     alloc: Global,
     task: &RouteTask,
+    question: StateQuestion,
     known: &mut List<RouteColumn>,
     warm: &mut WarmRouter,
 ) -> Result<RouteAnswer, NoMemory>
@@ -125,9 +127,12 @@ fn separate_task_warm(
     ensures found { IfOk result (IsFinding (graph_of task.now.graph) task.now.demands.now task.now.caps.now) }
     ensures same { OnErr result (known.new ≡ known.old) }
 {
-    match grown_set(alloc, task)? {
-        Some(set) => Ok(RouteAnswer::Violated(set)),
-        None => route_warm(alloc, task, known, warm),
+    match question {
+        StateQuestion::SetsFirst => match grown_set(alloc, task)? {
+            Some(set) => Ok(RouteAnswer::Violated(set)),
+            None => route_warm(alloc, task, known, warm),
+        },
+        StateQuestion::RoutingAlone => route_warm(alloc, task, known, warm),
     }
 }
 
@@ -167,7 +172,7 @@ pub fn separate_state<'a>(
 }
 
 /// Answers as `separate_state` does with known columns, and before it routes it asks a basis that is kept from one such question to the
-/// next.
+/// next. A question by routing alone looks for no set of nodes that grow.
 ///
 /// All states and all capacities of a network with its demands have one system of equations with other right sides, so that a basis which
 /// one question ended with is some turns away from the next answer. One of this state is nearest. Nothing is known of it, and what it
@@ -180,6 +185,7 @@ pub fn separate_from<'a>(
     instance: &Instance<'a>,
     state: StateId,
     caps: &'a Caps,
+    question: StateQuestion,
     known: &mut List<RouteColumn>,
     warm: &mut WarmRouter,
 ) -> Result<RouteAnswer, NoMemory>
@@ -195,31 +201,5 @@ pub fn separate_from<'a>(
         demands: instance.demands,
         caps,
     };
-    separate_task_warm(alloc, &task, known, warm)
-}
-
-/// Answers as `separate_from` does, but looks for no set of nodes before it asks the kept basis: meant for a state whose sets were looked at.
-///
-/// It takes the time and the memory of `route_task` and of `WarmRouter::ask`.
-pub fn route_from<'a>(
-    alloc: Global,
-    instance: &Instance<'a>,
-    state: StateId,
-    caps: &'a Caps,
-    known: &mut List<RouteColumn>,
-    warm: &mut WarmRouter,
-) -> Result<RouteAnswer, NoMemory>
-    requires state { state.0 < length instance.now.states.now.listed + 1 }
-    requires scale { 0 < caps.now.scale }
-    requires caps { length caps.now.nums ≡ length instance.now.net.now.links }
-    requires joined { AreJoined (graph_in (case_of instance.now) state.0) instance.now.demands.now }
-    ensures found { IfOk result (IsFinding (graph_in (case_of instance.now) state.0) instance.now.demands.now caps.now) }
-    ensures same { OnErr result (known.new ≡ known.old) }
-{
-    let task = RouteTask {
-        graph: instance.in_state(state),
-        demands: instance.demands,
-        caps,
-    };
-    route_warm(alloc, &task, known, warm)
+    separate_task_warm(alloc, &task, question, known, warm)
 }

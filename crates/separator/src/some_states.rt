@@ -6,6 +6,7 @@ ghost use Rattle.separator.specs.Rooms.{HasRoomOver};
 
 use crate::answers::{Separated, StateAnswer};
 use crate::found::{answer_cut, answer_found};
+use crate::question::StateQuestion;
 use crate::roomy_sets::{NO_ROOM, RoomySets, set_in_state, sets_of_round};
 use crate::warm_start::KnownStates;
 use cut_pool::Board;
@@ -101,11 +102,12 @@ fn answer_roomy_sets(
     Ok(cuts)
 }
 
-/// What is found of a state by routing alone, its cut admitted to the board's pool where one is found.
-fn answer_routed(
+/// What is found of a state, its cut admitted to the board's pool where one is found.
+pub(crate) fn answer_state(
     instance: &Instance,
     state: StateId,
     caps: &Caps,
+    question: StateQuestion,
     board: &mut Board,
     known: &mut KnownStates,
 ) -> Result<StateAnswer, NoMemory>
@@ -120,7 +122,7 @@ fn answer_routed(
     ensures answer { IfOk result (λ a. IsAnswerOf (case_of instance.now) caps.now board.new.entries state.0 a.answer) }
     ensures among { IfOk result (λ a. All (Contains (cut_answered a.answer)) (cuts_after board.old.entries board.new.entries)) }
 {
-    let found = known.route_state(instance, state, caps)?;
+    let found = known.separate_state(instance, state, caps, question)?;
     answer_found(instance, state, caps, found, board)
 }
 
@@ -158,7 +160,8 @@ fn ask_until_cut(
     ensures others { IfOk result (λ o. o ≡ None → PoolsMore board.old board.new [] × ContinueTo (case_of instance.now) caps.now from to others.old others.new) }
 {
     for s in from..to {
-        let answer = answer_routed(instance, StateId(s), caps, board, known)?;
+        let question = StateQuestion::RoutingAlone;
+        let answer = answer_state(instance, StateId(s), caps, question, board, known)?;
         if is_cut(&answer.answer) {
             return Ok(Some(answer));
         }

@@ -4,6 +4,7 @@ ghost use Rattle.route_law.specs.Terms.{AreJoined};
 ghost use Rattle.separator.specs.Findings.{IsFinding};
 
 use crate::known_state::KnownState;
+use crate::question::StateQuestion;
 use net_core::{Caps, Instance, List, NoMemory, StateId};
 use std::alloc::Global;
 use warm_routing::flow_router::RouteAnswer;
@@ -45,12 +46,13 @@ impl KnownStates {
         Ok(())
     }
 
-    /// Answers a state as `separate_state` does, and begins with what is kept of it.
+    /// Answers a state as `separate_from` does, and begins with what is kept of it.
     pub fn separate_state(
         &mut self,
         instance: &Instance,
         state: StateId,
         caps: &Caps,
+        question: StateQuestion,
     ) -> Result<RouteAnswer, NoMemory>
         requires state { state.0 < length instance.now.states.now.listed + 1 }
         requires scale { 0 < caps.now.scale }
@@ -60,28 +62,10 @@ impl KnownStates {
     {
         self.make_ready(instance, state, caps)?;
         match self.by_state.items_mut().get_mut(state.0 as usize) {
-            Some(known) => known.separate(self.alloc, instance, state, caps),
-            None => KnownState::new(self.alloc).separate(self.alloc, instance, state, caps),
-        }
-    }
-
-    /// Answers a state as `route_from` does, and begins with what is kept of it.
-    pub fn route_state(
-        &mut self,
-        instance: &Instance,
-        state: StateId,
-        caps: &Caps,
-    ) -> Result<RouteAnswer, NoMemory>
-        requires state { state.0 < length instance.now.states.now.listed + 1 }
-        requires scale { 0 < caps.now.scale }
-        requires caps { length caps.now.nums ≡ length instance.now.net.now.links }
-        requires joined { AreJoined (graph_in (case_of instance.now) state.0) instance.now.demands.now }
-        ensures found { IfOk result (IsFinding (graph_in (case_of instance.now) state.0) instance.now.demands.now caps.now) }
-    {
-        self.make_ready(instance, state, caps)?;
-        match self.by_state.items_mut().get_mut(state.0 as usize) {
-            Some(known) => known.route(self.alloc, instance, state, caps),
-            None => KnownState::new(self.alloc).route(self.alloc, instance, state, caps),
+            Some(known) => known.separate(self.alloc, instance, state, caps, question),
+            None => {
+                KnownState::new(self.alloc).separate(self.alloc, instance, state, caps, question)
+            }
         }
     }
 }

@@ -4,7 +4,3 @@ use Rattle.separation_workers.proofs.beside.ask.Goals as goal
 pub separate-requires-clause-joined : goal.separate-requires-clause-joined
 separate-requires-clause-joined c = λ k d at needed apart.
     c.args.round.now.survivable c.args.state.0 k (omega (arith, c.requires)) (record { demand = d; at = at; needed = needed; apart = apart })
-
-pub route-requires-clause-joined : goal.route-requires-clause-joined
-route-requires-clause-joined c = λ k d at needed apart.
-    c.args.round.now.survivable c.args.state.0 k (omega (arith, c.requires)) (record { demand = d; at = at; needed = needed; apart = apart })
