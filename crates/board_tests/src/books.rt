@@ -183,7 +183,7 @@ fn is_at(book: &Book, k: usize, letter: u8) -> bool {
     demand.name.bytes() == [letter].as_slice() && place == Some(k)
 }
 
-/// Whether these are the book's demands, so many letters from the first one on, and each is found at its place.
+/// Whether the book's demands are named by consecutive letters, given by the first letter and their number, and each is found at its place.
 fn are_in_order(book: &Book, order: (u8, u8)) -> bool {
     for k in 0..order.1 {
         if !is_at(book, k as usize, order.0.wrapping_add(k)) {
@@ -295,7 +295,7 @@ fn has_place_after_drop(alloc: Global, book: &mut Book) -> bool {
         && reply_to_more(alloc, book) == Some(Reply::Accepted(2050))
 }
 
-/// The same of a new full book.
+/// Whether a new full book has no place for one demand more, which is also too much, and has one after it drops A0.
 fn has_place_on_new(alloc: Global) -> bool {
     match full_book(alloc) {
         Some(mut book) => has_place_after_drop(alloc, &mut book),
@@ -330,7 +330,7 @@ fn accepts_a_thousand(alloc: Global, book: &mut Book) -> bool {
     true
 }
 
-/// The same of a new full book.
+/// Whether a thousand edits of a new full book are accepted, one after another.
 fn accepts_on_new(alloc: Global) -> bool {
     match full_book(alloc) {
         Some(mut book) => accepts_a_thousand(alloc, &mut book),

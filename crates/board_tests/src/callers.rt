@@ -47,7 +47,7 @@ fn edit_once<R: Wait>(rt: &R, alloc: Global, caller: &mut Caller, need: u32)
     }
 }
 
-/// Sets the need of A so many times, each in a turn of its own.
+/// Sets the need of A this many times, each in a turn of its own.
 fn edit_often<R: Wait>(rt: &R, alloc: Global, caller: &mut Caller, edits: u32)
     requires { IsAtDesk caller.old }
     ensures { IsSameCaller caller.old caller.new }
@@ -73,7 +73,7 @@ fn edited<'d, 'a, R: Wait>(
     caller
 }
 
-/// So many threads make so many edits each.
+/// Lets this many threads make this many edits each.
 fn edit_by<'d, 'a, R: Threads + Wait + Sync>(
     rt: &R,
     alloc: Global,
@@ -120,7 +120,8 @@ fn edits_of(entries: &[Entry], number: u32) -> usize {
         .count()
 }
 
-/// What so many threads commit on a new board of the problem that make so many edits each: all entries, and those of callers 1 and 2.
+/// The number of entries on a new board of the problem after this many threads made this many edits each: all of them, and those of
+/// callers 1 and 2.
 fn entries_by<R: Threads + Wait + Sync>(
     rt: &R,
     alloc: Global,
@@ -144,7 +145,7 @@ fn commit_all<R: Threads + Wait + Sync>(rt: &R, alloc: Global, problem: &Problem
         && matches!(entries_by(rt, alloc, problem, 8, 125), Some((1000, _, _)))
 }
 
-/// The same on new boards of one demand.
+/// Whether two threads commit a hundred edits each, and eight all their thousand, on new boards of one demand.
 fn commit_all_on_new<R: Threads + Wait + Sync>(rt: &R, alloc: Global) -> bool {
     match one_demand(alloc) {
         Some(problem) => commit_all(rt, alloc, &problem),
@@ -247,7 +248,8 @@ fn found_by_a_second<R: Wait>(rt: &R, caller: Caller, cut: Cut) -> Option<(u64, 
     if is_first { counts } else { None }
 }
 
-/// The same on a new board of the problem.
+/// The position, the version and the number of cuts that a second caller finds on a new board of the problem, after the first caller
+/// admitted a cut.
 fn found_on_new<R: Wait>(rt: &R, alloc: Global, problem: &Problem) -> Option<(u64, u64, usize)> {
     let cut = unit_cut(alloc, problem, 0)?;
     let (desk, pass) = open_desk(alloc, problem)?;

@@ -36,7 +36,7 @@ fn post_one<R: Wait>(
     Ok(board.post(rt, lengths_of(alloc, numbers.0, numbers.1)?)?)
 }
 
-/// Posts such lengths so many times. Whether each time the hint and its index both show what was posted.
+/// Posts lengths of these numbers this many times. Whether each time the hint and its index both show what was posted.
 fn are_posted<R: Wait>(
     rt: &R,
     alloc: Global,
@@ -103,7 +103,7 @@ fn a_hint_and_its_index_show_the_posted_lengths(rt: HostRuntime) -> Result<(), F
     Ok(())
 }
 
-/// Two threads post lengths so many times each. Whether each time they were shown, to either thread.
+/// Two threads post lengths this many times each. Whether each time the lengths were shown to the thread that posted them.
 fn are_posted_by_two<R: Threads + Wait + Sync>(
     rt: &R,
     alloc: Global,

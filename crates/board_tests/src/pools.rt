@@ -22,13 +22,13 @@ const GREAT: [DemandRow; 16] = [(0, 2, 1099511627775); 16];
 enum Step {
     /// An edit is the last entry, with this reply, and the version is this.
     Edit(Change, Reply, u64),
-    /// The unit cut of this state has this index, is known or admitted, and there are so many entries.
+    /// The unit cut of this state has this index, is known or admitted, and there are this many entries.
     Admit(u32, bool, u32, u64),
     /// The right sides, kept or summed anew, are these, in the pool's order.
     Sides(&'static [u128]),
-    /// Takes memory for so many edits.
+    /// Takes memory for this many edits.
     Reserve(u32),
-    /// For so many edits there is memory.
+    /// There is memory for this many edits.
     Spare(u32),
 }
 
@@ -48,7 +48,7 @@ fn open_board(alloc: Global, problem: &Problem) -> Option<Given<'_>> {
     Some(Given { problem, board })
 }
 
-/// The reply of an edit that stands at this position.
+/// The reply of an edit that is at this position.
 fn reply_at(answer: &EditAnswer, count: u64) -> Option<Reply> {
     match answer {
         EditAnswer::At { position, reply } if *position == count => Some(*reply),
@@ -327,7 +327,8 @@ fn stays<R: Threads + Sync>(rt: &R, alloc: Global, given: &mut Given) -> bool {
     }
 }
 
-/// The same on a new board of the problem with two cuts.
+/// Whether a snapshot from before an edit stays as it was, and one from after it has the right sides then, on a new board of the problem
+/// with two cuts.
 fn stays_on_board<R: Threads + Sync>(rt: &R, alloc: Global, problem: &Problem) -> bool {
     match open_board(alloc, problem) {
         Some(mut given) => {
@@ -337,7 +338,7 @@ fn stays_on_board<R: Threads + Sync>(rt: &R, alloc: Global, problem: &Problem) -
     }
 }
 
-/// The same of one demand.
+/// Whether a snapshot from before an edit stays as it was, and one from after it has the right sides then, on a new board of one demand.
 fn stays_on_new<R: Threads + Sync>(rt: &R, alloc: Global) -> bool {
     match problem_of(alloc, &ONE) {
         Some(problem) => stays_on_board(rt, alloc, &problem),
