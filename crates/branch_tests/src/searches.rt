@@ -15,7 +15,7 @@ use worked_networks::{
     LinkRow, ONE, PARALLEL, TEN, failing, network, problem, single_failures, triangle,
 };
 
-/// What a search comes to: the plan's cost, what it is shown to be, and the number of splits.
+/// The result of a search: the plan's cost, what the plan is shown to be, and the number of splits.
 pub(crate) type Found = (u128, Verdict, usize);
 
 /// Whether each of these modules costs something.

@@ -124,7 +124,7 @@ fn trimmed_wide(alloc: Global, instance: &Instance, plan: Plan) -> Option<(u128,
     Some((trimmed.plan.cost, blocks.len(), wide))
 }
 
-/// The same of the network's plan.
+/// What the trimmed plan of the wide network costs, how many blocks it has, and how many of these are evidence.
 fn on_wide_network<R: Threads + Wait + Sync>(
     rt: &R,
     alloc: Global,
