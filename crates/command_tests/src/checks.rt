@@ -3,8 +3,8 @@ use planner_commands::Status;
 use std::sync::Wait;
 use std::thread::Threads;
 
-/// Words of a plan or a session, the words that check its report, and what stands in it: the cost with the bound and the raw value, and how
-/// tight it is.
+/// Words of a plan or a session, the words that check its report, and what the report contains: the cost with the bound and the raw value,
+/// and how tight it is.
 type Accepted = (&'static str, &'static str, &'static str, &'static str);
 
 /// Plans whose reports are read again.

@@ -5,7 +5,7 @@ use std::sync::Wait;
 use std::test::Fail;
 use std::thread::Threads;
 
-/// A part of a report, what stands in its place, and the end of the line of a check.
+/// A part of a report, what replaces it, and the end of the line of a check.
 type Change = (&'static str, &'static str, &'static str);
 
 /// Changes of the notes, the journal and the pool, which are found.
@@ -54,7 +54,7 @@ const PLANS: [Change; 10] = [
     ("cost 10.000", "cost 110.000", "cost-differs 110.000 10.000"),
 ];
 
-/// The same of counts, costs and routings.
+/// Changes of the plan's counts, costs and routings, which are found.
 const COUNTS_AND_ROUTINGS: [Change; 10] = [
     ("AB ( 0 )", "AB ( 1 )", "cost-differs 10.000 15.000"),
     ("AC ( 2 )", "AC ( 22 )", "cost-differs 10.000 110.000"),
@@ -97,7 +97,7 @@ const BOUNDS: [Change; 9] = [
     ("bound 10.000", "bound 1.000", "bound-differs 1.000 10.000"),
 ];
 
-/// The same of further numbers.
+/// Changes of further numbers of the plan's bound, of its certificate and of what shows how tight it is, which are found.
 const BOUNDS_AND_PROOFS: [Change; 9] = [
     ("bound 10.000", "bound 9.999", "bound-differs 9.999 10.000"),
     ("raw 6000 1", "raw 600 1", "raw-differs"),
@@ -132,7 +132,7 @@ const FORMS: [Change; 14] = [
     ("plan 1", "pla 1", "token at 134"),
 ];
 
-/// The same of further words.
+/// Changes of further words, after which the text is no report.
 const FURTHER_FORMS: [Change; 14] = [
     ("version 0", "versio 0", "token at 141"),
     ("position 0", "positio 0", "token at 151"),
@@ -173,7 +173,7 @@ const VALUES: [Change; 15] = [
     ("12.000", "1099511627.776", "number-large at 183"),
 ];
 
-/// The same of further numbers, names and counts.
+/// Changes of further numbers, names and counts, after which the text is no report of the triangle.
 const FURTHER_VALUES: [Change; 14] = [
     ("raw 6000 1", "raw 6000 0", "limit at 226"),
     ("raw 6000 1", "raw 06000 1", "number-not at 221"),
@@ -312,7 +312,7 @@ const REFUSED: Line = ("refused report ", Status::BadReport);
 
 const ACCEPTED: Line = ("accepted ", Status::Done);
 
-/// A check of a report after each of some changes, and the line that it comes to.
+/// A check of a report after each of some changes, and the line that the check gives.
 type Damages = (Check, &'static str, &'static [Change], Line);
 
 /// Damages of reports with more states and with setup costs.
@@ -325,7 +325,7 @@ const DAMAGES: [Damages; 6] = [
     (OF_NOTED, CHARGED_REPORT, &UNCHANGED_NOTES, WHOLE),
 ];
 
-/// The same of two plans, and of other places.
+/// Damages of reports with two plans, and of reports with another number of decimal places.
 const FURTHER_DAMAGES: [Damages; 5] = [
     (OF_HELD, RAISED_REPORT, &BOTH_UNCHANGED, ACCEPTED),
     (OF_HELD, RAISED_REPORT, &RAISED, SECOND),
@@ -334,7 +334,7 @@ const FURTHER_DAMAGES: [Damages; 5] = [
     (OF_FINER, TRIANGLE_REPORT, &OTHER_PLACES, REFUSED),
 ];
 
-/// Whether a check of a report after a change, whose words fetch so many files, ends with this status and a line that begins so.
+/// Whether a check of a report after a change, whose words fetch this many files, ends with this status and a line that begins like this.
 fn says<R: AllocGlobal + Threads + Wait + Sync>(
     rt: &R,
     check: Check,
@@ -353,8 +353,8 @@ fn says<R: AllocGlobal + Threads + Wait + Sync>(
     }
 }
 
-/// The first change after which a check of a report, whose words fetch so many files, doesn't end with this status and a line that
-/// begins so.
+/// The first change after which a check of a report, whose words fetch this many files, doesn't end with this status and a line that
+/// begins like this.
 fn first_unlike<R: AllocGlobal + Threads + Wait + Sync>(
     rt: &R,
     check: Check,

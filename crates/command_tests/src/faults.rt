@@ -4,7 +4,7 @@ use std::sync::Wait;
 use std::test::Fail;
 use std::thread::Threads;
 
-/// Words, the files that they fetch, and the status that they come to where nothing fails.
+/// Words, how many files they fetch, and the status with which they end where nothing fails.
 type Row = (&'static str, u32, Status);
 
 /// Commands of each kind, and some that are refused.
@@ -96,7 +96,7 @@ fn each_put_fails<R: AllocGlobal + Threads + Wait + Sync>(
     false
 }
 
-/// Whether a command comes to its status, and each fetch and each put of it can fail.
+/// Whether a command ends with its status, and each fetch and each put of it can fail.
 fn each_fails<R: AllocGlobal + Threads + Wait + Sync>(rt: &R, row: &Row, report: &[u8]) -> bool {
     let (words, fetches, status) = *row;
     let Some(run) = with_report(rt, words, report, &[fetches], &[]) else {

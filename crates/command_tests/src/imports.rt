@@ -4,7 +4,7 @@ use planner_commands::Status;
 use std::sync::Wait;
 use std::thread::Threads;
 
-/// Words of an import, the bytes of its file of flows, how many files are fetched, and the status and the text that it comes to.
+/// Words of an import, the bytes of its file of flows, how many files are fetched, and the status and the text with which it ends.
 type Row = (&'static str, &'static str, u32, Status, &'static str);
 
 /// Imports into the triangle and into a chain. The triangle's demand goes from A to C, its links have modules of 10, and its failures are
@@ -117,7 +117,7 @@ const IMPORTS: [Row; 15] = [
     ),
 ];
 
-/// Whether a row comes to what it says.
+/// Whether the import of a row ends as the row says.
 fn imports<R: AllocGlobal + Threads + Wait + Sync>(rt: &R, row: &Row) -> bool {
     let (words, flows, fetched, status, text) = *row;
     comes_to(

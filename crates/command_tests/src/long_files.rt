@@ -16,7 +16,7 @@ LINKS ( ",
     b")\nDEMANDS ( )\n",
 );
 
-/// The same of the report of its plan.
+/// What the report of a plan of that network begins with, what comes after each long name, and what the report ends with.
 const REPORT: (&[u8], &[u8], &[u8]) = (
     b"?planner report; version: 1
 NOTES ( )
@@ -63,7 +63,7 @@ fn with_long_names(alloc: Global, parts: (&[u8], &[u8], &[u8])) -> Option<Bytes>
     Some(text)
 }
 
-/// Whether a run has this status and these faults, and wrote the first so many bytes of a text.
+/// Whether a run has this status and this many faults, and wrote this many of the first bytes of a text.
 fn wrote(run: &Ended, text: &[u8], taken: usize, status: Status, faults: u64) -> bool {
     match text.get(..taken) {
         Some(front) => run.is(status, front, (0, faults)),
@@ -71,7 +71,7 @@ fn wrote(run: &Ended, text: &[u8], taken: usize, status: Status, faults: u64) ->
     }
 }
 
-/// Whether a run wrote the first so many bytes of the report of the long names, which has 5514.
+/// Whether a run wrote this many of the first bytes of the report of the long names, which has 5514.
 fn wrote_report(
     alloc: Global,
     run: &Ended,
@@ -83,8 +83,8 @@ fn wrote_report(
     Some(report.len() == 5514 && wrote(run, report.items(), taken, status, faults))
 }
 
-/// Whether a plan of the network of the long names ends with this status where the puts of these numbers fail, with the first so many
-/// bytes of the report written, which has 5514.
+/// Whether a plan of the network of the long names ends with this status where the puts of these numbers fail, and wrote this many of the
+/// first bytes of the report, which has 5514.
 fn long_plan_ends<R: AllocGlobal + Threads + Wait + Sync>(
     rt: &R,
     puts: &[u32],
@@ -103,7 +103,7 @@ fn a_long_text_is_put_in_pieces(rt: HostRuntime) {
     assert!(rt; long_plan_ends(&rt, &[1], Status::WriteFault, half) == Some(true));
 }
 
-/// The triangle's network file with spaces after it, so that it has so many bytes.
+/// The triangle's network file with spaces after it, so that it has this many bytes.
 fn padded_triangle(alloc: Global, len: usize) -> Option<Bytes> {
     let mut text = List::from_slice(alloc, TRIANGLE).ok()?;
     let spaces = len.saturating_sub(text.len());
@@ -112,7 +112,7 @@ fn padded_triangle(alloc: Global, len: usize) -> Option<Bytes> {
     Some(text)
 }
 
-/// Whether a plan of the triangle in a file of so many bytes comes to this.
+/// Whether a plan of the triangle in a file of this many bytes ends with this status and this text.
 fn padded_comes_to<R: AllocGlobal + Threads + Wait + Sync>(
     rt: &R,
     len: usize,
@@ -124,7 +124,7 @@ fn padded_comes_to<R: AllocGlobal + Threads + Wait + Sync>(
     }
 }
 
-/// The length of a file, and what a plan of it comes to: the longest that is read, and one byte more.
+/// The length of a file, and the status and the text with which a plan of it ends: for the longest that is read, and for one byte more.
 const LENGTHS: [(usize, (Status, &str)); 2] = [
     (16777216, (Status::Done, TRIANGLE_REPORT)),
     (16777217, (Status::TooLong, "too long long\n")),

@@ -7,8 +7,8 @@ use std::alloc::Global;
 use std::sync::Wait;
 use std::thread::Threads;
 
-/// Two nodes with 18 links between them. In these texts each @ stands for 240 letters and each ~ for 240 spaces, so that all names of nodes and
-/// links have 255 bytes.
+/// Two nodes with 18 links between them. In these texts each @ means 240 letters and each ~ means 240 spaces, so that all names of nodes
+/// and links have 255 bytes.
 const NETWORK: &str = "?SNDlib native format; type: network; version: 1.0
 NODES ( @node-number-001 @node-number-002 )
 LINKS (
@@ -139,7 +139,7 @@ const VIEW: &str = "wide   2 nodes, 18 links, 1 demand of 9.000; 18 failures, al
   accepted: the modules carry every demand in 19 of 19 states, and no plan costs less than 5.000
 ";
 
-/// Puts what a byte of a text stands for last.
+/// Puts what a byte of a short text means last.
 fn put_written(text: &mut Bytes, byte: u8) -> Result<(), NoMemory> {
     match byte {
         b'@' => text.append(&[b'x'; 240]),
@@ -148,7 +148,7 @@ fn put_written(text: &mut Bytes, byte: u8) -> Result<(), NoMemory> {
     }
 }
 
-/// What a text stands for.
+/// The short text with each @ and each ~ written out.
 fn written(alloc: Global, short: &str) -> Result<Bytes, NoMemory> {
     let mut text = List::new(alloc);
     for byte in short.as_bytes() {
@@ -157,7 +157,7 @@ fn written(alloc: Global, short: &str) -> Result<Bytes, NoMemory> {
     Ok(text)
 }
 
-/// Puts a file of what a text stands for last.
+/// Puts a file of the short text, written out, last.
 fn put(held: &mut List<MemFile>, alloc: Global, name: &[u8], short: &str) -> Option<()> {
     let name = Name::new(alloc, name).ok()?;
     let bytes = written(alloc, short).ok()?;

@@ -245,7 +245,8 @@ const OPTIONS: [Row; 10] = [
     ),
 ];
 
-/// The same of options that say what is told, and of files that are none.
+/// Words with options that say what is told, and with files that aren't of the kind that an option wants. The report isn't there, so that
+/// the files before it are read.
 const TELLING_OPTIONS: [Row; 10] = [
     (
         "view triangle nothing --model plain --failures list",

@@ -42,7 +42,7 @@ const ROUND: RoundFigures = RoundFigures {
 /// Its line.
 const ROUND_LINE: &[u8] = b"round 1: 2 cuts, worth 18.000, 4 states carried\n";
 
-/// How many splits a tree may have, how many it comes to, whether the gate is quiet, how many lines are told of them, and one of these lines.
+/// How many splits a tree may have, how many it has, whether the gate is quiet, how many lines are told of them, and one of these lines.
 type SplitRow = (u32, u32, bool, u64, &'static [u8]);
 
 /// A line is told at each tenth: at each tenth split of 100, at each of 5, and at the splits 1,000 to 9,000 and 9,999 of 9,999. The gap of a

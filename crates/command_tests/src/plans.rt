@@ -7,7 +7,7 @@ use std::thread::Threads;
 pub(crate) const USAGE: &str =
     "usage: plan NET [MODEL [FAILURES]] | session NET MODEL FAILURES SCRIPT | check NET MODEL FAILURES REPORT | sample SEED N | trim NET [MODEL [FAILURES]] | prove LIMIT NET [MODEL [FAILURES]] | import NET MODEL FAILURES FLOWS\n";
 
-/// Words, how many files they fetch, and the status and the text that they come to.
+/// Words, how many files they fetch, and the status and the text with which they end.
 type Row = (&'static str, u32, Status, &'static str);
 
 /// The report of the triangle without demands.
@@ -117,7 +117,7 @@ tight 1 ( 0 0 6000 )
 )
 ";
 
-/// The same where the model doesn't charge them.
+/// The report of the triangle with setup costs that the model doesn't charge.
 pub(crate) const NOTED_REPORT: &str = "?planner report; version: 1
 NOTES ( setup )
 JOURNAL ( ( 1 cut 0 )

@@ -78,7 +78,7 @@ fn plans_are_proved_cheapest(rt: HostRuntime) {
     }
 }
 
-/// Words of a proof that comes to none, how many files they fetch, and the status and the text that they come to.
+/// Words of a proof that gives none, how many files they fetch, and the status and the text with which they end.
 type Row = (&'static str, u32, Status, &'static str);
 
 const REFUSALS: [Row; 9] = [

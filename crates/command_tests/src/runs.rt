@@ -50,7 +50,7 @@ pub(crate) fn shelf_with(alloc: Global, files: List<MemFile>, fetches: &[u32]) -
     have_different_names(files.items()).then(|| MemShelf::new(files, failing))
 }
 
-/// An empty sink with room for so many bytes, of which the puts of these numbers fail, counted from 0.
+/// An empty sink with room for this many bytes, of which the puts of these numbers fail, counted from 0.
 pub(crate) fn sink_of(alloc: Global, room: u64, puts: &[u32]) -> Option<MemSink> {
     let failing = List::from_slice(alloc, puts).ok()?;
     MemSink::new(alloc, room, failing).ok()
@@ -97,7 +97,7 @@ pub(crate) fn run_words<R: AllocGlobal + Threads + Wait + Sync>(
     run_over(rt, &words, more, fetches, puts)
 }
 
-/// Whether these words, which fetch at most so many files, come to this status and this text. A further fetch would fail.
+/// Whether these words, which fetch at most this many files, end with this status and this text. A further fetch would fail.
 pub(crate) fn comes_to<R: AllocGlobal + Threads + Wait + Sync>(
     rt: &R,
     words: &str,
@@ -112,7 +112,7 @@ pub(crate) fn comes_to<R: AllocGlobal + Threads + Wait + Sync>(
     }
 }
 
-/// The text with one part in place of another, from where that stands first.
+/// The text with the first occurrence of a part replaced by another.
 pub(crate) fn replaced(alloc: Global, text: &str, part: &str, by: &str) -> Option<Bytes> {
     let (front, rest) = text.split_once(part)?;
     let mut changed = List::from_slice(alloc, front.as_bytes()).ok()?;

@@ -100,7 +100,7 @@ fn trimmed_plans_are_accepted(rt: HostRuntime) {
     }
 }
 
-/// Words of a trimming that comes to no plan, how many files they fetch, and the status and the text that they come to.
+/// Words of a trimming that gives no plan, how many files they fetch, and the status and the text with which they end.
 type Row = (&'static str, u32, Status, &'static str);
 
 const REFUSALS: [Row; 4] = [
