@@ -334,7 +334,8 @@ fn is_cut_on<'a>(
     }
 }
 
-/// The same at these capacities over a scale.
+/// Whether a case's row gives its lengths as a cut on the triangle without failures, at these capacities over a scale, where that is
+/// expected, and else no cut.
 fn is_cut(alloc: Global, case: &Case, nums: &[u128], scale: u64, is_less: bool) -> bool {
     let Ok(net) = network(alloc, 3, &TRIANGLE) else {
         return false;

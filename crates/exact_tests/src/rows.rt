@@ -5,7 +5,7 @@ use crate::numbers::is_narrow;
 use checked_fraction::{Row, WideNumber, combine, lower, rescale};
 use std::alloc::Global;
 
-/// Two numbers, and what they stand over.
+/// Two numerators, and their denominator.
 type Over = ([i128; 2], i64);
 
 /// The place and value of a number that is too wide.
