@@ -40,7 +40,7 @@ fn list(alloc: Global, net: &Network, rows: &[DemandRow]) -> Option<FailureAnswe
     failure_list(alloc, net, &asked).ok()
 }
 
-/// Whether a text is as wanted, and gives so many states.
+/// Whether a text is the one that the row wants, and gives the row's number of states.
 fn is_list(alloc: Global, net: &Network, text: &Bytes, row: &ListRow) -> Option<bool> {
     let states = read_failures(alloc, net, text.items()).ok()?;
     Some(text.items() == row.1 && states.count() == row.2)

@@ -93,7 +93,7 @@ const ROWS: [Row; 7] = [
     ),
 ];
 
-/// What the report of a row comes to in its form.
+/// The view of a row's report in the row's form, or why there is none.
 fn text_of(alloc: Global, p: &Problem, row: &Row) -> Result<Bytes, Halt> {
     let bytes = row.0.as_bytes();
     match row.1 {

@@ -115,7 +115,7 @@ refused model unsupported-LINK_CAPACITY_MODEL at 121
     ),
 ];
 
-/// The same of further aspects.
+/// Parts of the model, others in their place, and the messages: further aspects.
 pub(crate) const OTHER_MODELS: [Row; 11] = [
     (
         b"\nLINK_CAPACITY_MODEL = MODULAR_CAPACITIES\n",

@@ -103,7 +103,7 @@ const LONG: [(usize, usize, &[u8]); 2] = [
     (255, 257, b""),
 ];
 
-/// Two words that share so many bytes.
+/// Two words that share this many bytes, and differ in the last one.
 fn two_words(alloc: Global, shared: usize) -> Result<Bytes, NoMemory> {
     let same = List::filled(alloc, b'x', shared)?;
     let mut text = List::new(alloc);

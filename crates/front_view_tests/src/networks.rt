@@ -109,7 +109,7 @@ refused network header at 0
     ),
 ];
 
-/// The same of sections, cut files, and words and parentheses.
+/// Parts of the network, others in their place, and the messages: sections, cut files, and words and parentheses.
 pub(crate) const SECTIONS: [Row; 14] = [
     (
         b"NODES ( Aachen Berlin Celle )\n",
@@ -268,7 +268,7 @@ refused network token at 103
     ),
 ];
 
-/// The same of numbers.
+/// Parts of the network, others in their place, and the messages: numbers.
 pub(crate) const NUMBERS: [Row; 10] = [
     (
         b"1 12.00",
@@ -382,7 +382,7 @@ refused network number-large at 269
     ),
 ];
 
-/// The same of names, ends and limits.
+/// Parts of the network, others in their place, and the messages: names, ends and limits.
 pub(crate) const NAMES: [Row; 14] = [
     (
         b"AB ( Aachen Berlin )",

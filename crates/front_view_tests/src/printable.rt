@@ -98,7 +98,7 @@ fn named(alloc: Global) -> Option<Problem> {
     problem(alloc, net, &[(0, 1, 5000)]).ok()
 }
 
-/// What the report comes to in the form of a row.
+/// The view of the report in the form of a row, or why there is none.
 fn text_of(alloc: Global, p: &Problem, row: &Row) -> Result<Bytes, Halt> {
     let bytes = REPORT.as_bytes();
     match row.0 {

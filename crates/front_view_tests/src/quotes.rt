@@ -2,7 +2,7 @@ use fault_texts::put_quote;
 use net_core::{Bytes, List, NoMemory};
 use std::alloc::Global;
 
-/// Bytes, how many times they stand in a word, and how its quote goes on after the first backquote: bytes, how many times, and the end.
+/// Bytes, how many times they occur in a word, and how its quote goes on after the first backquote: bytes, how many times, and the end.
 type QuoteRow = (
     (&'static [u8], usize),
     (&'static [u8], usize),
@@ -24,7 +24,7 @@ const QUOTES: [QuoteRow; 11] = [
     ((b"\xc2\xa0", 1), (b"\xc2\xa0", 1), b"`"),
 ];
 
-/// Puts bytes so many times.
+/// Puts bytes this many times.
 pub(crate) fn put_many(text: &mut Bytes, bytes: &[u8], count: usize) -> Result<(), NoMemory> {
     for _put in 0..count {
         text.append(bytes)?;

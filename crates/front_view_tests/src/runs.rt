@@ -11,7 +11,7 @@ use std::alloc::Global;
 /// A part of a file, another in its place, and the message of the file that comes of it.
 pub(crate) type Row = (&'static [u8], &'static [u8], &'static [u8]);
 
-/// What stands before the first place of a part, and what stands after the part.
+/// What comes before the first occurrence of a part, and what comes after it.
 fn split_at<'a>(text: &'a [u8], part: &[u8]) -> Option<(&'a [u8], &'a [u8])> {
     for i in 0..text.len() {
         if let Some(rest) = text[i..].strip_prefix(part) {

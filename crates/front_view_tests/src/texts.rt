@@ -16,7 +16,7 @@ OUTCOMES ( PLAN ( caller 1 plan 1 version 0 position 0
 ) )
 ";
 
-/// The same with another cost.
+/// A report of a plan of the triangle, where each link fails alone, with another cost.
 pub(crate) const DEARER: &str = "?planner report; version: 1
 NOTES ( ) JOURNAL ( ( 1 cut 0 ) ( 2 cut 1 ) ) POOL ( ( 0 state 3 right 24000 ( 1 1 0 ) ) ( 1 state 1 right 12000 ( 0 0 1 ) ) )
 OUTCOMES ( PLAN ( caller 1 plan 1 version 0 position 0

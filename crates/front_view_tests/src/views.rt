@@ -7,7 +7,7 @@ use std::alloc::Global;
 use view_forms::ViewForm;
 use worked_networks::{problem, triangle};
 
-/// A report, the lines below it with one of them replaced by another, and what that comes to: a status, and the message, or a part of the view.
+/// A report, the lines below it with one of them replaced by another, and the result: a status, and the message, or a part of the view.
 type Row = (
     &'static str,
     &'static str,
@@ -107,7 +107,7 @@ rejected tree 8
     ),
 ];
 
-/// The same of trees and reports that are refused.
+/// Trees and reports that are refused, each with its status and message.
 const REFUSED: [Row; 7] = [
     (
         REPORT,
@@ -233,7 +233,7 @@ fn has_part(text: &[u8], part: &[u8]) -> bool {
     false
 }
 
-/// Whether what a report comes to is what a row says; nothing where there is no memory.
+/// Whether the result of a view is what a row says; nothing where there is no memory.
 fn is_told(found: &Result<Bytes, Halt>, row: &Row) -> Option<bool> {
     match found {
         Ok(view) => Some(row.3 == Status::Done && has_part(view.items(), row.4.as_bytes())),
@@ -244,26 +244,26 @@ fn is_told(found: &Result<Bytes, Halt>, row: &Row) -> Option<bool> {
     }
 }
 
-/// What a report of the triangle comes to.
+/// The view of a report of the triangle, or why there is none.
 fn viewed(alloc: Global, p: &Problem, report: &[u8]) -> Result<Bytes, Halt> {
     let tables = ViewForm::Tables;
     view_report(alloc, "data/triangle.txt", "report", p, report, tables)
 }
 
-/// Whether the report of a row comes to what it says on the triangle; nothing where there is no memory.
+/// Whether the report of a row gives the row's result on the triangle that is lent; nothing where there is no memory.
 fn comes_to_on(alloc: Global, p: &Problem, row: &Row) -> Option<bool> {
     let text = text_of(alloc, row).ok()?;
     let found = viewed(alloc, p, text.items());
     is_told(&found, row)
 }
 
-/// Whether the report of a row comes to what it says; nothing where there is no memory.
+/// Whether the report of a row gives the row's result; nothing where there is no memory.
 fn comes_to(alloc: Global, row: &Row) -> Option<bool> {
     let p = worked(alloc)?;
     comes_to_on(alloc, &p, row)
 }
 
-/// The first row that doesn't come to what it says.
+/// The first row whose report doesn't give the row's result.
 fn first_wrong(alloc: Global, rows: &[Row]) -> Option<usize> {
     for i in 0..rows.len() {
         if comes_to(alloc, &rows[i]) != Some(true) {

@@ -3,10 +3,10 @@ use net_core::{Bytes, List, NoMemory};
 use std::alloc::Global;
 use text_places::window_of;
 
-/// What stands before a byte in its line: how many times which bytes, and then others.
+/// What comes before a byte in its line: how many times which bytes, and then others.
 type Before = (usize, &'static [u8], &'static [u8]);
 
-/// What stands from a byte on in its line: some bytes, and then how many times which others.
+/// What a line has from a byte on: some bytes, and then how many times which others.
 type After = (&'static [u8], usize, &'static [u8]);
 
 /// A line around a byte, and how many bytes of it the window has before the byte, and from it on.
