@@ -5,7 +5,7 @@ use worked_networks::{
     triangle,
 };
 
-/// Whether a problem has so many nodes and links, and each link fails alone.
+/// Whether a problem has these numbers of nodes and links, and each link fails alone.
 fn has_size(p: &Problem, nodes: usize, links: usize) -> bool {
     p.net.nodes().len() == nodes && p.net.links().len() == links && p.states.listed().len() == links
 }
