@@ -165,7 +165,7 @@ fn is_bound(alloc: Global, p: &Problem, row: &BoundRow) -> Option<bool> {
     Some(has_bound(&p.net, &line, row))
 }
 
-/// The same on the row's links.
+/// Whether the unit cut of the row's state has its bound on the row's links.
 fn is_bound_there(alloc: Global, row: &BoundRow) -> Option<bool> {
     let p = make_problem(alloc, 3, row.0.as_slice(), &FAILED, &[(0, 2, 12000)])?;
     is_bound(alloc, &p, row)
@@ -221,7 +221,7 @@ fn is_violated_so(alloc: Global, line: &CutLine, row: &SmallRow) -> bool {
     }
 }
 
-/// The same of AB and BC.
+/// Whether the row's numbers violate the cut of AB and BC exactly where the row says so.
 fn is_small(alloc: Global, row: &SmallRow) -> bool {
     let Ok(lengths) = List::from_slice(alloc, &[1, 1, 0]) else {
         return false;
@@ -279,7 +279,7 @@ fn are_openings(alloc: Global, p: &Problem, row: &OpeningRow) -> bool {
     }
 }
 
-/// The same on the row's links.
+/// Whether the opening cuts of the row's state are those of the row, on the row's links.
 fn are_openings_there(alloc: Global, row: &OpeningRow) -> bool {
     let links = if row.0 { &MIXED } else { &TRIANGLE };
     match make_problem(alloc, 3, links, &FAILED, &[]) {

@@ -55,7 +55,7 @@ pub(crate) fn charged(
     Network::check(plain.nodes().copy().ok()?, links, notes, Places::Three).ok()
 }
 
-/// The demands of so many nodes, beside their network and its states.
+/// The problem of a network, its states and these demands.
 fn with_demands(
     alloc: Global,
     net: Network,
@@ -70,7 +70,7 @@ fn with_demands(
     })
 }
 
-/// The problem of so many nodes, these links, states that fail the listed links, and demands.
+/// The problem of this many nodes, these links, states that fail the listed links, and demands.
 pub(crate) fn make_problem(
     alloc: Global,
     nodes: usize,

@@ -58,7 +58,7 @@ fn is_left(alloc: Global, p: &Problem, row: &Row) -> bool {
     }
 }
 
-/// The same on the triangle.
+/// Whether the row is what is left of its demands on the triangle.
 fn is_left_there(alloc: Global, row: &Row) -> bool {
     match make_problem(alloc, 3, &TRIANGLE, &[&[0], &[1], &[2]], &row.0) {
         Some(p) => is_left(alloc, &p, row),

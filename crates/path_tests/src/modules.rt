@@ -72,7 +72,7 @@ fn is_cover(alloc: Global, net: &Network, row: &CoverRow) -> bool {
     }
 }
 
-/// The same on a link of the row's setup and modules.
+/// Whether the row's need is covered as it says, on a link of the row's setup and modules.
 fn is_cover_there(alloc: Global, row: &CoverRow) -> bool {
     match charged(alloc, 2, &[(0, 1, 0, row.1)], &[row.0]) {
         Some(net) => is_cover(alloc, &net, row),
@@ -161,7 +161,7 @@ fn first_dearer(alloc: Global, net: &Network) -> Option<usize> {
     None
 }
 
-/// The same on a link of the kinds.
+/// The first need whose cover on a link of the kinds has another cost than the cheapest of all counts, or none.
 fn first_dearer_of_kinds(alloc: Global) -> Option<usize> {
     match link_of_kinds(alloc) {
         Some(net) => first_dearer(alloc, &net),
@@ -199,7 +199,7 @@ fn is_survivable(alloc: Global, p: &Problem) -> bool
 /// The triangle with 2.00 installed on each link.
 const WITH_TWO: [LinkRow; 3] = [(0, 1, 2000, &TEN), (1, 2, 2000, &TEN), (0, 2, 2000, &TEN)];
 
-/// The same with 12.00.
+/// The triangle with 12.00 installed on each link.
 const WITH_TWELVE: [LinkRow; 3] = [
     (0, 1, 12000, &TEN),
     (1, 2, 12000, &TEN),
@@ -215,7 +215,7 @@ const RING_OF_ONES: [LinkRow; 5] = [
     (0, 3, 0, &ONE),
 ];
 
-/// The same of two kinds of module.
+/// A ring of four nodes and one chord, of two kinds of module.
 const RING_OF_TWO_KINDS: [LinkRow; 5] = [
     (0, 1, 0, &TWO_KINDS),
     (1, 3, 0, &TWO_KINDS),
@@ -299,7 +299,7 @@ const FALLBACKS: [Case; 6] = [
     },
 ];
 
-/// The same with setups, which are paid once where a module is taken.
+/// Each link fails alone. Setups are paid once where a module is taken.
 const CHARGED_FALLBACKS: [Case; 5] = [
     Case {
         nodes: 3,
@@ -348,7 +348,7 @@ const CHARGED_FALLBACKS: [Case; 5] = [
     },
 ];
 
-/// Whether the counts come to the case's cost and capacities.
+/// Whether the counts have the case's cost and capacities.
 fn come_to(alloc: Global, net: &Network, counts: &Counts, case: &Case) -> bool
     requires { AreCounts net.now.links counts.now }
 {

@@ -252,7 +252,7 @@ fn is_cheapest(alloc: Global, p: &Problem, row: &PriceRow) -> bool {
     }
 }
 
-/// The same on the links without CD.
+/// Whether the cheapest path without failures is the row's, on the links without CD.
 fn is_cheapest_there(alloc: Global, row: &PriceRow) -> bool {
     match make_problem(alloc, 3, &LINKS[..4], &[], &[]) {
         Some(p) => is_cheapest(alloc, &p, row),

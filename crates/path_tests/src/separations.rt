@@ -113,7 +113,7 @@ fn survive_as_told(p: &Problem) -> bool {
     true
 }
 
-/// The same on the chain.
+/// Whether all links of the chain survive as the table says.
 fn survive_on_chain(alloc: Global) -> bool {
     match make_problem(alloc, 3, &CHAIN, &[&[1]], &[]) {
         Some(p) => survive_as_told(&p),
