@@ -3,7 +3,7 @@ use outside_io::{Gate, RoundFigures, TreeFigures};
 use std::sync::atomic::{AtomicU64, Ordering};
 use std::thread;
 
-/// How often a held caller looks whether it may go on. Where nobody lets it, it goes on after so many looks, and the journal shows it.
+/// How often a held caller looks whether it may go on. Where nobody lets it, it goes on after this many looks, and the journal shows it.
 const LOOKS: u64 = 1 << 22;
 
 fn wait_for(flag: &AtomicU64) {

@@ -19,8 +19,8 @@ type Looked = (u128, (u128, u128), u128, bool);
 /// The denominator of a certificate, how many lines it has, and what the first four cuts of the pool have as their numerators in it.
 type Numerators = (u128, usize, [u64; 4]);
 
-/// How many nodes there are, so many links of a table, the links that each state fails, a demand, and what is looked at of its plan
-/// and, in some rows, of the certificate; none where a state separates it.
+/// How many nodes there are, a table of links and how many of them are taken, the links that each state fails, a demand, and what is looked
+/// at of its plan and, in some rows, of the certificate; none where a state separates it.
 type Row = (
     usize,
     &'static [LinkRow<'static>],
@@ -149,7 +149,7 @@ const HIGHER: [Module; 1] = [Module {
     cost: 161000,
 }];
 
-/// The same bundles with four links of either module.
+/// Three bundles of eight parallel links, four of either module.
 const PRIME_BUNDLES: [LinkRow; 24] = [
     (0, 1, 0, &LOWER),
     (0, 1, 0, &LOWER),
@@ -255,7 +255,7 @@ fn numerators(plan: &Plan) -> Numerators {
     (certificate.den, certificate.lines.len(), nums)
 }
 
-/// What planning on a new board comes to.
+/// The answer of planning on a new board.
 fn planned(
     alloc: Global,
     net: &Network,
@@ -270,13 +270,13 @@ fn planned(
     plan_snapshot(alloc, net, states, snapshot, &mut separator)
 }
 
-/// What planning for one demand comes to.
+/// The answer of planning for one demand.
 fn planned_for(alloc: Global, place: &Place, demand: DemandRow) -> Option<PlanAnswer> {
     let opening = demands(alloc, place.net.nodes().len(), &[demand]).ok()?;
     planned(alloc, &place.net, &place.states, opening).ok()
 }
 
-/// What planning comes to for a row.
+/// The answer of planning for a row.
 fn answer_of(alloc: Global, row: &Row) -> Option<PlanAnswer> {
     let links = row.1.get(..row.2)?;
     let place = place_of(alloc, row.0, links, row.3)?;
@@ -290,7 +290,7 @@ fn singles_of(alloc: Global, nodes: usize, links: &[LinkRow]) -> Option<Place> {
     Some(Place { net, states })
 }
 
-/// What planning comes to for a row of which each link fails alone.
+/// The answer of planning for a row of which each link fails alone.
 fn singles_answer(alloc: Global, row: &SinglesRow) -> Option<PlanAnswer> {
     let place = singles_of(alloc, row.0, row.1)?;
     planned_for(alloc, &place, row.2)
@@ -317,7 +317,7 @@ fn is_answered(answer: &Option<PlanAnswer>, want: &Option<(Looked, Option<Numera
     }
 }
 
-/// Whether planning comes to what the row says.
+/// Whether planning gives what the row says.
 fn is_planned(alloc: Global, row: &Row) -> bool {
     let answer = answer_of(alloc, row);
     let is_so = is_answered(&answer, &row.5);
@@ -325,7 +325,7 @@ fn is_planned(alloc: Global, row: &Row) -> bool {
     is_so
 }
 
-/// Whether planning comes to what the row says where each link fails alone.
+/// Whether planning gives what the row says where each link fails alone.
 fn is_planned_with_singles(alloc: Global, row: &SinglesRow) -> bool {
     let answer = singles_answer(alloc, row);
     let is_so = is_answered(&answer, &row.3);
@@ -333,13 +333,13 @@ fn is_planned_with_singles(alloc: Global, row: &SinglesRow) -> bool {
     is_so
 }
 
-/// What planning comes to in the bundles of prime capacities, of which each link fails alone.
+/// The answer of planning in the bundles of prime capacities, of which each link fails alone.
 fn prime_answer(alloc: Global, need: u64) -> Option<PlanAnswer> {
     let place = singles_of(alloc, 4, &PRIME_BUNDLES)?;
     planned_for(alloc, &place, (0, 3, need))
 }
 
-/// Whether planning comes to what the row says there.
+/// Whether planning gives what the row says in the bundles of prime capacities.
 fn is_planned_in_prime_bundles(alloc: Global, row: &WideRow) -> bool {
     let answer = prime_answer(alloc, row.0);
     let is_so = is_answered(&answer, &row.1);
@@ -347,7 +347,7 @@ fn is_planned_in_prime_bundles(alloc: Global, row: &WideRow) -> bool {
     is_so
 }
 
-/// Whether planning comes to what each row says.
+/// Whether planning gives what each row says.
 fn are_planned(alloc: Global, rows: &[Row]) -> bool {
     for row in rows {
         if !is_planned(alloc, row) {

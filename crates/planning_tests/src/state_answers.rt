@@ -179,7 +179,7 @@ fn unit_cut(alloc: Global, problem: &Problem, state: u32) -> Option<Cut>
     Cut::new(alloc, &problem.net, &problem.states, StateId(state), units).ok()
 }
 
-/// Where the unit cut of a state stands.
+/// The spot that the unit cut of a state gets.
 fn unit_spot<S: Separate>(
     alloc: Global,
     separator: &mut S,
@@ -204,7 +204,7 @@ fn are_placed<S: Separate>(alloc: Global, separator: &mut S, problem: &Problem) 
         && unit_spot(alloc, separator, problem, 0) == Some(Spot::Pool(0))
 }
 
-/// Whether they stand in the pool of a new board so, each once.
+/// Whether the unit cuts of the states 0 and 3 get these places in the pool of a new board, each once.
 fn stand_once(alloc: Global, problem: &Problem) -> bool {
     let Some(board) = open_board(alloc, problem) else {
         return false;

@@ -91,7 +91,7 @@ fn at_new_desk<R: Threads + Wait>(
     answered(rt, alloc, hold, fixture, caps, &mut caller)
 }
 
-/// The same at capacities of these numbers.
+/// What a caller alone is answered at a new desk, at capacities of these numbers.
 fn at_numbers<R: Threads + Wait>(
     rt: &R,
     alloc: Global,
@@ -151,7 +151,7 @@ fn agree<R: Threads + Wait>(rt: &R, alloc: Global, fixture: &Fixture, caps: &Cap
     are_all_alike(&one, &two)
 }
 
-/// The same on the triangle at these numbers, where no hints are shown before.
+/// Whether a caller alone is answered as a board on the triangle at capacities of these numbers, where no hints are shown before.
 fn agree_at_triangle<R: Threads + Wait>(rt: &R, alloc: Global, numbers: &[u128]) -> bool {
     let fixture = of_triangle(alloc);
     let caps = caps_of(alloc, numbers);
@@ -186,7 +186,7 @@ fn a_caller_alone_is_answered_as_a_board(rt: HostRuntime) {
     assert!(rt; all_agree(&rt, rt.alloc(), &ROWS));
 }
 
-/// Whether the answer names a cut that stands in the pool at its spot.
+/// Whether the answer names a cut that is in the pool at its spot.
 fn is_pooled(answer: &StateAnswer, cuts: &[CutLine]) -> bool {
     match &answer.answer {
         Separated::Violated(line, Spot::Pool(index)) => match cuts.get(*index as usize) {
@@ -197,7 +197,7 @@ fn is_pooled(answer: &StateAnswer, cuts: &[CutLine]) -> bool {
     }
 }
 
-/// How many answers name a cut that stands at its spot in the pool that was looked at.
+/// How many answers name a cut that is at its spot in the pool that was looked at.
 fn standing(answers: &Option<List<StateAnswer>>, snapshot: &Result<Snapshot, NoMemory>) -> usize {
     let (Some(answers), Ok(snapshot)) = (answers, snapshot) else {
         return 0;
@@ -412,7 +412,7 @@ const NOTHING: [u128; 3] = [0, 0, 0];
 
 const TOO_LITTLE: [u128; 7] = [12000, 12000, 12000, 12000, 12000, 12000, 1000];
 
-/// Whether so many states of the problem have a cut of shown lengths after one separation, and so many one that isn't shown.
+/// Whether the wanted number of states have a cut of shown lengths after one separation, and the wanted number have one that isn't shown.
 fn are_shown<R: Threads + Wait>(
     rt: &R,
     alloc: Global,
