@@ -15,7 +15,7 @@ const CUTS: [CutRow; 3] = [
 /// Six modules of all links together for 5.00 each, by line 6.
 const PROOF: [TreeRow; 1] = [(&[Closed(1, &[(6, 5000)])], Cheapest, Accepted)];
 
-/// The same tree, which the lines don't prove.
+/// Six modules of all links together for 5.00 each, by line 6, where the lines don't prove it.
 const DAMAGED: [TreeRow; 1] = [(&[Closed(1, &[(6, 5000)])], Cheapest, Rejected(0))];
 
 const AC: DividedRow = (10000, &[(0, 1)]);
@@ -49,7 +49,7 @@ const BROKEN: [&[DividedRow]; 10] = [
     &[(10000, &[(1, 1)]), AB, BC, ALL],
 ];
 
-/// The same of the line over all three.
+/// Lines of which the last one, over all three others, is changed in one number.
 const BROKEN_SUMS: [&[DividedRow]; 7] = [
     &[AC, AB, BC, (0, &[(3, 1), (4, 1), (5, 1)])],
     &[AC, AB, BC, (2, &[(3, 1), (4, 1), (5, 1)])],

@@ -1,4 +1,4 @@
-//! Where a report ends, below which its tree stands.
+//! Where a report ends. Its tree comes below that place.
 use proof_reader::report_end;
 
 /// A text, and the place after its last token, counted by hand.

@@ -5,7 +5,7 @@ use net_core::Problem;
 use report_words::fault::ReportRefusal;
 use std::alloc::Global;
 
-/// The place of a line, what stands in its place, and the place and the kind of the first fault; `read` at 0 where there is none.
+/// The place of a line, what replaces the line, and the place and the kind of the first fault; `read` at 0 where there is none.
 type Damaged = (usize, &'static [u8], u64, &'static str);
 
 /// The triangle's tree with other lines in the place of one: left out, doubled, with a letter in a number, and with a number too many or too

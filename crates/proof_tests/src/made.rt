@@ -221,7 +221,7 @@ const TABLES_AT_C: [TableRow; 12] = [
     ),
 ];
 
-/// The same of the other networks.
+/// Table lines of the other networks: at C where BC fails, on the triangle, and at the node with three links.
 const OTHER_TABLES: [TableRow; 6] = [
     (
         Place::WhereBcFails,

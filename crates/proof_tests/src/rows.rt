@@ -142,7 +142,7 @@ fn lines_of(alloc: Global, rows: &[(LineRow, Expected)]) -> Result<List<Line>, N
     Ok(lines)
 }
 
-/// The same lines, tested after cuts.
+/// The lines of rows that expect something of them, tested after cuts.
 fn tested_of(
     alloc: Global,
     instance: &Instance,
@@ -153,7 +153,7 @@ fn tested_of(
     tested_after(alloc, instance, cut_rows, lines.items())
 }
 
-/// The first row whose line, so many places after the first one, isn't as expected.
+/// The first row whose line isn't as expected. The rows' lines follow one another from the place `first` on.
 fn first_unlike(all: &[Tested], first: usize, rows: &[(LineRow, Expected)]) -> Option<usize> {
     for i in 0..rows.len() {
         match all.get(first.saturating_add(i)) {

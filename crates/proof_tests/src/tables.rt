@@ -31,15 +31,15 @@ enum Said {
     Checked(TreeAnswer),
 }
 
-/// The place of a line, what stands in its place, and what comes of it.
+/// The place of a line, what replaces the line, and what comes of it.
 type Damage = (usize, &'static [u8], Said);
 
-/// The tree as it stands, and each line left out.
+/// The tree as it is, and each line left out.
 ///
 /// Here and below each line is also doubled, and each number raised and lowered by one, or another kind of table taken.
-/// A cut that isn't one takes away what stands over it. A table with a weight too few doesn't hold, nor does a failing one over a line that
-/// isn't robust. A length of 1 on AB too prices its modules at their cost. A divisor of 9999 leaves two modules in place of three. With the
-/// numerator 4999 the value is 14.999, and over the denominator 2 it is 12.500, which are 15.00 in whole modules.
+/// A cut that isn't one takes away the lines that are over it. A table with a weight too few doesn't hold, nor does a failing one over a
+/// line that isn't robust. A length of 1 on AB too prices its modules at their cost. A divisor of 9999 leaves two modules in place of
+/// three. With the numerator 4999 the value is 14.999, and over the denominator 2 it is 12.500, which are 15.00 in whole modules.
 const LEFT_OUT: [Damage; 11] = [
     (10, b"", Checked(Accepted)),
     (0, b"", Fault(23, "limit")),

@@ -83,7 +83,7 @@ const LINES_SAID: TreeRow = TreeRow {
     verdict: Verdict::Above(25000),
 };
 
-/// The place of a line of the triangle's tree, what stands in its place, and what a check says then.
+/// The place of a line of the triangle's tree, what replaces the line, and what a check says then.
 const CHECKED: [(usize, &[u8], TreeAnswer); 4] = [
     (16, b"", Accepted),
     (7, b"", Rejected(5)),
