@@ -98,7 +98,7 @@ fn put_outcome<K: FaultWord + Debug + Drop>(
     }
 }
 
-/// What a file of a format comes to.
+/// What reading a file of a format gives.
 fn outcome(alloc: Global, format: Format, file: &[u8]) -> Option<Bytes> {
     let mut text = Bytes::new(alloc);
     match format {
@@ -143,7 +143,7 @@ fn put_piece(text: &mut Bytes, piece: &[u8], i: u32) -> Option<()> {
     Some(())
 }
 
-/// Puts a piece so many times as stands before it.
+/// Puts a piece as many times as the number before it says.
 fn put_many(text: &mut Bytes, many: &[u8]) -> Option<()> {
     let (count, piece) = split(many, b' ')?;
     let count = u32::try_from(whole(count).ok()?).ok()?;
@@ -153,7 +153,7 @@ fn put_many(text: &mut Bytes, many: &[u8]) -> Option<()> {
     Some(())
 }
 
-/// Puts a body, in which `[3 a]` stands for `aaa`, at most once.
+/// Puts a body, in which `[3 a]` means `aaa`. It has at most one such part.
 fn put_body(text: &mut Bytes, body: &[u8]) -> Option<()> {
     let Some((front, rest)) = split(body, b'[') else {
         return put_piece(text, body, 0);
@@ -171,14 +171,14 @@ fn file(alloc: Global, header: &[u8], body: &[u8]) -> Option<Bytes> {
     Some(text)
 }
 
-/// Whether the file of a row comes to what stands before its bar.
+/// Whether reading the file of a row gives what is before the row's bar.
 fn is_row(alloc: Global, format: Format, header: &[u8], row: &[u8]) -> Option<bool> {
     let (expected, body) = split(row, b'|')?;
     let file = file(alloc, header, body)?;
     Some(outcome(alloc, format, file.items())?.items() == expected)
 }
 
-/// The number of the first row of a table whose file comes to something else than stands before its bar, or that isn't a whole row.
+/// The number of the first row of a table whose file gives something else than what is before its bar, or that isn't a whole row.
 /// The files begin with the header.
 ///
 /// ```text

@@ -347,7 +347,7 @@ fn is_small(net: &Network, demands: &[Demand]) -> bool {
         && are_notes(net, false, false, false)
 }
 
-/// Whether the small file is read as it stands.
+/// Whether the small file is read as it is written.
 fn is_small_read(alloc: Global, file: &[u8]) -> bool {
     match read_network(alloc, file) {
         Ok((net, demands)) => is_small(&net, demands.items()),
@@ -408,7 +408,7 @@ fn costs_are_noted_and_units_multiplied(rt: HostRuntime) {
     assert!(rt; are_costs_read(rt.alloc(), COSTS));
 }
 
-/// The same with an amount of four decimals: all units are millionths.
+/// Costs of pre-installed capacity and of setup, and a demand with an amount of four decimals: all units are millionths.
 const FINE_COSTS: &[u8] =
     b"?SNDlib native format; type: network; version: 1.0\nNODES(A B)LINKS(L(A B)2.5 0.001 0 7(1 2 3 4)M(B A)0 0 0 0())DEMANDS(D(B A)3.0 1.5001 UNLIMITED)";
 

@@ -27,7 +27,7 @@ const ROWS: [Row; 5] = [
     (3, 40, (40, 60, 780), (38, 3, 60000, 63000), (38, 39, 2000)),
 ];
 
-/// The sample of a seed with so many nodes, where there is one.
+/// The sample of a seed with `n` nodes, where there is one.
 fn sample_of(alloc: Global, seed: u64, n: u32) -> Option<(Network, Demands)> {
     if n < 4 || n > 40 {
         return None;

@@ -161,7 +161,7 @@ fn has_each_command(commands: &[Command]) -> bool {
     }
 }
 
-/// Whether each command is read as it stands, and a copy has it too.
+/// Whether each command is read as it is written, and a copy has it too.
 fn is_each_command_read(alloc: Global) -> Option<bool> {
     let script = read_script(alloc, Places::Three, EACH_COMMAND).ok()?;
     Some(has_each_command(script.copy().ok()?.commands.items()))
