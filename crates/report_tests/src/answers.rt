@@ -76,10 +76,10 @@ pub(crate) fn answer_to(
     }
 }
 
-/// A part of a text, what stands in its place, the outcome that is found wrong, and how.
+/// A part of a text, what replaces it, the outcome that is found wrong, and how.
 pub(crate) type Change = (&'static str, &'static str, u32, Finding);
 
-/// The text with one part in place of another, from where that stands first.
+/// The text with the first occurrence of a part replaced by another.
 fn replaced(alloc: Global, text: &str, part: &str, by: &str) -> Option<Bytes> {
     let (front, rest) = text.split_once(part)?;
     joined(alloc, front.as_bytes(), by.as_bytes(), rest.as_bytes())

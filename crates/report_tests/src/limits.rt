@@ -10,7 +10,7 @@ const OUTCOMES: &[u8] = b"?planner report; version: 1\nNOTES()JOURNAL()POOL()OUT
 const DEMANDS: &[u8] =
     b"?planner report; version: 1\nNOTES()JOURNAL()POOL((0 state 0 right 0(0)))OUTCOMES(PLAN(caller 1 plan 1 version 0 position 0 DEMANDS(";
 
-/// The same on a network with six places.
+/// What a report of a network with six decimal places begins with, up to its first demand.
 const FINE_DEMANDS: &[u8] =
     b"?planner report; version: 2\nNOTES()JOURNAL()POOL((0 state 0 right 0(0)))OUTCOMES(PLAN(caller 1 plan 1 version 0 position 0 DEMANDS(";
 
@@ -38,7 +38,7 @@ const TWO: [Module; 2] = [
     },
 ];
 
-/// Numbers of the journal. Here and below a line has what stands between a front and a number, the last token that is taken there, and one
+/// Numbers of the journal. Here and below a line has what comes between a front and a number, the last token that is taken there, and one
 /// that is outside the range.
 const IN_JOURNAL: &str = "(|1|2
 (|1|0
@@ -256,8 +256,8 @@ fn six_places_end_at_the_same_units(rt: HostRuntime) {
     assert!(rt; all_end(rt.alloc(), &FINE_RANGES));
 }
 
-/// What stands before a list in two parts, the last count of its elements, what stands before and after the number of an element, which
-/// counts from this one, and the word or parenthesis with which one more would begin.
+/// What comes before a list, in two parts, the last count of its elements, what comes before the number of an element, the number of the
+/// first one, what comes after the number, and the word or parenthesis with which one more would begin.
 type Many = (
     &'static [u8],
     &'static [u8],
@@ -325,7 +325,7 @@ fn each_count_ends_at_its_last_number(rt: HostRuntime) {
     assert_eq!(rt; first_list_missed(rt.alloc(), &COUNTS), None);
 }
 
-/// What stands before and after a name that is free or new.
+/// What comes before a name that is free or new, in two parts.
 const AROUND_NAMES: [(&'static [u8], &'static [u8]); 6] = [
     (JOURNAL, b"(1 caller 1 set "),
     (JOURNAL, b"(1 caller 1 add "),

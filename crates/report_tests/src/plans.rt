@@ -27,7 +27,7 @@ OUTCOMES ( PLAN ( caller 1 plan 1 version 0 position 0
 /// The cut of the certificate.
 const POOLED: &str = "pool 0 right";
 
-/// The same cut, said to stand outside the pool.
+/// The cut of the certificate, said to be outside the pool.
 const LOCAL: &str = "local 1 ( 1 1 0 ) right";
 
 /// Changes of the sound plan, and what is found first.
@@ -140,7 +140,7 @@ fn a_plan_with_one_part_changed_has_its_finding(rt: HostRuntime) {
     assert_eq!(rt; right_changes(alloc, &CASE, SOUND, &CHANGES, ROOM), 22);
 }
 
-/// The same with a setup of 3.00 on each link.
+/// AC fails, and each link has a setup of 3.00.
 const CHARGED: Case = Case {
     setups: [3000, 3000, 3000],
     failed: &[2],

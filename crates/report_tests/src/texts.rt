@@ -6,7 +6,7 @@ use worked_networks::network;
 /// What a report begins with, up to its first entry.
 pub(crate) const JOURNAL: &[u8] = b"?planner report; version: 1\nNOTES()JOURNAL(";
 
-/// The same on a network with six places.
+/// What a report of a network with six decimal places begins with, up to its first entry.
 pub(crate) const FINE_JOURNAL: &[u8] = b"?planner report; version: 2\nNOTES()JOURNAL(";
 
 /// The places of a network whose reports begin so: six where the version is 2.
