@@ -94,7 +94,7 @@ fn first_of_greatest_bound(rt: HostRuntime) {
 enum Want {
     /// As many multipliers of 1 over this denominator, and this raw value.
     Ones(usize, u128, (u128, u128)),
-    /// A share of this scale, with so many units on each link.
+    /// A share of this scale, with this many units on each link.
     Share(u64, u64),
     /// A number of a cut is too wide.
     Wide,
@@ -221,7 +221,7 @@ fn is_certified(alloc: Global, p: &Problem, row: &Row) -> bool {
     is_round(alloc, p, row.2, &mut kept, &row.3)
 }
 
-/// The same on the row's links.
+/// Whether the row's certificate is as expected, on the row's links.
 fn is_certified_there(alloc: Global, row: &Row) -> bool {
     match with_single_failures(alloc, row.0, row.1, &[]) {
         Some(p) => is_certified(alloc, &p, row),
@@ -273,7 +273,7 @@ fn are_rounds(alloc: Global, p: &Problem, rounds: Rounds) -> bool {
     true
 }
 
-/// The same on links.
+/// Whether each round's certificate is as expected, from the basis that the one before has left, on these links.
 fn are_rounds_there(
     alloc: Global,
     nodes: usize,

@@ -15,7 +15,7 @@ pub(crate) const TRIANGLE: [LinkRow; 3] = [(0, 1, 0, &TEN), (1, 2, 0, &TEN), (0,
 /// Three parallel links of modules of 1.00 for 1.00.
 pub(crate) const THREE_LINKS: [LinkRow; 3] = [(0, 1, 0, &ONE), (0, 1, 0, &ONE), (0, 1, 0, &ONE)];
 
-/// The problem of so many nodes, these links, each of which fails alone, and demands.
+/// The problem of this many nodes, these links, each of which fails alone, and demands.
 pub(crate) fn with_single_failures(
     alloc: Global,
     nodes: usize,

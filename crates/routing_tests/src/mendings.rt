@@ -180,7 +180,7 @@ fn is_mended_in(alloc: Global, p: &Problem, row: &Mending) -> bool {
     is_mended_within(alloc, p, &Caps { scale: 1, nums }, &earlier, row)
 }
 
-/// The same in the triangle, each of whose links fails alone.
+/// Whether the row's earlier routing is mended as it says, in the triangle, each of whose links fails alone.
 fn is_mended_there(alloc: Global, row: &Mending) -> bool {
     match with_single_failures(alloc, 3, &TRIANGLE, row.demands) {
         Some(p) => is_mended_in(alloc, &p, row),

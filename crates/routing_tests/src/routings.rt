@@ -59,7 +59,7 @@ const TWO_DEMANDS: [Row; 7] = [
     (0, 2, &[NARROW, NARROW + 1, NARROW + 1], Want::WideLink(1)),
 ];
 
-/// The same with the first demand alone.
+/// The triangle with the first demand alone, 12.00 from A to C, worked out by hand; in state 3 the link AC fails.
 const ONE_DEMAND: [Row; 5] = [
     (0, 1, &[0, 0, NARROW + 1], Want::WideLink(2)),
     (0, 1, &[0, 0, NARROW], Want::Over(1)),
@@ -239,7 +239,7 @@ fn is_routed(alloc: Global, p: &Problem, at: StateId, caps: &Caps, want: &Want) 
     }
 }
 
-/// The same with known columns.
+/// Whether the answer with known columns is as expected.
 fn is_routed_from<'a>(
     alloc: Global,
     p: &'a Problem,
@@ -294,7 +294,7 @@ fn first_miss(alloc: Global, p: &Problem, rows: &[Row]) -> Option<usize> {
     None
 }
 
-/// The same of a group, on its links, each of which fails alone.
+/// The first row of a group that isn't as expected, on the group's links, each of which fails alone.
 fn first_miss_of(alloc: Global, g: &Group) -> Option<usize> {
     match with_single_failures(alloc, g.nodes, g.links, g.demands) {
         Some(p) => first_miss(alloc, &p, g.rows),

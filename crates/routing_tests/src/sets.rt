@@ -98,7 +98,7 @@ fn first_missed(alloc: Global, p: &Problem, rows: &[Row]) -> Option<usize> {
     None
 }
 
-/// The same on these links, each of which fails alone.
+/// The first row whose cut isn't found on these links, each of which fails alone, or none.
 fn first_miss(
     alloc: Global,
     nodes: usize,

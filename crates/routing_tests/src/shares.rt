@@ -139,7 +139,7 @@ fn is_covered(alloc: Global, net: &Network, of: &Cover) -> bool {
     }
 }
 
-/// The same on the cover's links.
+/// Whether the cover's share has its needs, counts and cost, on the cover's links.
 fn is_covered_there(alloc: Global, of: &Cover) -> bool {
     match network(alloc, of.nodes, of.links) {
         Ok(net) => is_covered(alloc, &net, of),
@@ -294,7 +294,7 @@ fn is_chosen(alloc: Global, p: &Problem, of: &Choice) -> bool {
     }
 }
 
-/// The same on the choice's links, each of which fails alone.
+/// Whether the choice's share is short, and its counts are chosen for its cost, on the choice's links, each of which fails alone.
 fn is_chosen_there(alloc: Global, of: &Choice) -> bool {
     let demands = [(0, of.last, of.need)];
     match with_single_failures(alloc, of.last as usize + 1, of.links, &demands) {
