@@ -16,7 +16,7 @@ LINKS ( ",
     b")\nDEMANDS ( )\n",
 );
 
-/// What the report of a plan of that network begins with, what comes after each long name, and what the report ends with.
+/// What the report of a plan of the network of the long names begins with, what comes after each name, and what the report ends with.
 const REPORT: (&[u8], &[u8], &[u8]) = (
     b"?planner report; version: 1
 NOTES ( )
