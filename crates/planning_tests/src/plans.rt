@@ -149,7 +149,7 @@ const HIGHER: [Module; 1] = [Module {
     cost: 161000,
 }];
 
-/// Three bundles of eight parallel links, four of either module.
+/// Three bundles of eight parallel links, four with a module of either prime capacity.
 const PRIME_BUNDLES: [LinkRow; 24] = [
     (0, 1, 0, &LOWER),
     (0, 1, 0, &LOWER),

@@ -204,7 +204,7 @@ fn are_placed<S: Separate>(alloc: Global, separator: &mut S, problem: &Problem) 
         && unit_spot(alloc, separator, problem, 0) == Some(Spot::Pool(0))
 }
 
-/// Whether the unit cuts of the states 0 and 3 get these places in the pool of a new board, each once.
+/// Whether the unit cuts of the states 0 and 3 get the first two places in the pool of a new board, each once.
 fn stand_once(alloc: Global, problem: &Problem) -> bool {
     let Some(board) = open_board(alloc, problem) else {
         return false;
