@@ -15,7 +15,7 @@ const TRIANGLE: &[u8] =
 const LIMITS: &[u8] =
     b"?SNDlib native format; type: network; version: 1.0\nNODES(X Y Z)LINKS(p(X Y)0 0 0 0()q(Z Y)20 0 0 0.5(155 20 622.25 0)r(X Z)0 0 0 1099511627.775(0.001 1))DEMANDS()";
 
-/// The text that is written of that file's network, with a demand of 0 and one of the greatest need.
+/// The text that is written of the network of `LIMITS`, with a demand of 0 and one of the greatest need.
 const WRITTEN: &[u8] =
     b"?SNDlib native format; type: network; version: 1.0\nNODES ( X Y Z )\nLINKS ( p ( X Y )\n0.000 0.000 0.000 0.000 ( )\nq ( Z Y )\n20.000 0.000 0.000 0.500 ( 155.000 20.000 622.250 0.000 )\nr ( X Z )\n0.000 0.000 0.000 1099511627.775 ( 0.001 1.000 )\n)\nDEMANDS ( A ( X Y )\n1 0.000 UNLIMITED B ( Z X )\n1 1099511627.775 UNLIMITED )\n";
 
