@@ -35,7 +35,7 @@ module _ (known : KnownNames) (demands : List Demand) (on : (s : Sofar) → IsOn
   abbrev lines : Sofar → Comments → TreeRead
   lines s cs = lines_at known demands s cs
 
-  -- ---- where a fault stands
+  -- ---- where a fault is
 
   module _ (bytes : List ℕ) where
     ended_later : (s : Sofar) (v : Verdict) (from : ℕ) → from ≤ length bytes → ended_by s v (comments_from from bytes) ≡ Fault → from ≤ at
@@ -50,7 +50,7 @@ module _ (known : KnownNames) (demands : List Demand) (on : (s : Sofar) → IsOn
           let f : ended_by s v (NoneAt (length bytes)) ≡ Fault = ap (λ (cs : Comments). ended_by s v cs) (sym is) ∙ e in absurd cc
     ]
 
-    -- a fault after a line that was read stands after it
+    -- a fault in what follows a line that was read isn't before the end of that line
     put_later : (s : Sofar) (x : TreeLine) (from : ℕ) → from ≤ length bytes → ((t : Sofar) → lines t (comments_from from bytes) ≡ Fault → from ≤ at)
         → put_line s x (λ t. lines t (comments_from from bytes)) (λ v. ended_by s v (comments_from from bytes)) ≡ Fault → from ≤ at
     put_later s (Cut c) from within later e = later _ e
@@ -93,7 +93,7 @@ module _ (known : KnownNames) (demands : List Demand) (on : (s : Sofar) → IsOn
         (λ more. same_place (line_text p bytes) (line_text p other) (line_same bytes other p at n 0 lt whole same more less run here) ∙ here)
         (cases_lt (line_end p bytes) n)
 
-    -- the same comes next in both
+    -- both texts agree up to and including each byte that isn't past the fault's place
     shared : (p : ℕ) → p ≤ at → take (p + 1) bytes ≡ take (p + 1) other
     shared p le = take_less (p + 1) n bytes other (omega (arith, le, less)) same
 

@@ -137,7 +137,7 @@ told_items known demands index (Further line) = line_items (index, line)
 told_items known demands index (Branch node) = node_items known.links demands node
 told_items known demands index (Last v) = verdict_items known.places v
 
--- a line in form, where cuts and further lines may stand
+-- a line in form: a cut only where cuts are allowed, and a further line only where further lines are
 abbrev pub IsToldLine : KnownNames → List Demand → Type 0 → Type 0 → TreeLine → Type 0
 IsToldLine known demands may_cut may_line (Cut cut) = may_cut × IsBoxCutInForm known cut
 IsToldLine known demands may_cut may_line (Further line) = may_line × IsLineInForm line
@@ -165,7 +165,7 @@ module _ (known : KnownNames) (demands : List Demand) (apart : AreLinksApart kno
     abbrev items : TreeLine → List Item
     items x = told_items known demands index x
 
-    -- what may stand later may stand earlier
+    -- a line that is allowed later is allowed earlier
     widen_line : (x : TreeLine) → IsNode x → IsLater x
     widen_line (Cut cut) h = absurd h.0
     widen_line (Further line) h = absurd h.0

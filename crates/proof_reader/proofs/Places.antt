@@ -88,7 +88,7 @@ rises_past (suc c) (OpenAt p t) r = omega (arith, r.0, rises_past c t r.1)
 rises_past (suc c) (CloseAt p t) r = omega (arith, r.0, rises_past c t r.1)
 rises_past (suc c) (EndAt p) r = omega arith
 
--- the words of a line stand one after another, behind its `#`
+-- the words of a line are in the order of their places, behind its `#`
 pub line_rises : (p : ℕ) (bytes : List ℕ) → p < length bytes → Rises (line_text p bytes)
 line_rises p bytes lt = (file_rises (p + 1) (take (line_end p bytes) bytes) (omega (arith, length-take (line_end p bytes) bytes, lt))).0
 

@@ -78,7 +78,7 @@ module _ (at n : ℕ) where
     token_ends zero a (b ∷ bs) c first here =
         begun_ends c a b bs (tokens_past (extent b bs) (a + 1) bs) first here (λ d h. token_ends (extent b bs) (a + 1) bs d (drop_next whole a b bs first) h)
 
--- a lexeme that stands in a text before its end ends before a place past it
+-- a lexeme that begins in a text before the text's end ends before a place that is past it
 pub ends_before : (whole : List ℕ) (from at n c : ℕ) → at < length whole → at + 1 < n → at + run_length (drop at whole) < n → place (past c (text_from from whole)) ≡ at → EndsBefore at n (text_from from whole)
 unfolding text_from tokens_from
 ends_before whole from at n c inside less run here = token_ends at n whole inside less run zero from (drop from whole) c refl here

@@ -131,7 +131,7 @@ module _ (known : KnownNames) (demands : List Demand) where
     line_law : (s : Sofar) → Lawful (tree_line_at known demands s) (items_after s) (IsNext s) IsEnd
     line_law s = line_by s (length s.tree == 0) (length s.lines == 0) refl refl
 
-    -- ---- what was read stands there
+    -- ---- what was read is in the comments
 
     -- what follows the lines so far
     record Rest (s : Sofar) (cs : Comments) (t : ReadTree) : Type 0 where
@@ -266,7 +266,7 @@ module _ (known : KnownNames) (demands : List Demand) where
     takes_all s (OtherAt at) t e = absurd cc
     takes_all s (NoneAt at) t e = absurd cc
 
-    -- ---- what stands there is read
+    -- ---- what is in the comments is read
 
     -- a line that is read, and then the others
     line_again : (s : Sofar) (text : Text) (more : Comments) (x : TreeLine) → IsNext s x → IsMadeOf (items_after s x) text

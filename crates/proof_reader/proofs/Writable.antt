@@ -67,7 +67,7 @@ module _ (known : KnownNames) (demands : List Demand) (links_named : All (λ l. 
       let name : demand_name demands k ≡ (get_or demands k no_demand).name = rw (slice_get-get_or demands k no_demand lt) refl in
       subst (λ (w : List ℕ). IsWritable (Verbatim w)) (sym name) (named (get_or demands k no_demand).name (demands_named k no_demand lt))
 
-  -- a word that is written as it stands
+  -- a word that is written as it is
   abbrev IsKey : List ℕ → Type 0
   IsKey w = (1 ≤ length w) × (is_plain w ≡ true)
 

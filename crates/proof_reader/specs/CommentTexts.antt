@@ -13,7 +13,7 @@ pub data Comments : Type 0 where
   OtherAt : ℕ → Comments
   NoneAt : ℕ → Comments
 
--- the words of the comment whose `#` stands right before a place, where these bytes come from there on
+-- the words of the comment whose `#` is right before a place, where `bytes` are the bytes from there on
 abbrev pub comment_text : List ℕ → ℕ → List ℕ → Text
 comment_text whole at bytes = text_from at (take (at + line_length bytes) whole)
 

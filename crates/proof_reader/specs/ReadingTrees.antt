@@ -50,7 +50,7 @@ put_line s (Further line) more last = more (record { cuts = s.cuts; lines = s.li
 put_line s (Branch node) more last = more (record { cuts = s.cuts; lines = s.lines; tree = s.tree ++ node ∷ [] })
 put_line s (Last v) more last = last v
 
--- the same of a value that is changed: what the line tells stands last, or it gives the verdict
+-- how a line changes what was read so far: its cut, further line or node is added at the end, or it gives the verdict
 abbrev pub PutsLine : Sofar → TreeLine → Option Verdict → Sofar → Type 0
 PutsLine old (Cut cut) v new = (v ≡ None) × (new ≡ record { cuts = old.cuts ++ cut ∷ []; lines = old.lines; tree = old.tree })
 PutsLine old (Further line) v new = (v ≡ None) × (new ≡ record { cuts = old.cuts; lines = old.lines ++ line ∷ []; tree = old.tree })

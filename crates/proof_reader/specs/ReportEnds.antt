@@ -1,4 +1,4 @@
--- where a report ends, below which comment lines may stand
+-- where a report ends, below which there may be comment lines
 use Rattle.std.specs.Prelude.{ℕ, ◌+◌, List, [], ◌∷◌}
 use Rattle.snd_tokens.specs.declared.token.Token.{Token}
 

@@ -1,7 +1,7 @@
 //! Reads the comment lines of a branch tree below a report.
 //!
 //! Such a line is a `#` and words, and it ends with the line. A reading of a line takes the words one after another; where a word is due and
-//! a parenthesis stands, or the other way round, the fault is `token`, and where the line ends, it is `ended`.
+//! there is a parenthesis, or the other way round, the fault is `token`, and where the line ends, it is `ended`.
 #![tactic(auto)]
 
 mod cuts;

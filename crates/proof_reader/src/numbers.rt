@@ -110,7 +110,7 @@ impl Element for TermRun {
     }
 }
 
-/// Takes a length below 2^32 for each of so many links, up to the end of the line. One that is out of that range, or one too many or too
+/// Takes a length below 2^32 for each of `count` links, up to the end of the line. One that is out of that range, or one too many or too
 /// few, is `limit`.
 pub(crate) fn lengths(
     alloc: Global,

@@ -30,7 +30,7 @@ use text_kit::refusal::bad;
 use text_kit::steps::word;
 use tree_check::Verdict;
 
-/// So many lines can be told apart by their indices.
+/// The number of lines that can be told apart by their indices.
 const MAX_LINES: usize = u32::MAX as usize;
 
 pub(crate) const BOX_CUT: &[u8] = b"box-cut";
@@ -213,8 +213,8 @@ fn named_tree(
 /// let proof = Proof { plan, cuts: tree.cuts, lines: tree.lines, tree: tree.tree, verdict: tree.verdict };     // for `check_tree`
 /// ```
 ///
-/// The first fault is told with its place in bytes from the beginning of the text, as a report's is: where no comment line stands, or a line
-/// is out of its order, it is `token`; an index that isn't the next one, a number that is out of its range, or a line after the verdict is
+/// The first fault is told with its place in bytes from the beginning of the text, as a report's is: where something isn't a comment line, or
+/// a line is out of its order, it is `token`; an index that isn't the next one, a number that is out of its range, or a line after the verdict is
 /// `limit`; a text without a verdict is `ended`. It takes time in the bytes, and memory for what is read and for the places of the names.
 pub fn read_tree(
     alloc: Global,
@@ -232,7 +232,7 @@ pub fn read_tree(
     ensures only { (t : Tree) → SpellsTree (known_of net.now states.now) demands.now from bytes.now t → AnswersAs (λ x. x) result t }
     // What is read is what reading from left to right gives, and a fault is the first one that it meets.
     ensures exact { Gives result (tree_at (known_of net.now states.now) demands.now from bytes.now) }
-    // No fault stands too early.
+    // No fault is reported at too early a place.
     ensures not_early { IfErr result (IsNoEarlyTreeFault (known_of net.now states.now) demands.now from bytes.now) }
 {
     let context = Context::new(alloc, net, states)?;
