@@ -41,7 +41,7 @@ split_at [] n x at = absurd (omega (arith, slice_get_within [] n x at))
 split_at (y ∷ xs) zero x at = ap (λ z. z ∷ xs) (cc at)
 split_at (y ∷ xs) (suc n) x at = ap (λ zs. y ∷ zs) (split_at xs n x at)
 
--- a pooled cut stands at the number of the cuts before it
+-- a pooled cut's place among the cuts is the number of the cuts before it
 cut_at : (es : List Entry) (n index : ℕ) (state : StateId) (lengths : List ℕ) → slice_get es n ≡ Some (Pooled index state lengths) → index ≡ length (cuts_of (take n es))
     → slice_get (cuts_of es) index ≡ Some (state.0, lengths)
 cut_at es n index state lengths at is =

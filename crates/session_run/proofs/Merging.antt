@@ -18,9 +18,9 @@ back_all : {Y : Type 0} (P : Y → Type 0) (xs ys : List Y) → All P (xs ++ ys)
 back_all P [] ys all = all
 back_all P (x ∷ xs) ys all = back_all P xs ys (All-tail P x (xs ++ ys) all)
 
--- what stands at places, in their order
+-- the items at places, in the order of the places
 module _ {Y : Type 0} (g : ℕ → List Y) where
-  -- what stands at a place stands before all that stands at these
+  -- the items at a place come before all items at these places
   abbrev Clear : ℕ → List ℕ → Type 0
   Clear q [] = Unit {0}
   Clear q (x ∷ xs) = ((q < x) ⊎ (g x ≡ [])) × Clear q xs

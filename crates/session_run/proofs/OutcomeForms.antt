@@ -50,7 +50,7 @@ module _ (p : Case) (es : List Entry) (lines : List CutLine) (few : length es �
   abbrev InForm : Outcome → Type 0
   InForm o = IsOutcomeInForm (known_to p) lines o
 
-  -- a cut that stands in the pool of first entries stands in the pool
+  -- a cut in the pool of the first entries is in the pool of all of them
   of_pool : (m : ℕ) (cut : CutLine) (spot : Spot) → IsSpotIn (take m es) (cut_of_line cut) spot → IsOfPool lines spot cut
   of_pool m cut (Pool i) stands =
       let all : cuts_of (take m es) ++ cuts_of (drop m es) ≡ cuts_of es = sym (cuts_both (take m es) (drop m es)) ∙ ap cuts_of (take-append-drop m es) in

@@ -53,7 +53,7 @@ pub own_same : (old new : Caller) (found left : Board) → HasTurn old found lef
 own_same old new found left turn same =
     own_after old new found left [] turn (same ∙ sym (append-nil found.entries)) ∙ append-nil (caller_seen old).own
 
--- what an edit's turn comes to
+-- the result of an edit's turn
 pub edit_ends : (edit : Edit) (old new : Caller) (answer : EditAnswer) (done : Result (Unit {0}) Stop) → EditsInTurn old edit answer new → IsDoneBy answer done
     → EndsEdit old.number edit (caller_seen old) (caller_seen new) done
 edit_ends edit old new (At position reply) done t is =

@@ -69,7 +69,7 @@ pub record IsNamedSeparation (p : Case) (entries : List Entry) (state : ℕ) (na
   pub at : slice_get (demands_left p entries) place ≡ Some demand
   pub named : demand.name ≡ name
 
--- The outcome is that of the caller's plan command of this serial: a sound plan of what the entries `before` leave, whose cuts stand in
+-- The outcome is that of the caller's plan command of this serial: a sound plan of what the entries `before` leave, whose cuts are in
 -- the entries `after`, those before among them, unless there is no room; or the first separation of the demands that `before` leaves.
 abbrev pub IsOutcomeAfter : Case → List Entry → List Entry → ℕ → ℕ → Outcome → Type 0
 IsOutcomeAfter p before after caller serial (Planned by number plan) =
@@ -77,9 +77,9 @@ IsOutcomeAfter p before after caller serial (Planned by number plan) =
 IsOutcomeAfter p before after caller serial (Unsurvivable by number version position state demand) =
     (by ≡ caller) × (number ≡ serial) × (version ≡ version_left p before) × (position ≡ length before) × IsNamedSeparation p before state.0 demand
 
--- A caller's acts one after another, none before position `at`: each edit stands in the journal, and each plan command has the
+-- A caller's acts one after another, none before position `at`: each edit is in the journal, and each plan command has the
 -- next outcome, at a position between the caller's earlier and its later commands and after the cuts that its earlier plans name.
--- Here n entries stand before the act; a plan is made by the time that there are m.
+-- There are n entries before the act, and m by the time that a plan is made.
 abbrev pub RunsFrom : Case → List Entry → ℕ → ℕ → ℕ → List Act → List Outcome → Type 0
 RunsFrom p entries caller at serial [] [] = at ≤ length entries
 RunsFrom p entries caller at serial [] (o ∷ os) = ⊥
@@ -93,7 +93,7 @@ RunsFrom p entries caller at serial (acts.Plan ∷ rest) (o ∷ os) =
 -- ---- the report
 
 -- The report is a transcript of the commands, from the opening demands of the case: a legal journal in which each caller's edits
--- stand once each, in its order, and nothing else but the cuts of the pool; the pool with its right sides at the end; and the
+-- occur once each, in its order, and nothing else but the cuts of the pool; the pool with its right sides at the end; and the
 -- outcomes of each caller's plan commands, by caller and then by serial. Where one plan command is all, and a plan its outcome, that is
 -- made before any entry, and the pool is a worked list that begins with no known cut, in its order.
 pub record IsTranscript (p : Case) (notes : Notes) (commands : List Command) (r : Report) : Type 0 where

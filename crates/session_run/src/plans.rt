@@ -81,7 +81,7 @@ fn outcome_for(
     })
 }
 
-/// Plans for a caller that stands at the snapshot that it has taken.
+/// Plans for a caller that has taken this snapshot of all that it has seen.
 fn plan_at<R: Threads + Wait, G: Gate>(
     rt: &R,
     gate: &G,

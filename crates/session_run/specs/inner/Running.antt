@@ -53,7 +53,7 @@ abbrev pub IsFullAt : List Entry → Stop → Type 0
 IsFullAt seen NoMemory = Unit {0}
 IsFullAt seen Full = 65536 ≤ length seen
 
--- What running these commands comes to: they have run, or their callers have stopped, with few own entries beside pooled cuts.
+-- The result of running these commands: they have run, or their callers have stopped, with few own entries beside pooled cuts.
 abbrev pub EndsRun : {A : Type 0} → Case → List Command → Seen Entry → Result (Vec Outcome A) Stop → Type 0
 EndsRun p commands seen (Ok outcomes) = HaveRun p seen commands outcomes.items
 EndsRun p commands seen (Err stop) = AreFewOwn seen commands × IsFullAt seen.history stop

@@ -63,8 +63,8 @@ pub record IsSnapshotHere (p : Case) (seen : List Entry) (snapshot : Snapshot) :
   pub pool : ∥ IsPoolAfter p seen snapshot.cuts ∥₁
   pub cuts : ∥ All (IsCut (case_left p seen)) snapshot.cuts ∥₁
 
--- Planning for what was seen: what is committed are pooled cuts, and the outcome is that of the history before them. Where there was
--- none, and a plan's caller alone has written what stands now, that is a worked pool.
+-- Planning for what was seen: what is committed are pooled cuts, and the outcome is that of the history before them. Where that history
+-- was empty, and the caller of a plan alone has written the history that there is now, this one is a worked pool.
 pub record PlansAt (p : Case) (asked : Asked) (old new : Seen Entry) (made : Result Outcome NoMemory) : Type 0 where
   pub more : SeesMore old new
   pub outcome : IfOk made (IsOutcomeAfter p old.history new.history asked.caller asked.serial)
