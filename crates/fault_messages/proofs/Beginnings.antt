@@ -62,7 +62,7 @@ none_fits bytes h (beginnings.Format formats.Script) = none_at bytes all_beginni
 none_fits bytes h (beginnings.Format formats.Report) = none_at bytes all_beginnings h 9 beginnings.Mark (omega arith)
 none_fits bytes h (beginnings.Format formats.Flows) = none_at bytes all_beginnings h 10 beginnings.Mark (omega arith)
 
--- what a search of all of them comes to
+-- a search of all beginnings finds one that the bytes have, or none where they have none
 pub first_fits : (bytes : List ℕ) (found : Option Beginning) → found ≡ first_beginning bytes all_beginnings → MatchOption found (HasNoGuess bytes) (λ b. begins_as b bytes ≡ true)
 first_fits bytes None is = none_fits bytes (sym is)
 first_fits bytes (Some b) is = found_fits bytes all_beginnings b (sym is)

@@ -14,17 +14,17 @@ abbrev pub other_places : Places → Places
 other_places Three = Six
 other_places Six = Three
 
--- what is said of a report whose network has the other number of places than the one at hand
+-- what is said of a report whose network doesn't have this number of places, but the other one
 abbrev pub other_network : Places → List ℕ
 other_network Three = codes "the report is of another network: one with a number finer than thousandths, which this one hasn't"
 other_network Six = codes "the report is of another network: one without a number finer than thousandths, which this one has"
 
--- the bytes begin with the first line of a report of a network with so many places
+-- the bytes begin with the first line of a report of a network with this number of places
 abbrev pub begins_report : Places → List ℕ → Bool
 begins_report places bytes = starts_with nat_eq bytes (report_header places ++ 10 ∷ [])
 
--- A line on a file with another header than that of a report of a network with so many places: it is of another network, if it is a report of
--- one with the other number of places; else what the file seems to be.
+-- A line on a file whose header isn't that of a report of a network with this number of places: that it is of another network, if it is a
+-- report of one with the other number of places; else what the file seems to be.
 abbrev pub IsReportHeaderNote : Places → List ℕ → List ℕ → Type 0
 IsReportHeaderNote places bytes note =
     ((begins_report (other_places places) bytes ≡ true) × (note ≡ note_text (other_network places)))

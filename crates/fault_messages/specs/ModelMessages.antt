@@ -6,7 +6,7 @@ use Rattle.model_reader.specs.declared.model.ModelKind.{ModelKind}
 use Rattle.model_reader.specs.declared.model.ModelKind.TheVariants as kinds
 use Rattle.model_reader.specs.Models.{model_header}
 
--- what stands for a key that is missing
+-- the hint for a key that is missing: the line to add
 abbrev pub missing_help : ModelKey → List ℕ
 missing_help keys.Demand = codes "add: DEMAND_MODEL = UNDIRECTED"
 missing_help keys.Link = codes "add: LINK_MODEL = UNDIRECTED"

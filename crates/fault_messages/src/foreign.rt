@@ -9,7 +9,7 @@ use crate::near::are_same;
 use fault_texts::{put_note, token_here};
 use net_core::{Bytes, Demand, Link, Listed, Name, NoMemory, Places, Problem};
 
-/// The first line of a report of a network with so many places.
+/// The first line of a report of a network with this number of decimal places.
 fn report_line(places: Places) -> &'static [u8]
     ensures { result.now ≡ report_header places ++ 10 ∷ [] }
 {
@@ -29,7 +29,7 @@ fn other_places(places: Places) -> Places
     }
 }
 
-/// Whether a file begins with the first line of a report of a network with so many places.
+/// Whether a file begins with the first line of a report of a network with this number of places.
 fn begins_report(places: Places, bytes: &[u8]) -> bool
     ensures { result ≡ begins_report places bytes.now }
 {
@@ -50,7 +50,7 @@ fn other_network(places: Places) -> &'static str
     }
 }
 
-/// Puts a line last on a file with another header than a report's of a network with so many places.
+/// Puts a line last on a file whose header isn't that of a report of a network with this number of places.
 pub(crate) fn put_report_header_note(
     text: &mut Bytes,
     places: Places,

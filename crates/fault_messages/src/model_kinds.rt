@@ -5,7 +5,7 @@ ghost use Rattle.fault_messages.specs.ModelMessages.{missing_help, model_message
 use fault_texts::Sentence;
 use model_reader::{ModelKey, ModelKind};
 
-/// What stands for a key that is missing.
+/// The hint for a key that is missing: the line to add.
 fn missing_help(key: ModelKey) -> &'static str
     ensures { result.now ≡ missing_help key }
 {
