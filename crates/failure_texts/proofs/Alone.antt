@@ -26,7 +26,7 @@ separated_first net states demands s k is h =
     let first = separated_with net states demands [] s k is h in
     subst (λ t. IsFirstSeparation (with_states net demands []) t k) (omega (arith, first.state)) first
 
--- the same of what is found, or isn't
+-- with no state but the one without failures, a separation that is found is the first one there; if none is found, the demands survive
 pub found_first : (net : Network) (states : States) (demands : List Demand) (found : Option Separation) (s : Separation) → states.listed ≡ []
     → MatchOption found (IsSurvivable (case net states demands)) (λ f. IsFirstSeparation (case net states demands) f.state.0 f.demand) → found ≡ Some s → IsFirstSeparation (with_states net demands []) 0 s.demand
 found_first net states demands found s is h some =

@@ -5,7 +5,7 @@ use Rattle.plan_terms.specs.Terms.{Demand, Link, Network}
 use Rattle.failure_texts.specs.Fates.{AreFates, IsFate}
 use Rattle.failure_texts.specs.declared.fates.Fate.{Fate}
 
--- what stands at a place of a list with one item more
+-- an item of a list with one added at its end is the list's item at the same place, or the added one
 pushed : {X : Type 0} (xs : List X) (x : X) (k : ℕ) (y : X) → slice_get (xs ++ x ∷ []) k ≡ Some y → (slice_get xs k ≡ Some y) ⊎ ((k ≡ length xs) × (x ≡ y))
 pushed [] x zero y same = inr (refl, let e : Some x ≡ Some y = same in cc e)
 pushed [] x (suc k) y same = absurd (let e : None ≡ Some y = same in cc e)
@@ -37,6 +37,6 @@ fates_inside net demands fates links is are k d lt =
     let fate = are.each k (get_or net.links k no_link) (get_or fates k d) (slice_get-get_or net.links k no_link within) (slice_get-get_or fates k d lt) in
     omega (arith, fate.of_link, within, ap length is)
 
--- a link that stands in what is at hand of a network's links
+-- a link that is read from a list equal to the network's links is the network's link of that index
 pub link_at : (links others : List Link) (e : ℕ) (link : Link) → links ≡ others → e < length links → link ≡ get_or links e link → slice_get others e ≡ Some link
 link_at links others e link same within is = subst (λ ls. slice_get ls e ≡ Some link) same (slice_get_read links (length links) e link refl within is)

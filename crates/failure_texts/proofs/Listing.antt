@@ -44,7 +44,7 @@ module _ (net : Network) (demands : List Demand) where
     different = h.different;
   })
 
-  -- with what the failure of one more link comes to
+  -- with the effect of the failure of one more link
   fate_more : (n : ℕ) (listed : List Listed) (link : Link) (own : Listed) (separated : Option ℕ) → IsListing net demands n listed → slice_get net.links n ≡ Some link → own ≡ single_state n link.name
       → MatchOption separated (IsSurvivable (alone net demands n link)) (λ k. (state : ℕ) × IsFirstSeparation (alone net demands n link) state k)
       → IsListing net demands (n + 1) (listed ++ option_map_or (λ k. []) separated (own ∷ []))

@@ -108,7 +108,7 @@ text_spells net demands fates start mid text are begun items comments =
       ),
     )
 
--- the same of what the writer has in hand
+-- the text is spelled right where the writer's lists of links and demands equal those of the network and those given
 pub text_of_parts : (net : Network) (demands : List Demand) (fates : List Fate) (links others : List Link) (asked : List Demand) (start mid text : List ℕ) → AreFates net demands (length net.links) fates
     → links ≡ net.links → others ≡ net.links → asked ≡ demands → start ≡ failures_header ++ 10 ∷ []
     → AddsItems start (section (codes "FAILURES") (flat_map (fate_items links) fates)) mid → AddsLines mid (flat_map (left_out others asked) fates) text → IsSpelled net demands fates text

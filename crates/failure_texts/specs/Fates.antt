@@ -1,4 +1,4 @@
--- what the failure of each link alone comes to
+-- the effect of the failure of each link alone
 use Rattle.std.specs.Prelude.{◌≡◌, ℕ, ◌∷◌, [], List, MatchOption, Some, length, slice_get}
 use Rattle.plan_terms.specs.Terms.{Case, Demand, IsFirstSeparation, IsSurvivable, Link, Listed, Network, single_state}
 use Rattle.failure_texts.specs.declared.fates.Fate.{Fate}

@@ -6,7 +6,7 @@ use failure_states::first_separated;
 use net_core::{Copied, Demands, Link, LinkId, List, Listed, Network, NoMemory, States};
 use std::alloc::Global;
 
-/// What the failure of a link alone comes to.
+/// The effect of the failure of a link alone.
 #[derive(Clone, Copy, Debug, PartialEq, Eq)]
 pub(crate) struct Fate {
     pub(crate) link: LinkId,
@@ -46,7 +46,7 @@ fn states_with(alloc: Global, net: &Network, id: LinkId, link: &Link) -> Result<
     }
 }
 
-/// What the failure of this link comes to.
+/// The effect of the failure of this link alone.
 #[tactic(auto, using(crate::proofs::Alone::survivable_alone, crate::proofs::Alone::separated_alone))]
 fn fate_of(
     alloc: Global,
@@ -71,7 +71,7 @@ fn fate_of(
     }
 }
 
-/// What the failure of each link alone comes to, in the order of the links. A demand that is separated where nothing fails is separated by
+/// The effect of the failure of each link alone, in the order of the links. A demand that is separated where nothing fails is separated by
 /// each. It takes for each link time in the square of the nodes, in the demands and in the links.
 #[tactic(auto, using(crate::proofs::FateLists::none_told))]
 pub(crate) fn fates_of(
