@@ -59,7 +59,7 @@ some_place : (o : Option ℕ) → is_some o ≡ true → (k : ℕ) × (o ≡ Som
 some_place None h = absurd (false≢true h)
 some_place (Some k) h = (k, refl)
 
--- a known name stands at a place of the nodes
+-- a known name has a place among the nodes
 node_there : (nodes : List (List ℕ)) (name : List ℕ) → is_named (λ n. n) name nodes ≡ true → (k : ℕ) × (position (λ n. are_same n name) nodes ≡ Some k)
 node_there nodes name known = some_place (position (λ n. are_same n name) nodes) (place_known (λ n. are_same n name) nodes ∙ known)
 

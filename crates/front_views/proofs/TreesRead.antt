@@ -1,4 +1,4 @@
--- what the lines below a report show, from what reading and checking them came to
+-- what the lines below a report show, from the results of reading and checking them
 use Rattle.std.proofs.Common.{◌≡◌, ◌∙◌, ℕ, Bool, true, false, List, Result, Ok, Err, IfErr, IfOk, OnOk, ap, inl, inr, length, sym}
 use Rattle.net_core.proofs.Library.{false≢true}
 use Rattle.plan_terms.specs.Terms.{Case}
@@ -33,7 +33,7 @@ module _ (name : List ℕ) (p : Case) (plan : Plan) (bytes : List ℕ) where
   pub none_read : (h : Halt) → Halts (λ s message. (s ≡ BadReport) × ShowsNoTree name p plan bytes message) h → Halts (FailsAtTree name p plan bytes) h
   none_read h held = halt_map (λ s message. (s ≡ BadReport) × ShowsNoTree name p plan bytes message) (FailsAtTree name p plan bytes) h (λ s message shows. inl shows) held
 
-  -- whether a line of a tree stands there
+  -- whether there is a line of a tree below the report
   pub line_found : (from : ℕ) (b : Bool) → from ≡ lines_begin bytes → b ≡ has_tree_line (comments_from from bytes) → b ≡ true → HasTreeLine bytes
   line_found from b begins is found = ap (λ (k : ℕ). has_tree_line (comments_from k bytes)) (sym begins) ∙ (sym is ∙ found)
 

@@ -15,7 +15,7 @@ use Rattle.front_files.proofs.Showing.{fault_shown}
 use Rattle.front_files.specs.Messages.{HasNoNotes}
 use Rattle.front_views.proofs.plan_proof.spelled_tree.Goals as goal
 
--- reading a tree comes to a refusal
+-- reading a tree ends with a refusal
 abbrev refused : Refusal ReportKind → Result ReadTree (Refusal ReportKind)
 refused refusal = Err refusal
 

@@ -12,7 +12,7 @@ use Rattle.front_files.proofs.Showing.{fault_shown, notes_at}
 use Rattle.view_text.specs.Terms.{problem_case}
 use Rattle.front_views.proofs.reading.spelled_report.Goals as goal
 
--- reading a report comes to a refusal
+-- reading a report ends with a refusal
 abbrev refused : Refusal ReportKind → Result Report (Refusal ReportKind)
 refused refusal = Err refusal
 
