@@ -1,4 +1,4 @@
--- how what one step comes to is what the run comes to
+-- how the result of one step becomes the result of the run
 use Rattle.std.proofs.Common.{◌≡◌, ◌∙◌, ℕ, List, [], Option, Result, Ok, Err, String, inr, subst, sym, ◌≢◌, MatchResult, Global}
 use Rattle.outside_io.specs.Outside.{Files}
 use Rattle.check_answers.specs.declared.status.Status.{Status}
@@ -22,7 +22,7 @@ printed_map P Q (Ok p) f held = f Done p.text p.message held
 printed_map P Q (Err h) f held =
     halt_map (λ status message. P status [] message) (λ status message. Q status [] message) h (λ status message. f status [] message) held
 
--- what a command comes to is what its words come to
+-- a run with the words of a command ends as the command does
 pub front_ends : (words : List (String Global)) (files : Option Files) (c : FrontCommand) (r : Result Printed Halt) → IsFrontCommand words c
     → HasPrintedCause (EndsFrontCommand files c) r → HasPrintedCause (EndsFront words files) r
 front_ends words files c r is held = printed_map (EndsFrontCommand files c) (EndsFront words files) r (λ status text message ends. inr (inr (c, is, ends))) held
@@ -56,7 +56,7 @@ answer_reads a (Ok p) gives fails = absurd fails
 answer_reads a (Err halt.NoMemory) gives fails = absurd (cc fails)
 answer_reads a (Err (halt.Told told)) gives fails = sym gives.1.0 ∙ fails
 
--- what a run that ends with a message comes to
+-- a run that ends with a message has its status, and no text
 pub told_ends : (Ends : Status → List ℕ → List ℕ → Type 0) (r : Result Printed Halt) (t : Told) → r ≡ Err (halt.Told t) → HasPrintedCause Ends r
     → Ends t.status [] t.message
 told_ends Ends r t is held = subst (HasPrintedCause Ends) is held

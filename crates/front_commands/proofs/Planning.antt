@@ -1,4 +1,4 @@
--- a plan that comes to no text, or to one
+-- planning prints a text only if it has made a plan
 use Rattle.std.proofs.Common.{◌≡◌, ◌∙◌, ◌≤◌, ℕ, Bool, List, [], Option, None, Some, inl, inr, sym, ◌≢◌, IfSome}
 use Rattle.std.specs.Option.{option_map_or}
 use Rattle.plan_terms.specs.Terms.{Case, Notes}
