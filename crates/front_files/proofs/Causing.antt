@@ -1,4 +1,4 @@
--- how what one step comes to is what the run comes to
+-- how the result of one step becomes the result of the run
 use Rattle.std.proofs.Common.{◌≡◌, ◌∙◌, ℕ, List, [], Result, Ok, Err, subst, sym, IfOk, MatchResult}
 use Rattle.check_answers.specs.declared.status.Status.{Status}
 use Rattle.check_answers.specs.declared.status.Status.TheVariants.{Done, ReadFault}
