@@ -21,7 +21,7 @@ cut_not_able p counts (Cut line) stops is able =
     violated_carries_nothing (graph_in p s) p.demands (whole_caps (capacities p.links counts)) there.routing line (capacities_long p.links counts able.shape) stops.0.kept stops.0.right there.carries stops.1
 cut_not_able p counts (Wide evidence) stops is able = is
 
--- what stands at a place is a block of that place
+-- if a place is among those of the blocks, one of the blocks has that place
 at_place : (blocks : List Block) (place : ℕ × ℕ) → Contains (map (λ b. (b.link.0, b.module)) blocks) place → (b : Block) × (Contains blocks b) × ((b.link.0, b.module) ≡ place)
 at_place blocks place inside =
     let within : inside.0 < length blocks = subst (λ n. inside.0 < n) (length-map blocks (λ (b : Block). (b.link.0, b.module))) inside.1 in

@@ -61,7 +61,7 @@ pub module_added : (e : ℕ) (counts : List ℕ) (m : ℕ) → m < length counts
 module_added e counts m lt some =
     ap (λ n. modules_in_use e 0 (take n counts)) (add-one m) ∙ modules_one e 0 counts m lt some ∙ ap (λ j. modules_in_use e 0 (take m counts) ++ (e, j) ∷ []) (zero-add m)
 
--- the same, one link after another
+-- the modules of positive count, one link after another
 links_one : (k : ℕ) (counts : List (List ℕ)) (e : ℕ) → e < length counts → links_in_use k (take (suc e) counts) ≡ links_in_use k (take e counts) ++ modules_in_use (k + e) 0 (get_or counts e [])
 links_one k [] e lt = absurd (omega (arith, lt))
 links_one k (c ∷ cs) zero lt = append-nil (modules_in_use k 0 c) ∙ ap (λ j. modules_in_use j 0 c) (same_place k)

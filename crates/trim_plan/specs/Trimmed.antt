@@ -63,7 +63,7 @@ pub record IsRoutedPlan (p : Case) (plan : Plan) : Type 0 where
   pub form : IsPlanInForm (known_to p) plan
   pub lowest : All IsLowestRouting plan.routings
 
--- What trimming a plan comes to: the given plan with other counts, cost and routings, no count and not the cost greater, from which no
+-- The result of trimming a plan: the given plan with other counts, cost and routings, no count and not the cost greater, from which no
 -- module can be spared.
 pub record IsTrimming (p : Case) (given : Plan) (t : Trimmed) : Type 0 where
   pub same : IsPlanButForCounts given t.plan

@@ -3,7 +3,7 @@ use Rattle.std.specs.Prelude.{ℕ, ◌<◌, List, map, sum, sum_by}
 use Rattle.trim_plan.specs.Trimmed.{AreAtMost}
 use Rattle.trim_plan.specs.declared.trimming.Block.{Block}
 
--- where blocks stand
+-- the places of blocks: the link and the module of each
 abbrev pub block_places : List Block → List (ℕ × ℕ)
 block_places blocks = map (λ b. (b.link.0, b.module)) blocks
 
