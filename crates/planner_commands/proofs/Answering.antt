@@ -1,4 +1,4 @@
--- how what one step comes to is what the run comes to
+-- how the result of one step becomes the result of the run
 use Rattle.std.proofs.Common.{ℕ, List, Option, Result, Ok, Err, inr}
 use Rattle.plan_terms.specs.Terms.{Problem, Notes, Case, case}
 use Rattle.outside_io.specs.Outside.{Files}
@@ -12,7 +12,7 @@ use Rattle.input_files.proofs.Stopping.{stop_map}
 use Rattle.check_answers.specs.declared.answer.Answer.{Answer}
 use Rattle.check_answers.specs.declared.status.Status.{Status}
 
--- they are all read, and it comes to this
+-- the input files are all read, and the run ends with this result
 module _ (files : Option Files) (w : PlanWords) (EndsWith : Case → Notes → Status → List ℕ → Type 0) (problem : Problem) (has : HasInputs files w problem.net problem.demands problem.states.listed) where
   pub after_inputs : (status : Status) (text : List ℕ) → EndsWith (case problem.net problem.states problem.demands) problem.net.notes status text → EndsAfterInputs files w EndsWith status text
   after_inputs status text ends = inr (problem.net, problem.demands, problem.states.listed, has, ends)
@@ -22,7 +22,7 @@ module _ (files : Option Files) (w : PlanWords) (EndsWith : Case → Notes → S
       → (s : Stop) → Stops Ends s → Stops (EndsAfterInputs files w EndsWith) s
   last_ends Ends so s = stop_map Ends (EndsAfterInputs files w EndsWith) s (λ status text e. after_inputs status text (so status text e))
 
-  -- it comes to what is answered
+  -- the run ends with what is answered
   pub answer_ends : (r : Result Answer Stop) → HasCause (EndsWith (case problem.net problem.states problem.demands) problem.net.notes) r → HasCause (EndsAfterInputs files w EndsWith) r
   answer_ends (Ok a) h = after_inputs a.status a.text h
   answer_ends (Err s) h = last_ends (EndsWith (case problem.net problem.states problem.demands) problem.net.notes) (λ status text e. e) s h
