@@ -36,7 +36,7 @@ module _ (p : Case) (entries : List Entry) (legal : IsLegalHistory p entries) wh
     no_count (finding.PoolCount a b) h = h.2 (sym h.0 ∙ (sym (length-map pool cut_of_line) ∙ (ap length is.cuts ∙ h.1)))
     no_count _ h = h
 
-    -- the cut of a line stands at its place in the history's cuts
+    -- the cut of a pool line is at the line's place among the history's cuts
     cut_there : (k : ℕ) (l : CutLine) → slice_get pool k ≡ Some l → slice_get (cuts_of entries) k ≡ Some (cut_of_line l)
     cut_there k l at = ap (λ cuts. slice_get cuts k) (sym is.cuts) ∙ (slice_get-map cut_of_line pool k ∙ ap (option_map cut_of_line) at)
 

@@ -52,7 +52,7 @@ module _ (p : Case) (notes : Notes) (commands : List Command) (r : Report) (few 
       none
 
   module _ (caller n m serial : ℕ) (within : n ≤ m) (last : m ≤ length es) where
-    -- the position of a plan, and what stands before it
+    -- the position of a plan, and the entries before it
     module _ (plan : Plan) (after : IsPlanBetween p (take n es) (take m es) plan) where
       place : plan.position ≡ n
       place = after.sound.same_position ∙ (after.left.position ∙ length-take-le n es (omega (arith, within, last)))

@@ -22,7 +22,7 @@ SoundPlansAreAccepted = (p : Case) (full : Bool) (plan : Plan)
     → ((f : Fractional) → plan.quality ≡ Tight f → IsTight p plan f)
     → HoldNone (plan_findings p full plan)
 
--- A plan of a snapshot has no finding for the snapshot's demands where the pool counts as full, wherever the cuts of its certificate stand.
+-- A plan of a snapshot has no finding for the snapshot's demands where the pool counts as full, wherever the cuts of its certificate are.
 abbrev pub SnapshotPlansAreAccepted : Type 0
 SnapshotPlansAreAccepted = (p : Case) (snapshot : Snapshot) (history : List Entry) (plan : Plan)
     → snapshot.demands ≡ p.demands
