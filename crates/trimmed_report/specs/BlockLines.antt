@@ -23,7 +23,7 @@ block_items links demands b = Verbatim (codes "blocked") ∷ Verbatim (link_name
 abbrev pub block_lines : List Link → List Demand → List Block → List ℕ
 block_lines links demands blocks = flat_map comment_line (map (block_items links demands) blocks)
 
--- ---- what can stand in such a line
+-- ---- what such a line can contain
 
 -- a cut, or evidence of a program that routes
 abbrev pub IsTold : Stop → Type 0

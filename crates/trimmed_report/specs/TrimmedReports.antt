@@ -1,4 +1,4 @@
--- what a trimming comes to: the report of a plan from which no module can be spared, or the first separation
+-- the result of a trimming: the report of a plan from which no module can be spared, or the first separation
 use Rattle.std.specs.Prelude.{List}
 use Rattle.plan_terms.specs.Terms.{Notes, Case}
 use Rattle.lone_plan.specs.Terms.{IsTranscript}
