@@ -22,7 +22,7 @@ LonePlansCarry = (p : Case) (notes : Notes) (r : PlannedReport)
     → IsTranscript p notes plan_commands (whole_report r)
     → IsMadePlan p r.plan × IsSurvivable p
 
--- The report of a plan stays a transcript where a sound design in lowest terms that costs no more stands in the place of the plan's own.
+-- The report of a plan stays a transcript if the plan's design is replaced by a sound one in lowest terms that costs no more.
 abbrev pub CheaperRedesignsArePlans : Type 0
 CheaperRedesignsArePlans = (p : Case) (notes : Notes) (r : PlannedReport) (counts : List (List ℕ)) (cost : ℕ) (routings : List Routing)
     → IsTranscript p notes plan_commands (whole_report r)

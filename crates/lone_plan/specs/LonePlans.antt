@@ -1,4 +1,4 @@
--- what one plan command comes to
+-- the result of one plan command
 use Rattle.std.specs.Prelude.{◌≡◌, ℕ, ◌<◌, ◌^◌, List, [], ◌∷◌}
 use Rattle.plan_terms.specs.Terms.{Notes, Routing, Case, AreCounts, AreWithinLimits, IsFirstSeparation}
 use Rattle.plan_types.specs.Terms.{IsCarryingPlan, IsCostedPlan}
