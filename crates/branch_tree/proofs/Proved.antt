@@ -1,4 +1,4 @@
--- what a tree that is grown comes to
+-- a tree that is grown to its end gives a proof
 use Rattle.std.proofs.Common.{◌≡◌, ◌∙◌, ℕ, zero, suc, ◌+◌, ◌≤◌, ◌<◌, ◌⊎◌, inl, inr, ⊎_elim, ◌↔◌, Bool, true, false, cond, if◌then◌else◌, List, [], ◌∷◌, ◌++◌, Some, All, length, map, slice_get, take, refl, ap, sym, subst, arith}
 use Rattle.net_core.proofs.Library.{cases_Bool, length-map, slice_get_within, sum_by-cons}
 use Rattle.plan_terms.specs.Terms.{Case, CutLine, IsCut}

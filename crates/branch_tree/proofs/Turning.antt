@@ -24,7 +24,7 @@ use Rattle.branch_tree.proofs.TwigNodes.{leaf_sides}
 -- ---- lists
 
 module _ {T : Type 0} where
-  -- a list is what stands before one of its items, that item, and what stands after it
+  -- a list consists of the items before one of its items, that item, and the items after it
   parts_at : (ts : List T) (i : ℕ) (t : T) → slice_get ts i ≡ Some t → ts ≡ take i ts ++ t ∷ drop (suc i) ts
   parts_at [] i t at = absurd (cc at)
   parts_at (x ∷ xs) zero t at = let same : x ≡ t = cc at in ap (λ (y : T). y ∷ xs) same

@@ -9,7 +9,7 @@ use Rattle.branch_tree.specs.inner.Showing.{all_shown, verdict_of}
 use Rattle.box_search.specs.declared.known.Known.{Known}
 use Rattle.box_search.specs.declared.twigs.Twig.{Twig}
 
--- the same entries, at most this number; or this number of the first cuts alone
+-- all of these entries, at most this number; or only the first of their cuts, up to this number
 abbrev pub AreFirstOf : ℕ → List Entry → Known → Type 0
 AreFirstOf most entries k = ((k.entries ≡ entries) × (length entries ≤ most)) ⊎ (k.entries ≡ map entry.Cut (take most (cuts_among entries)))
 
