@@ -26,7 +26,7 @@ lines_shown p cuts (l ∷ ls) all own =
     (All-contains (IsCut p) cuts l.cut all (All-head (Contains cuts) l.cut (map (λ (x : CertLine). x.cut) ls) own))
     (lines_shown p cuts ls all (All-tail (Contains cuts) l.cut (map (λ (x : CertLine). x.cut) ls) own))
 
--- the cuts of a certificate stand in a list
+-- each line of a certificate has its cut in a list that has all of the certificate's cuts
 pub own_stand : (cuts : List CutLine) (ls : List CertLine) → All (Contains cuts) (map (λ (l : CertLine). l.cut) ls) → All (λ (l : CertLine). Contains cuts l.cut) ls
 own_stand cuts [] own = λ i d lt. absurd (omega (arith, lt))
 own_stand cuts (l ∷ ls) own = All-cons (λ (x : CertLine). Contains cuts x.cut) l ls (All-head (Contains cuts) l.cut (map (λ (x : CertLine). x.cut) ls) own)
