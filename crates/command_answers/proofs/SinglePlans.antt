@@ -22,7 +22,7 @@ module _ (p : Case) (notes : Notes) (r : PlannedReport) (t : IsTranscript p note
         printed = record { transcript = t; clean = accepted.clean; bounded = accepted.bounded; printed = printed };
       }
 
-  -- so it is what planning comes to
+  -- planning ends with this report
   pub plan_ends : (status : Status) (text : List ℕ) → status ≡ Done → text ≡ report_text (known_to p) (whole_report r) → SpellsReport (known_to p) text (whole_report r) → EndsPlan p notes status text
   unfolding plan_report
   plan_ends status text done printed spelled = inl (done, (plan_report text printed, spelled))
