@@ -11,7 +11,7 @@ use std::alloc::Global;
 #[derive(Drop)]
 pub struct TellingGate<'t, T> {
     alloc: Global,
-    /// Where the decimal point of money stands.
+    /// The number of decimal places of money.
     places: Places,
     quiet: bool,
     teller: &'t T,
@@ -53,7 +53,7 @@ fn tenths(splits: u32, limit: u32) -> u64 {
     (splits as u64 * 10).checked_div(limit as u64).unwrap_or(0)
 }
 
-/// Whether a tree has come to another tenth of its splits.
+/// Whether a tree has reached another tenth of its splits with the latest one.
 fn is_tenth(figures: &TreeFigures) -> bool {
     let before = figures.splits.saturating_sub(1);
     tenths(figures.splits, figures.limit) != tenths(before, figures.limit)
