@@ -15,7 +15,7 @@ use separator::warm_routing::{WarmAnswer, WarmRouter};
 use separator::{line_of, separate_state};
 use std::alloc::Global;
 
-/// A kept basis is given so many turns.
+/// The number of turns that a kept basis is given.
 const TURNS: u32 = 1_000;
 
 /// The columns of a routing's flows.
