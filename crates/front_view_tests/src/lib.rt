@@ -1,4 +1,4 @@
-//! Tests of what the bytes of files come to for people: views and messages, with their lines and columns, tables, quoted words and near names.
+//! Tests of what people see of the bytes of files: views and messages, with their lines and columns, tables, quoted words and near names.
 #![tactic(auto)]
 
 #[cfg(test)]
