@@ -220,7 +220,7 @@ fn main() {
                 for k in 0..states.count() {
                     let s = (first + k) % states.count();
                     tests += 1;
-                    match kept.route_state(&instance, StateId(s), &caps).unwrap() {
+                    match kept.separate_state(&instance, StateId(s), &caps, StateQuestion::RoutingAlone).unwrap() {
                         RouteAnswer::Routed(routing) => routings.push((s, routing)),
                         answer => further.extend(cut_in(answer)),
                     }
