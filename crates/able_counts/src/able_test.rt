@@ -6,9 +6,11 @@ use crate::cuts::{known_cut, last_violated};
 use crate::nodes::short_state;
 use crate::quick::{quick_stop, set_stop};
 use crate::routed::state_stop;
-use crate::stop::{Stop, discard, is_cut, later};
+use crate::stop::{Stop, is_cut, later};
 use module_choice::capacities;
-use net_core::{Caps, Copied, Counts, CutLine, Instance, List, NoMemory, Routing, StateId};
+use net_core::{
+    Caps, Copied, Counts, CutLine, Instance, List, NoMemory, Routing, StateId, discard,
+};
 use separator::warm_routing::WarmRouter;
 use std::alloc::Global;
 

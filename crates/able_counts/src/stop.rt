@@ -1,6 +1,6 @@
 ghost use Rattle.std.specs.Prelude.{◌≡◌, ◌⊎◌, IsTrue, None};
 
-use net_core::{CutLine, Evidence};
+use net_core::{CutLine, Evidence, discard};
 
 /// Why counts of modules aren't known to carry the demands in all states.
 #[derive(Drop)]
@@ -10,9 +10,6 @@ pub enum Stop {
     /// A number of a state's routing program is too wide at their capacities.
     Wide(Evidence),
 }
-
-/// Lets a value go.
-pub(crate) fn discard<T: Drop>(_value: T) {}
 
 /// Whether it is a cut.
 pub(crate) fn is_cut(found: &Option<Stop>) -> bool

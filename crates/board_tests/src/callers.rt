@@ -8,11 +8,10 @@ ghost use Rattle.board_desk.specs.Turns.{AreAtOneDesk, IsAtDesk, IsSameCaller, b
 
 use crate::changes::{Change, edit_of};
 use crate::cuts::unit_cut;
-use crate::discard::discard;
 use board_desk::Caller;
 use cut_pool::{AdmitAnswer, Board, Snapshot};
 use metric_cut::Cut;
-use net_core::{Copied, Entry, NoMemory, Problem};
+use net_core::{Copied, Entry, NoMemory, Problem, discard};
 use std::alloc::Global;
 use std::sync::Wait;
 use std::thread;

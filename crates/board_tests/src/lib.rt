@@ -10,7 +10,6 @@ mod changes;
 #[cfg(test)]
 mod cuts;
 #[cfg(test)]
-mod discard;
 #[cfg(test)]
 mod hints;
 #[cfg(test)]

@@ -3,9 +3,8 @@ ghost use Rattle.std.specs.Prelude.{◌≡◌};
 
 use crate::changes::{Change, edit_of};
 use crate::cuts::unit_cut;
-use crate::discard::discard;
 use cut_pool::{AdmitAnswer, Board, EditAnswer, Snapshot};
-use net_core::{Copied, CutLine, List, NoMemory, Problem, Reply};
+use net_core::{Copied, CutLine, List, NoMemory, Problem, Reply, discard};
 use std::alloc::Global;
 use std::thread::Threads;
 use turn_lock::Chronicle;

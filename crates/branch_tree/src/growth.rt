@@ -8,7 +8,7 @@ use crate::choice::{Choice, choose};
 use crate::tree::{Tree, least_open, open_boxes, set_twig};
 use box_search::trim_plan::Place;
 use box_search::{Aim, Cheaper, Found, OpenBox, Search, Twig, copied, look, make_first_lines};
-use net_core::{Copied, LinkId, NoMemory};
+use net_core::{Copied, LinkId, NoMemory, discard};
 use outside_io::{Gate, TreeFigures};
 use std::alloc::Global;
 use tree_check::boxes::{lower_side, upper_side, whole_box};
@@ -79,9 +79,6 @@ fn look_upper(
     let side = upper_side(&open.boxed, link, module, choice.at)?;
     look(alloc, aim, search, side, &open.best.cert, splits + 1)
 }
-
-/// Lets a value go.
-pub(crate) fn discard<T: Drop>(_value: T) {}
 
 /// The sides of a split, of which the first one left a twig.
 fn sides_with(first: Twig, found: Found) -> Sides

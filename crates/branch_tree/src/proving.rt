@@ -6,14 +6,14 @@ ghost use Rattle.branch_tree.specs.FewSplits.{AreCharged};
 ghost use Rattle.branch_tree.specs.Proving.{AreHandedCuts, IsProofOf};
 ghost use Rattle.branch_tree.specs.inner.Making.{AreFirstOf, IsProofMade, IsProofWith};
 
-use crate::growth::{Growth, discard, grown};
+use crate::growth::{Growth, grown};
 use crate::own::own_cert;
 use crate::tree::{Tree, finished};
 use box_search::able_counts::AbleTest;
 use box_search::plan_swaps::swap;
 use box_search::proof_order::{Entry, Ordered, in_order};
 use box_search::{Aim, Cheaper, Known, MOST_FURTHER, MOST_SET_CUTS, Search, empty_cert};
-use net_core::{Copied, CutLine, Instance, List, Network, NoMemory, States};
+use net_core::{Copied, CutLine, Instance, List, Network, NoMemory, States, discard};
 use outside_io::Gate;
 use plan_types::Plan;
 use std::alloc::Global;

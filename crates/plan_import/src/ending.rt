@@ -11,7 +11,7 @@ ghost use Rattle.plan_import.specs.declared.ending.ImportEnding.TheVariants.{Fau
 use flow_file::FlowFile;
 use flow_import::{ImportFault, Imported, import};
 use lone_plan::{LonePlan, PlannedReport, plan_once};
-use net_core::{Instance, Name, NoMemory, StateId};
+use net_core::{Instance, Name, NoMemory, StateId, discard};
 use outside_io::Gate;
 use plan_types::Plan;
 use std::alloc::Global;
@@ -53,9 +53,6 @@ fn with_design(planned: PlannedReport, imported: Imported) -> PlannedReport
         },
     }
 }
-
-/// Lets a value go.
-fn discard<T: Drop>(_value: T) {}
 
 /// The ending with a fault, unless that is a want of memory.
 fn ended_by(fault: ImportFault) -> Result<ImportEnding, NoMemory>

@@ -23,7 +23,7 @@ use crate::wide_rounds::pass_wide;
 use length_master::KeptMaster;
 use master_bound::{Best, MasterFault, unit_pairs};
 use module_prices::UnitPair;
-use net_core::{Caps, CutLine, Evidence, Instance, List, NoMemory};
+use net_core::{Caps, CutLine, Evidence, Instance, List, NoMemory, discard};
 use outside_io::RoundFigures;
 use plan_types::{Cause, Quality, Spot};
 use separator::{Separate, StateAnswer};
@@ -52,9 +52,6 @@ pub enum Turn {
     /// It is the last one.
     Last(Option<Best>, Quality),
 }
-
-/// Drops a value of any type. Such a call is much cheaper to prove than a drop of a large record at each exit of a function.
-pub(crate) fn discard<T: Drop>(_value: T) {}
 
 /// The end at a share, by what the states answer.
 fn ended(

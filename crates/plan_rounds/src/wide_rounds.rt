@@ -11,13 +11,13 @@ ghost use Rattle.plan_rounds.specs.inner.Turns.{AddsFound, AddsRound, ArePassed,
 use crate::adding::add_first;
 use crate::candidates::Candidates;
 use crate::certificates::best_so_far;
-use crate::rounds::{answers_at, discard};
+use crate::rounds::answers_at;
 use crate::shares::divided_caps;
 use crate::sorting::{Answered, sorted};
 use length_master::KeptMaster;
 use master_bound::{Best, MasterFault};
 use module_prices::UnitPair;
-use net_core::{Caps, Instance, List, NoMemory};
+use net_core::{Caps, Instance, List, NoMemory, discard};
 use separator::Separate;
 use std::alloc::Global;
 

@@ -1,7 +1,6 @@
 //! Makes a plan cheaper by exchanging modules: one for a cheaper one, or one more for others that can then be spared.
 #![tactic(auto)]
 
-mod discard;
 mod kept;
 pub mod limits;
 mod moves;

@@ -4,11 +4,10 @@ ghost use Rattle.trim_plan.specs.Terms.{AreRoutingsWithin, IsTestOf};
 ghost use Rattle.plan_swaps.specs.Swaps.{AreNoCheaper};
 ghost use Rattle.plan_swaps.specs.inner.Searching.{AreCarryingCounts};
 
-use crate::discard::discard;
 use crate::kept::{Kept, keep_lower, kept_of};
 use crate::search::Search;
 use crate::swaps::make_cheaper;
-use net_core::{Counts, Instance, NoMemory};
+use net_core::{Counts, Instance, NoMemory, discard};
 use std::alloc::Global;
 use trim_plan::Priced;
 

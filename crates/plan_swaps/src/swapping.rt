@@ -5,13 +5,12 @@ ghost use Rattle.trim_plan.specs.Trimmed.{IsRoutedPlan};
 ghost use Rattle.plan_swaps.specs.Swaps.{AreNoCheaper, IsCheaperPlan, IsCheaperThanStarts};
 ghost use Rattle.plan_swaps.specs.inner.Searching.{AreCarryingCounts};
 
-use crate::discard::discard;
 use crate::kept::Kept;
 use crate::refusals::Refusals;
 use crate::search::Search;
 use crate::starts::try_starts;
 use crate::swaps::make_cheaper;
-use net_core::{Copied, Counts, Instance, List, Network, NoMemory, Routing, States};
+use net_core::{Copied, Counts, Instance, List, Network, NoMemory, Routing, States, discard};
 use plan_types::{Certificate, Plan};
 use std::alloc::Global;
 use std::mem;

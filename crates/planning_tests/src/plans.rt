@@ -2,9 +2,9 @@
 ghost use Rattle.std.specs.Prelude.{length};
 ghost use Rattle.net_core.specs.Terms.{AreDemands};
 
-use crate::problems::{Place, TRIANGLE, discard, place_of};
+use crate::problems::{Place, TRIANGLE, place_of};
 use cut_pool::Board;
-use net_core::{Demands, Module, Network, NoMemory, States};
+use net_core::{Demands, Module, Network, NoMemory, States, discard};
 use plan_types::{Plan, Quality, Spot};
 use planner::{PlanAnswer, plan_snapshot};
 use separator::OneByOne;

@@ -6,9 +6,6 @@ use net_core::{Copied, Network, Problem, States};
 use std::alloc::Global;
 use worked_networks::{LinkRow, TEN, failing, network, problem, triangle};
 
-/// Drops a value of any type. Such a call is cheaper to prove than a drop of a large value in the function itself.
-pub fn discard<T: Drop>(_value: T) {}
-
 /// A triangle, of modules of 10.00 for 5.00.
 pub const TRIANGLE: [LinkRow; 3] = [(0, 1, 0, &TEN), (1, 2, 0, &TEN), (0, 2, 0, &TEN)];
 

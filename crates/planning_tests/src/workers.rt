@@ -6,11 +6,11 @@ ghost use Rattle.turn_lock.specs.Passes.{IsPassOf, opening_of, own_units};
 ghost use Rattle.board_desk.specs.Turns.{AreAtOneDesk, IsAtDesk, IsSameCaller, board_made, caller_units};
 
 use crate::checked::separate_checked;
-use crate::problems::{discard, one_demand, open_board};
+use crate::problems::{one_demand, open_board};
 use board_desk::Caller;
 use cut_pool::{Board, Snapshot};
 use hint_board::HintBoard;
-use net_core::{Caps, CutLine, List, NoMemory, Problem};
+use net_core::{Caps, CutLine, List, NoMemory, Problem, discard};
 use outside_io::OpenGate;
 use plan_types::Spot;
 use separation_workers::{Hold, Workers};

@@ -4,9 +4,8 @@ ghost use Rattle.text_kit.specs.Terms.{ReadsAs};
 ghost use Rattle.report_words.specs.Terms.{known_in};
 ghost use Rattle.report_parts.specs.ReadingParts.{certificate_at, local_spot_at, of_line, pool_spot_at, right_side_at, spot_at};
 
-use crate::discard::discard;
 use crate::spot_cut::SpotCut;
-use net_core::{Copied, CutLine, NoMemory, StateId};
+use net_core::{Copied, CutLine, NoMemory, StateId, discard};
 use plan_types::{CertLine, Certificate, Spot};
 use report_words::context::Context;
 use report_words::element::{Element, list};

@@ -4,7 +4,6 @@
 pub mod certificate;
 mod columns;
 pub mod demands;
-pub mod discard;
 mod evidence;
 pub mod modules;
 pub mod plan_reader;

@@ -4,8 +4,7 @@ ghost use Rattle.text_kit.specs.Terms.{ReadsAs};
 ghost use Rattle.report_reader.specs.ReadingJournal.{edited_at, entries_at, event_at, pooled_at};
 
 use crate::edit::{edit, reply};
-use net_core::{Entry, List, Places, StateId};
-use report_parts::discard::discard;
+use net_core::{Entry, List, Places, StateId, discard};
 use report_words::element::{Element, list};
 use report_words::fault::{ReportKind, ReportRefusal};
 use report_words::words::{closing, opening_within, small, this};

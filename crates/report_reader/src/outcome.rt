@@ -6,9 +6,8 @@ ghost use Rattle.report_reader.specs.ReadingReport.{head_at, outcomes_at, planne
 
 use crate::parts::Head;
 use crate::plan::plan;
-use net_core::{CutLine, List, StateId};
+use net_core::{CutLine, List, StateId, discard};
 use plan_types::Outcome;
-use report_parts::discard::discard;
 use report_parts::routing::state_name;
 use report_words::context::Context;
 use report_words::element::{Element, list};

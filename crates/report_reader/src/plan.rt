@@ -6,11 +6,10 @@ ghost use Rattle.report_parts.specs.Readers.{reader_demands, reader_names};
 ghost use Rattle.report_reader.specs.ReadingPlan.{plan_at, plan_parts_at, routed_at, values_at};
 
 use crate::parts::{Head, PlanParts, Routed, Values};
-use net_core::{CutLine, Places};
+use net_core::{CutLine, Places, discard};
 use plan_types::Plan;
 use report_parts::certificate::certificate;
 use report_parts::demands::plan_demands;
-use report_parts::discard::discard;
 use report_parts::modules::modules;
 use report_parts::plan_reader::PlanReader;
 use report_words::context::Context;

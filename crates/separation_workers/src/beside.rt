@@ -3,11 +3,10 @@ ghost use Rattle.std.specs.Thread.{IsSync};
 ghost use Rattle.separation_workers.specs.inner.Rounds.{AreFound, IsFoundOf, IsStateFound};
 ghost use Rattle.separation_workers.specs.inner.Together.{AreOfBoth};
 
-use crate::discard::discard;
 use crate::hints::hinted_cut;
 use crate::lending::{is_begun, lend};
 use crate::round::{Round, StateFound, Work};
-use net_core::{List, NoMemory, StateId};
+use net_core::{List, NoMemory, StateId, discard};
 use outside_io::Gate;
 use separator::flow_router::RouteAnswer;
 use separator::{KnownState, StateQuestion, separate_state};

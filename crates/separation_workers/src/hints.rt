@@ -6,11 +6,10 @@ ghost use Rattle.route_law.specs.Terms.{ArePricedSomewhere};
 ghost use Rattle.separator.specs.Findings.{IsFoundCutOf};
 
 use crate::depths::depth;
-use crate::discard::discard;
 use crate::round::Round;
 use hint_board::HintBoard;
 use metric_cut::{Cut, CutFault, violated_by};
-use net_core::{Copied, Instance, Lengths, List, NoMemory, StateId, Surviving};
+use net_core::{Copied, Instance, Lengths, List, NoMemory, StateId, Surviving, discard};
 use route_law::law::zeros_and_ones_are_priced;
 use separator::{are_narrow, line_of};
 use std::sync::Wait;

@@ -10,7 +10,6 @@
 
 mod beside;
 mod depths;
-mod discard;
 mod hints;
 mod hold;
 mod lending;

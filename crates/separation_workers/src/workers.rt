@@ -9,7 +9,6 @@ ghost use Rattle.separation_workers.specs.Callers.{HasSeenHistory, SeesOn, calle
 ghost use Rattle.separation_workers.specs.inner.Rounds.{AreFound, IsFoundOf, IsInRound, IsStateFound};
 
 use crate::beside::{find_state, find_states};
-use crate::discard::discard;
 use crate::hints::post;
 use crate::hold::Hold;
 use crate::round::{KeptState, Round, StateFound};
@@ -19,7 +18,7 @@ use board_desk::Caller;
 use cut_pool::Board;
 use hint_board::HintBoard;
 use metric_cut::Cut;
-use net_core::{Caps, Instance, List, NoMemory, StateId};
+use net_core::{Caps, Instance, List, NoMemory, StateId, discard};
 use outside_io::{Gate, RoundFigures};
 use plan_types::Spot;
 use separator::flow_router::RouteAnswer;

@@ -3,11 +3,10 @@ ghost use Rattle.plan_terms.specs.Terms.{edit_need};
 ghost use Rattle.board_desk.specs.Turns.{IsAtDesk, IsSameCaller, caller_seen};
 ghost use Rattle.session_run.specs.inner.Turns.{EndsEdit, IsDoneBy};
 
-use crate::discard::discard;
 use crate::setting::Stop;
 use board_desk::Caller;
 use cut_pool::EditAnswer;
-use net_core::Edit;
+use net_core::{Edit, discard};
 use outside_io::Gate;
 use std::sync::Wait;
 

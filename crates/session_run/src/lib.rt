@@ -2,7 +2,6 @@
 #![tactic(auto)]
 
 mod boards;
-mod discard;
 mod edits;
 mod groups;
 mod one_caller;

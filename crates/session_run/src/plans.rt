@@ -7,11 +7,10 @@ ghost use Rattle.planner.specs.SnapshotPlans.{IsSnapshotAnswer, IsSnapshotIn, Po
 ghost use Rattle.session_run.specs.inner.Running.{IsOfSetting, case_made};
 ghost use Rattle.session_run.specs.inner.Turns.{IsOutcomeFor, IsSnapshotHere, NamesDemand, PlansAt, PlansSince};
 
-use crate::discard::discard;
 use crate::setting::Setting;
 use board_desk::Caller;
 use cut_pool::Snapshot;
-use net_core::{Copied, NoMemory};
+use net_core::{Copied, NoMemory, discard};
 use outside_io::Gate;
 use plan_types::Outcome;
 use planner::{PlanAnswer, plan_snapshot};

@@ -7,14 +7,13 @@ ghost use Rattle.session_run.specs.Transcripts.{IsTranscript};
 ghost use Rattle.session_run.specs.inner.Running.{HaveRun, all_own};
 
 use crate::boards::board_for;
-use crate::discard::discard;
 use crate::groups::run_callers;
 use crate::reports::report;
 use crate::setting::{Setting, Stop};
 use board_desk::Caller;
 use cut_pool::Board;
 use hint_board::HintBoard;
-use net_core::{Demands, List, Network, NoMemory, States};
+use net_core::{Demands, List, Network, NoMemory, States, discard};
 use outside_io::Gate;
 use plan_types::{Outcome, Report};
 use session_script::{Act, Command, Script};

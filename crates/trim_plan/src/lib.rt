@@ -13,7 +13,6 @@
 
 mod blocks;
 mod dearest;
-mod discard;
 pub mod law;
 mod lowered;
 mod sparing;

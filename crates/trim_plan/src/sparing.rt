@@ -4,10 +4,9 @@ ghost use Rattle.able_counts.specs.AbleTests.{AreRoutedCounts, IsStopAt, whole_c
 ghost use Rattle.trim_plan.specs.Trimmed.{AreAtMost, module_count, one_less};
 
 use crate::dearest::{Priced, dearest_first};
-use crate::discard::discard;
 use crate::lowered::{Place, module_count, one_less};
 use able_counts::{AbleTest, Stop};
-use net_core::{Counts, Instance, NoMemory};
+use net_core::{Counts, Instance, NoMemory, discard};
 use std::alloc::Global;
 
 /// Takes one module off where the others carry the demands in each state; else says why not, and the counts stay as they are.

@@ -4,11 +4,10 @@ ghost use Rattle.able_counts.specs.AbleTests.{AreRoutedCounts, IsTestOf};
 ghost use Rattle.trim_plan.specs.Trimmed.{AreAtMost, IsRoutedPlan, IsTrimmedBy, IsTrimming};
 
 use crate::blocks::settled_blocks;
-use crate::discard::discard;
 use crate::sparing::spare_modules;
 use able_counts::{AbleTest, Stop};
 use module_choice::cost;
-use net_core::{Copied, Counts, Instance, LinkId, List, Network, NoMemory, States};
+use net_core::{Copied, Counts, Instance, LinkId, List, Network, NoMemory, States, discard};
 use plan_types::{Certificate, Plan};
 use std::alloc::Global;
 

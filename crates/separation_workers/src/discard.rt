@@ -1,2 +1,0 @@
-/// Drops a value of any type. Such a call is much cheaper to prove than a large enum that is dropped at the end of a function.
-pub fn discard<T: Drop>(_value: T) {}
