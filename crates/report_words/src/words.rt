@@ -1,13 +1,13 @@
-ghost use Rattle.std.specs.Prelude.{◌≡◌, ◌≤◌, ◌<◌, ◌^◌, ◌+◌, nat_lt, length, true, Ok, None, IfOk};
+ghost use Rattle.std.specs.Prelude.{◌≡◌, ◌≤◌, ◌<◌, ◌^◌, ◌+◌, true, Ok, IfOk};
 ghost use Rattle.snd_tokens.specs.Terms.{left, amount_of, money_of};
-ghost use Rattle.text_kit.specs.Terms.{ReadsAs, long_name_fault, number_or, expected};
+ghost use Rattle.text_kit.specs.Terms.{ReadsAs, number_or, expected};
 ghost use Rattle.report_words.specs.ReportWords.{amount_at, closing_at, keyword_at, keyword_within, money_at, money_below, name_at, number_at, opening_at, opening_within, room_number_at, this_name, this_name_at, this_number, this_number_at, unknown_name, whole_within, within};
 
 use crate::fault::{ReportKind, ReportRefusal};
 use net_core::{Name, Places};
 use snd_tokens::{Cursor, Next, NumberFault, WholeFault, amount as amount_in, money, whole};
 use std::alloc::Global;
-use text_kit::names::{is_long, named};
+use text_kit::names::{is_long, long_name_fault, named};
 use text_kit::refusal::bad;
 use text_kit::steps::{close, expect, open, placed, word};
 
@@ -154,23 +154,13 @@ pub fn amount(places: Places, text: &mut Cursor) -> Result<u64, ReportRefusal>
     placed(at, amount_of(places, word))
 }
 
-/// What is wrong with a word as a name.
-fn long_fault(word: &[u8]) -> Option<ReportKind>
-    ensures value { result ≡ long_name_fault ReportKind.LimitName word.now }
-    ensures short { result ≡ None → length word.now ≤ 255 }
-{
-    if is_long(word) {
-        return Some(ReportKind::LimitName);
-    }
-    None
-}
-
 /// Takes a name and gives a copy of it. A word of more than 255 bytes is `limit-name`.
 pub fn name(alloc: Global, text: &mut Cursor) -> Result<Name, ReportRefusal>
     ensures { ReadsAs (λ n. n) result (left text.new) (name_at (left text.old)) }
 {
     let (at, word) = word(ReportKind::Token, ReportKind::Ended, text)?;
-    named(alloc, at, word, long_fault(word))
+    let fault = long_name_fault(ReportKind::LimitName, word);
+    named(alloc, at, word, fault)
 }
 
 /// What is wrong with a word as a name that nothing has: `unknown-name`, or `limit-name` if it has more

@@ -1,6 +1,6 @@
-ghost use Rattle.std.specs.Prelude.{◌≡◌, ◌≤◌, None, count_by, length};
+ghost use Rattle.std.specs.Prelude.{◌≡◌, count_by};
 ghost use Rattle.snd_tokens.specs.Terms.{left};
-ghost use Rattle.text_kit.specs.Terms.{ReadsAs, any_name, long_name_fault, word_at};
+ghost use Rattle.text_kit.specs.Terms.{ReadsAs, any_name, word_at};
 ghost use Rattle.session_script.specs.Scripts.{is_plan};
 ghost use Rattle.session_script.specs.ScriptReading.{begun_command, caller_of, need_in_script, verb_after, verb_of};
 
@@ -9,7 +9,7 @@ use crate::script::{Command, Verb};
 use net_core::{Name, Places};
 use snd_tokens::{Cursor, amount, whole};
 use std::alloc::Global;
-use text_kit::names::{is_long, named};
+use text_kit::names::{long_name_fault, named};
 use text_kit::steps::{placed, word};
 
 const CALLER: &[u8] = b"caller";
@@ -124,23 +124,13 @@ pub(crate) fn verb(sofar: &[Command], text: &mut Cursor) -> Result<Verb, ScriptR
     placed(at, verb_after(sofar, word))
 }
 
-/// What is wrong with a word as a name.
-fn name_fault(word: &[u8]) -> Option<ScriptKind>
-    ensures value { result ≡ long_name_fault ScriptKind.LimitName word.now }
-    ensures short { result ≡ None → length word.now ≤ 255 }
-{
-    if is_long(word) {
-        return Some(ScriptKind::LimitName);
-    }
-    None
-}
-
 /// Takes a name.
 pub(crate) fn name(alloc: Global, text: &mut Cursor) -> Result<Name, ScriptRefusal>
     ensures { ReadsAs (λ n. n) result (left text.new) (word_at ScriptKind.Token ScriptKind.Ended (any_name ScriptKind.LimitName) (left text.old)) }
 {
     let (at, word) = word(ScriptKind::Token, ScriptKind::Ended, text)?;
-    named(alloc, at, word, name_fault(word))
+    let fault = long_name_fault(ScriptKind::LimitName, word);
+    named(alloc, at, word, fault)
 }
 
 /// The need of a word, in units of the network.

@@ -2,7 +2,7 @@ ghost use Rattle.std.specs.Prelude.{◌≡◌, ◌≤◌, false, nat_lt, length,
 ghost use Rattle.snd_tokens.specs.Terms.{EndAt};
 ghost use Rattle.net_core.specs.Terms.{is_plain};
 ghost use Rattle.text_kit.specs.Answers.{ReadsAs};
-ghost use Rattle.text_kit.specs.Names.{new_name_fault};
+ghost use Rattle.text_kit.specs.Names.{long_name_fault, new_name_fault};
 ghost use Rattle.text_kit.specs.Reading.{placed, sound};
 
 use crate::refusal::{Refusal, bad};
@@ -18,6 +18,17 @@ pub fn is_long(word: &[u8]) -> bool
     ensures short { result ≡ false → length word.now ≤ 255 }
 {
     word.len() > MAX_NAME
+}
+
+/// What is wrong with a word as a name: that it is too `long`. It takes constant time and no memory.
+pub fn long_name_fault<K: Debug + Drop>(long: K, word: &[u8]) -> Option<K>
+    ensures value { result ≡ long_name_fault long word.now }
+    ensures short { result ≡ None → length word.now ≤ 255 }
+{
+    if is_long(word) {
+        return Some(long);
+    }
+    None
 }
 
 /// What is wrong with a word as a new name, of which there are `most` at most: it is too `long`,
