@@ -19,7 +19,7 @@ use crate::names::Names;
 use crate::node::nodes;
 use crate::paths::paths;
 use crate::skip::skip;
-use net_core::{Demands, List, Name, Network, NoMemory, Places};
+use net_core::{Demands, List, Name, Network, NoMemory, Places, discard};
 use snd_tokens::{Cursor, NumberFault};
 use std::alloc::Global;
 use text_kit::Refusal;
@@ -117,6 +117,20 @@ fn network(
     }
 }
 
+/// The network of nodes and of the links that were read after them, with the demands that were read then.
+fn network_and_demands(
+    alloc: Global,
+    places: Places,
+    nodes: List<Name>,
+    rest: (List<CostedLink>, Demands),
+) -> Result<(Network, Demands), NoMemory>
+    requires { IsNetwork nodes (map (λ l. l.link) rest.0) }
+    ensures { IfOk result (λ r. (parts_of r.0 ≡ parts places nodes rest.0) × (r.1 ≡ rest.1)) }
+{
+    let (links, demands) = rest;
+    Ok((network(alloc, places, nodes, links)?, demands))
+}
+
 /// Takes the sections of demands and of paths, and finds that nothing is after them. The nodes and the links have these names.
 #[tactic(auto, unfolding(crate::specs::Reading::after_links_at))]
 fn after_links(
@@ -130,7 +144,9 @@ fn after_links(
     ensures { ReadsAs (λ demands. demands) result (left text.new) (after_links_at places nodes.now links.now (left text.old)) }
 {
     let (demands, names) = demand_section(alloc, places, nodes, text)?;
-    paths(links, &names, text)?;
+    let rest = paths(links, &names, text);
+    discard(names);
+    rest?;
     Ok(demands)
 }
 
@@ -148,8 +164,9 @@ fn after_nodes(
         × (native_section_at (codes "LINKS") (costed_links_at places nodes.now []) (left text.old) ≡ Ok (r.0, rest))) }
 {
     let (links, names) = link_section(alloc, places, nodes, text)?;
-    let demands = after_links(alloc, places, nodes, &names, text)?;
-    Ok((links, demands))
+    let demands = after_links(alloc, places, nodes, &names, text);
+    discard(names);
+    Ok((links, demands?))
 }
 
 /// Takes all up to the end of the section of nodes. It gives their names for look-ups too.
@@ -177,8 +194,9 @@ fn sections(
     ensures { ReadsAs (λ r. (parts_of r.0, r.1)) result (left text.new) (native_sections_at places (left text.old)) }
 {
     let (nodes, names) = node_section(alloc, text)?;
-    let (links, demands) = after_nodes(alloc, places, &names, text)?;
-    Ok((network(alloc, places, nodes, links)?, demands))
+    let rest = after_nodes(alloc, places, &names, text);
+    discard(names);
+    Ok(network_and_demands(alloc, places, nodes, rest?)?)
 }
 
 /// The whole file, with these places.
