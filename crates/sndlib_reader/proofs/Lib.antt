@@ -1,3 +1,4 @@
+pub mod NotesLaws
 pub mod NamesLaws
 pub mod WordTests
 pub mod Skipped

@@ -1,5 +1,4 @@
-ghost use Rattle.std.specs.Prelude.{◌≡◌, ◌==◌, not, map, IfOk};
-ghost use Rattle.std.specs.List.{list_any};
+ghost use Rattle.std.specs.Prelude.{◌≡◌, map, IfOk};
 ghost use Rattle.sndlib_reader.specs.Spelling.{notes_of};
 
 use net_core::{Link, List, NoMemory, Notes};
@@ -13,36 +12,21 @@ pub struct CostedLink {
     pub routing_cost: u64,
 }
 
-/// Whether pre-installed capacity costs something on some link.
-fn has_fixed_cost(links: &[CostedLink]) -> bool
-    ensures { result ≡ list_any (λ l. not (l.fixed_cost == 0)) links.now }
-{
-    links.iter().any(|l| l.fixed_cost != 0)
-}
-
-/// Whether routing costs something on some link.
-fn has_routing_cost(links: &[CostedLink]) -> bool
-    ensures { result ≡ list_any (λ l. not (l.routing_cost == 0)) links.now }
-{
-    links.iter().any(|l| l.routing_cost != 0)
-}
-
-/// Whether some link has a setup cost.
-fn has_setup_cost(links: &[CostedLink]) -> bool
-    ensures { result ≡ list_any (λ l. not (l.link.setup == 0)) links.now }
-{
-    links.iter().any(|l| l.link.setup != 0)
-}
-
 /// Which costs some of these links have.
 pub(crate) fn notes_of(links: &[CostedLink]) -> Notes
     ensures { result ≡ notes_of links.now }
 {
-    Notes {
-        fixed_cost: has_fixed_cost(links),
-        routing_cost: has_routing_cost(links),
-        setup_cost: has_setup_cost(links),
+    let mut notes = Notes {
+        fixed_cost: false,
+        routing_cost: false,
+        setup_cost: false,
+    };
+    for costed in links {
+        notes.fixed_cost |= costed.fixed_cost != 0;
+        notes.routing_cost |= costed.routing_cost != 0;
+        notes.setup_cost |= costed.link.setup != 0;
     }
+    notes
 }
 
 /// The links without these costs; none is copied.
