@@ -7,7 +7,7 @@ use text_kit::Refusal;
 use text_kit::fault_word::{FaultWord, number_word};
 
 /// What has a greatest number or amount.
-#[derive(Clone, Copy, Debug, PartialEq, Eq)]
+#[derive(Clone, Copy, Debug)]
 pub enum Limited {
     /// A name has at most 255 bytes.
     Name,
@@ -24,7 +24,7 @@ pub enum Limited {
 }
 
 /// What is wrong with a network file.
-#[derive(Clone, Copy, Debug, PartialEq, Eq)]
+#[derive(Clone, Copy, Debug)]
 pub enum ReadKind {
     /// The first line is another.
     Header,
