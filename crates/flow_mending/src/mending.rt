@@ -16,10 +16,9 @@ pub fn bounded(number: u128) -> i128 {
     number.min(MOST) as i128
 }
 
-/// Flows that are mended: what the links have left, below 0 where they have too little, and what is missing of each demand.
+/// What the links have left, below 0 where they have too little, and what is missing of each demand.
 #[derive(Drop)]
-struct Mending {
-    flows: List<Flow>,
+struct Left {
     room: List<i128>,
     missing: List<u128>,
 }
@@ -46,28 +45,31 @@ fn least_room(room: &[i128], path: &[LinkId]) -> i128 {
     least
 }
 
-/// What flows over a denominator leave of the links; a link that the state fails has no room.
-fn room_after(
-    alloc: Global,
-    task: &RouteTask,
-    den: u64,
-    flows: &[Flow],
-) -> Result<List<i128>, NoMemory> {
+/// What a link holds over a denominator; none where the state fails it.
+fn room_of(task: &RouteTask, e: usize, den: u64) -> i128 {
     let nums = task.caps.nums.items();
-    let mut room = List::from_vec(Vec::with_capacity(alloc, nums.len())?);
-    for e in 0..nums.len() {
-        let survives = e < task.graph.net.links().len() && task.graph.has(LinkId(e as u32));
-        let num = if survives { bounded(nums[e]) } else { 0 };
-        room.push(num.wrapping_mul(den as i128))?;
+    if e < nums.len() && task.graph.has(LinkId(e as u32)) {
+        bounded(nums[e]).wrapping_mul(den as i128)
+    } else {
+        0
     }
-    for f in flows {
-        give_back(
-            room.items_mut(),
-            f.path.items(),
-            0i128.wrapping_sub(bounded(f.num)),
-        );
+}
+
+/// What the links hold over a denominator.
+fn rooms_of(alloc: Global, task: &RouteTask, den: u64) -> Result<List<i128>, NoMemory> {
+    let links = task.caps.nums.len();
+    let mut room = List::from_vec(Vec::with_capacity(alloc, links)?);
+    for e in 0..links {
+        room.push(room_of(task, e, den))?;
     }
     Ok(room)
+}
+
+/// Takes flows from the room of the links of their paths.
+fn take_flows(room: &mut [i128], flows: &[Flow]) {
+    for f in flows {
+        give_back(room, f.path.items(), 0i128.wrapping_sub(bounded(f.num)));
+    }
 }
 
 /// Adds an amount to what is missing of a demand.
@@ -122,55 +124,41 @@ fn open(arcs: &mut [Arc], room: &[i128]) {
     }
 }
 
+/// Takes as much of what is missing of a demand as fits along a path: how much that is.
+fn take_along(left: &mut Left, path: &[LinkId], at: usize) -> u128 {
+    let missing = left.missing.items_mut();
+    if at >= missing.len() {
+        return 0;
+    }
+    let room = left.room.items_mut();
+    let num = least_room(room, path).unsigned_abs().min(missing[at]);
+    missing[at] -= num;
+    give_back(room, path, 0i128.wrapping_sub(bounded(num)));
+    num
+}
+
 /// Sends as much of a demand as fits along a path of fewest links with room; `false` where there is none.
 fn send(
     alloc: Global,
-    mending: &mut Mending,
+    flows: &mut List<Flow>,
+    left: &mut Left,
     reach: &mut Reach,
     d: &Demand,
     at: usize,
 ) -> Result<bool, NoMemory> {
-    open(reach.arcs_mut(), mending.room.items());
-    reach.search(d.to, Some(d.from));
-    let missing = mending.missing.items_mut();
-    let Some(path) = reach.path(alloc, d.from)? else {
+    let Ok(demand) = u32::try_from(at) else {
         return Ok(false);
     };
-    if at >= missing.len() || at >= 1 << 32 {
-        return Ok(false);
-    }
-    let num = least_room(mending.room.items(), path.items())
-        .unsigned_abs()
-        .min(missing[at]);
-    missing[at] -= num;
-    give_back(
-        mending.room.items_mut(),
-        path.items(),
-        0i128.wrapping_sub(bounded(num)),
-    );
-    mending.flows.push(Flow {
-        demand: at as u32,
-        path,
-        num,
-    })?;
-    Ok(true)
-}
-
-/// Sends what is missing, of the demands of which most is missing first; `false` where some isn't sent.
-fn send_missing(alloc: Global, task: &RouteTask, mending: &mut Mending) -> Result<bool, NoMemory> {
-    let demands = task.demands.items();
-    let mut reach = Reach::new(alloc, &task.graph)?;
-    for _ in 0..demands.len() {
-        let at = most_missing(mending.missing.items());
-        if at >= demands.len() || !is_missing(mending.missing.items(), at) {
-            return Ok(true);
+    open(reach.arcs_mut(), left.room.items());
+    reach.search(d.to, Some(d.from));
+    match reach.path(alloc, d.from)? {
+        Some(path) => {
+            let num = take_along(left, path.items(), at);
+            flows.push(Flow { demand, path, num })?;
+            Ok(true)
         }
-        if !send(alloc, mending, &mut reach, &demands[at], at)? {
-            return Ok(false);
-        }
+        None => Ok(false),
     }
-    let missing = mending.missing.items();
-    Ok(!is_missing(missing, most_missing(missing)))
 }
 
 /// Whether something is missing of a demand.
@@ -178,15 +166,62 @@ fn is_missing(missing: &[u128], at: usize) -> bool {
     at < missing.len() && missing[at] > 0
 }
 
-/// The flows that carry something.
-fn not_empty(alloc: Global, flows: List<Flow>) -> Result<List<Flow>, NoMemory> {
-    let mut kept = List::from_vec(Vec::with_capacity(alloc, flows.len())?);
-    for flow in flows.into_vec() {
-        if flow.num > 0 {
-            kept.push(flow)?;
+/// Sends what is missing, of the demands of which most is missing first; `false` where some isn't sent.
+fn send_in_turn(
+    alloc: Global,
+    demands: &[Demand],
+    flows: &mut List<Flow>,
+    left: &mut Left,
+    reach: &mut Reach,
+) -> Result<bool, NoMemory> {
+    for _ in 0..demands.len() {
+        let at = most_missing(left.missing.items());
+        if at >= demands.len() || !is_missing(left.missing.items(), at) {
+            return Ok(true);
+        }
+        if !send(alloc, flows, left, reach, &demands[at], at)? {
+            return Ok(false);
         }
     }
-    Ok(kept)
+    let missing = left.missing.items();
+    Ok(!is_missing(missing, most_missing(missing)))
+}
+
+/// Sends what is missing along other paths; `false` where some isn't sent.
+fn send_missing(
+    alloc: Global,
+    task: &RouteTask,
+    flows: &mut List<Flow>,
+    left: &mut Left,
+) -> Result<bool, NoMemory> {
+    let mut reach = Reach::new(alloc, &task.graph)?;
+    send_in_turn(alloc, task.demands.items(), flows, left, &mut reach)
+}
+
+/// Takes away of flows over a denominator what doesn't fit, and sends it along other paths; `false` where some isn't sent.
+fn mend(
+    alloc: Global,
+    task: &RouteTask,
+    den: u64,
+    flows: &mut List<Flow>,
+) -> Result<bool, NoMemory> {
+    let room = rooms_of(alloc, task, den)?;
+    let missing = List::filled(alloc, 0, task.demands.len())?;
+    let mut left = Left { room, missing };
+    take_flows(left.room.items_mut(), flows.items());
+    lessen_all(
+        flows.items_mut(),
+        left.room.items_mut(),
+        left.missing.items_mut(),
+    );
+    send_missing(alloc, task, flows, &mut left)
+}
+
+/// The flows that carry something.
+fn not_empty(flows: List<Flow>) -> List<Flow> {
+    let mut kept = flows.into_vec();
+    kept.retain(|flow| flow.num > 0);
+    List::from_vec(kept)
 }
 
 /// A routing that carries a task's demands within its capacities and keeps most flows of an earlier one, of the task's state or of another:
@@ -203,30 +238,14 @@ pub fn mended(
 ) -> Result<Option<Routing>, NoMemory>
     ensures { IfOk result (λ o. IfSome o (IsRouted (graph_of task.now.graph) task.now.demands.now task.now.caps.now)) }
 {
-    if earlier.den == 0 {
+    let den = earlier.den;
+    if den == 0 {
         return Ok(None);
     }
-    let flows = earlier.flows.copy()?;
-    let room = room_after(alloc, task, earlier.den, flows.items())?;
-    let missing = List::filled(alloc, 0, task.demands.len())?;
-    let mut mending = Mending {
-        flows,
-        room,
-        missing,
-    };
-    lessen_all(
-        mending.flows.items_mut(),
-        mending.room.items_mut(),
-        mending.missing.items_mut(),
-    );
-    if !send_missing(alloc, task, &mut mending)? {
+    let mut flows = earlier.flows.copy()?;
+    if !mend(alloc, task, den, &mut flows)? {
         return Ok(None);
     }
-    let Mending { flows, .. } = mending;
-    let flows = not_empty(alloc, flows)?;
-    let routing = Routing {
-        den: earlier.den,
-        flows,
-    };
-    if_routed(alloc, task, lowest(routing))
+    let flows = not_empty(flows);
+    if_routed(alloc, task, lowest(Routing { den, flows }))
 }

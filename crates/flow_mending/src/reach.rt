@@ -105,6 +105,23 @@ fn put_arcs(arcs: &mut [Arc], ends: &mut [usize], graph: &Surviving, survives: &
     }
 }
 
+/// The arcs of the links that survive, each of length 1. `ends` says where those of each node begin, and then where they end.
+fn arcs_of(
+    alloc: Global,
+    graph: &Surviving,
+    survives: &[bool],
+    ends: &mut [usize],
+) -> Result<List<Arc>, NoMemory> {
+    let none = Arc {
+        link: LinkId(0),
+        to: 0,
+        length: FAR,
+    };
+    let mut arcs = List::filled(alloc, none, 2 * graph.net.links().len())?;
+    put_arcs(arcs.items_mut(), ends, graph, survives);
+    Ok(arcs)
+}
+
 /// Where the arcs of each node begin.
 fn starts(
     alloc: Global,
@@ -228,26 +245,23 @@ fn way_from(alloc: Global, places: &[Place], from: usize) -> Result<Option<Path>
     Ok(Some(path))
 }
 
+/// A search over the links that survive.
+fn reach_over(alloc: Global, graph: &Surviving, survives: &[bool]) -> Result<Reach, NoMemory> {
+    let nodes = graph.net.nodes().len();
+    let mut ends = starts(alloc, nodes, graph.net.links().items(), survives)?;
+    Ok(Reach {
+        arcs: arcs_of(alloc, graph, survives, ends.items_mut())?,
+        ends,
+        places: List::filled(alloc, unreached(), nodes)?,
+        edge: List::filled(alloc, 0, nodes)?,
+    })
+}
+
 impl Reach {
     /// Lists the arcs, each of length 1.
     pub fn new(alloc: Global, graph: &Surviving) -> Result<Reach, NoMemory> {
-        let nodes = graph.net.nodes().len();
-        let links = graph.net.links().items();
         let survives = surviving(alloc, graph)?;
-        let mut ends = starts(alloc, nodes, links, survives.items())?;
-        let none = Arc {
-            link: LinkId(0),
-            to: 0,
-            length: FAR,
-        };
-        let mut arcs = List::filled(alloc, none, 2 * links.len())?;
-        put_arcs(arcs.items_mut(), ends.items_mut(), graph, survives.items());
-        Ok(Reach {
-            arcs,
-            ends,
-            places: List::filled(alloc, unreached(), nodes)?,
-            edge: List::filled(alloc, 0, nodes)?,
-        })
+        reach_over(alloc, graph, survives.items())
     }
 
     /// The arcs, whose lengths may be changed.
