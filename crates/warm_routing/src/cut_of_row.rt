@@ -23,15 +23,20 @@ fn route_column(column: &Column) -> Result<RouteColumn, NoMemory> {
     }
 }
 
+/// A copy of a row, without its value.
+fn path_row(row: &BasisRow) -> Result<PathRow, NoMemory> {
+    Ok(PathRow {
+        column: route_column(&row.column)?,
+        nums: row.nums.copy()?,
+        den: row.den,
+    })
+}
+
 /// A copy of the rows, without their values.
 fn path_rows(alloc: Global, rows: &[BasisRow]) -> Result<List<PathRow>, NoMemory> {
     let mut copies = List::from_vec(Vec::with_capacity(alloc, rows.len())?);
     for row in rows {
-        copies.push(PathRow {
-            column: route_column(&row.column)?,
-            nums: row.nums.copy()?,
-            den: row.den,
-        })?;
+        copies.push(path_row(row)?)?;
     }
     Ok(copies)
 }

@@ -8,7 +8,7 @@ use crate::answer::WarmAnswer;
 use crate::cut_of_row::cut_at;
 use crate::entering::{entering_path, entering_slack};
 use crate::searching::{Waiting, collect, given, set_lengths};
-use crate::start::{bounds_of, first_basis, needs_of};
+use crate::start::{Amounts, amounts_of, first_basis};
 use flow_mending::flow_router::lowest;
 use flow_mending::if_routed;
 use flow_mending::reach::Reach;
@@ -17,7 +17,7 @@ use net_core::{List, NoMemory, RouteColumn, RouteTask, Routing, StateId, Survivi
 use node_sets::threshold_set;
 use std::alloc::Global;
 use warm_basis::{
-    Aim, Basis, Entrant, Share, Shortage, aimed, clear, enter, is_short, no_places, routing_of,
+    Aim, Basis, BasisRow, Entrant, Share, Shortage, aimed, clear, enter, is_short, routing_of,
     set_weights, shares_of, short_in_all, shortage_of,
 };
 
@@ -31,11 +31,8 @@ pub struct WarmRouter {
 /// What one question is of, and the paths that may enter.
 #[derive(Drop)]
 struct Question {
-    bounds: List<i128>,
-    needs: List<i128>,
+    amounts: Amounts,
     waiting: List<Waiting>,
-    /// Room for the places of the demands' shares.
-    places: List<usize>,
     reach: Reach,
     /// Whether one row counts alone, and searches take all links.
     alone: bool,
@@ -84,11 +81,11 @@ fn search(
 {
     let slopes = shortage.slopes.items();
     let keys = basis.keys.items();
-    let needs = question.needs.items();
+    let needs = question.amounts.needs.items();
     let reach = &mut question.reach;
     let found = collect(alloc, task, shortage, keys, shares, needs, reach)?;
     question.waiting = found.waiting;
-    if !question.alone && given(slopes, question.bounds.items()) < found.asked {
+    if !question.alone && given(slopes, question.amounts.bounds.items()) < found.asked {
         if let Some(cut) = near_set(alloc, task, slopes)? {
             return Ok(Choice::Done(WarmAnswer::Violated(cut)));
         }
@@ -115,7 +112,7 @@ fn choose(
         return Ok(Choice::Enters(entrant));
     }
     let keys = basis.keys.items();
-    let needs = question.needs.items();
+    let needs = question.amounts.needs.items();
     if let Some(entrant) = entering_path(shortage, keys, shares, needs, &mut question.waiting) {
         return Ok(Choice::Enters(entrant));
     }
@@ -186,6 +183,32 @@ fn end_search(
     }
 }
 
+/// A turn, or an answer, by how what is short depends on the capacities.
+fn lessen(
+    alloc: Global,
+    task: &RouteTask,
+    basis: &mut Basis,
+    question: &mut Question,
+    shares: &mut [Share],
+    shortage: &Shortage,
+) -> Result<Step, NoMemory>
+    requires scale { 0 < task.now.caps.now.scale }
+    ensures { IfOk result (IsSoundStep (graph_of task.now.graph) task.now.demands.now task.now.caps.now) }
+{
+    match choose(alloc, task, basis, shortage, shares, question)? {
+        Choice::Enters(entrant) => {
+            let (needs, alone) = (question.amounts.needs.items(), question.alone);
+            if enter(alloc, basis, shares, needs, entrant, shortage.den, alone)? {
+                Ok(Step::Turned)
+            } else {
+                Ok(Step::GivenUp)
+            }
+        }
+        Choice::Done(answer) => Ok(Step::Done(answer)),
+        Choice::Nothing => end_search(alloc, task, basis, question),
+    }
+}
+
 /// A turn, or an answer, by what the rows that count are short of.
 fn go_on(
     alloc: Global,
@@ -197,21 +220,31 @@ fn go_on(
     requires scale { 0 < task.now.caps.now.scale }
     ensures { IfOk result (IsSoundStep (graph_of task.now.graph) task.now.demands.now task.now.caps.now) }
 {
-    let links = question.bounds.len();
-    let Some(shortage) = shortage_of(alloc, basis.rows.items(), links)? else {
-        return Ok(Step::GivenUp);
-    };
-    match choose(alloc, task, basis, &shortage, shares, question)? {
-        Choice::Enters(entrant) => {
-            let (needs, alone) = (question.needs.items(), question.alone);
-            if enter(alloc, basis, shares, needs, entrant, shortage.den, alone)? {
-                Ok(Step::Turned)
-            } else {
-                Ok(Step::GivenUp)
-            }
-        }
-        Choice::Done(answer) => Ok(Step::Done(answer)),
-        Choice::Nothing => end_search(alloc, task, basis, question),
+    let links = question.amounts.bounds.len();
+    match shortage_of(alloc, basis.rows.items(), links)? {
+        Some(shortage) => lessen(alloc, task, basis, question, shares, &shortage),
+        None => Ok(Step::GivenUp),
+    }
+}
+
+/// One step where the keys carry these shares.
+fn advance_by(
+    alloc: Global,
+    task: &RouteTask,
+    basis: &mut Basis,
+    question: &mut Question,
+    shares: &mut [Share],
+) -> Result<Step, NoMemory>
+    requires scale { 0 < task.now.caps.now.scale }
+    ensures { IfOk result (IsSoundStep (graph_of task.now.graph) task.now.demands.now task.now.caps.now) }
+{
+    if !is_short(basis.rows.items(), shares) {
+        return routed(alloc, task, basis, shares, question.amounts.needs.items());
+    }
+    match set_weights(alloc, basis, shares, question.alone)? {
+        Aim::Set => go_on(alloc, task, basis, question, shares),
+        Aim::Exchanged => Ok(Step::Turned),
+        Aim::Wide => Ok(Step::GivenUp),
     }
 }
 
@@ -225,19 +258,45 @@ fn advance(
     requires scale { 0 < task.now.caps.now.scale }
     ensures { IfOk result (IsSoundStep (graph_of task.now.graph) task.now.demands.now task.now.caps.now) }
 {
-    let needs = question.needs.items();
-    let places = question.places.items_mut();
-    let Some(mut shares) = shares_of(alloc, basis.rows.items_mut(), needs, places)? else {
-        return Ok(Step::GivenUp);
-    };
-    let shares = shares.items_mut();
-    if !is_short(basis.rows.items(), shares) {
-        return routed(alloc, task, basis, shares, needs);
+    let rows = basis.rows.items_mut();
+    let Amounts { needs, places, .. } = &mut question.amounts;
+    match shares_of(alloc, rows, needs.items(), places.items_mut())? {
+        Some(mut shares) => advance_by(alloc, task, basis, question, shares.items_mut()),
+        None => Ok(Step::GivenUp),
     }
-    match set_weights(alloc, basis, shares, question.alone)? {
-        Aim::Set => go_on(alloc, task, basis, question, shares),
-        Aim::Exchanged => Ok(Step::Turned),
-        Aim::Wide => Ok(Step::GivenUp),
+}
+
+/// One step after another, up to an answer; `None` where it isn't found in so many.
+fn answer(
+    alloc: Global,
+    task: &RouteTask,
+    basis: &mut Basis,
+    question: &mut Question,
+    turns: u32,
+) -> Result<Option<WarmAnswer>, NoMemory>
+    requires scale { 0 < task.now.caps.now.scale }
+    ensures { IfOk result (λ o. IfSome o (IsWarmAnswer (graph_of task.now.graph) task.now.demands.now task.now.caps.now)) }
+{
+    for _ in 0..turns {
+        match advance(alloc, task, basis, question)? {
+            Step::Turned => {}
+            Step::Done(answer) => return Ok(Some(answer)),
+            Step::GivenUp => return Ok(None),
+        }
+    }
+    Ok(None)
+}
+
+/// How much is short of what the demands need; `None` where a number is too wide.
+fn short_at(
+    alloc: Global,
+    rows: &mut [BasisRow],
+    amounts: &mut Amounts,
+) -> Result<Option<u128>, NoMemory> {
+    let Amounts { needs, places, .. } = amounts;
+    match shares_of(alloc, rows, needs.items(), places.items_mut())? {
+        Some(shares) => Ok(Some(short_in_all(rows, shares.items()))),
+        None => Ok(None),
     }
 }
 
@@ -269,21 +328,32 @@ impl WarmRouter {
             && self.basis.rows.len() == task.graph.net.links().len()
     }
 
+    /// Sets what the columns carry at a task's capacities and needs, which it gives back.
+    fn set_values(&mut self, task: &RouteTask) -> Result<Amounts, NoMemory> {
+        let amounts = amounts_of(self.alloc, task)?;
+        let (bounds, needs) = (amounts.bounds.items(), amounts.needs.items());
+        self.basis.set_values(self.alloc, bounds, needs)?;
+        Ok(amounts)
+    }
+
     /// How much is short at these capacities while the basis is left as it is, with 20 bits after the point; `None` where it has another
     /// shape than the network and the demands, or a number is too wide.
     fn short(&mut self, task: &RouteTask) -> Result<Option<u128>, NoMemory> {
         if !self.fits(task) {
             return Ok(None);
         }
-        let bounds = bounds_of(self.alloc, task)?;
-        let needs = needs_of(self.alloc, task)?;
-        self.basis
-            .set_values(self.alloc, bounds.items(), needs.items())?;
-        let rows = self.basis.rows.items_mut();
-        let mut places = no_places(self.alloc, needs.items())?;
-        match shares_of(self.alloc, rows, needs.items(), places.items_mut())? {
-            Some(shares) => Ok(Some(short_in_all(rows, shares.items()))),
-            None => Ok(None),
+        let mut amounts = self.set_values(task)?;
+        short_at(self.alloc, self.basis.rows.items_mut(), &mut amounts)
+    }
+
+    /// Whether less is short with the other router's basis at these capacities than with its own, or its own doesn't say how much.
+    fn is_farther(&mut self, other: &mut WarmRouter, task: &RouteTask) -> Result<bool, NoMemory> {
+        match other.short(task)? {
+            Some(short) => match self.short(task)? {
+                Some(own) => Ok(short < own),
+                None => Ok(true),
+            },
+            None => Ok(false),
         }
     }
 
@@ -291,33 +361,21 @@ impl WarmRouter {
     ///
     /// It takes time in the square of the links, and in the links of the paths.
     pub fn take_nearer(&mut self, mut other: WarmRouter, task: &RouteTask) -> Result<(), NoMemory> {
-        let Some(short) = other.short(task)? else {
-            return Ok(());
-        };
-        match self.short(task)? {
-            Some(own) if own <= short => {}
-            _ => self.basis = other.basis,
+        if self.is_farther(&mut other, task)? {
+            *self = other;
         }
         Ok(())
     }
 
     /// Begins anew where the basis has another shape than the network and the demands.
     fn prepare(&mut self, task: &RouteTask) -> Result<Question, NoMemory> {
-        let mut reach = Reach::new(self.alloc, &task.graph)?;
         if !self.fits(task) {
-            self.basis = first_basis(self.alloc, task, &mut reach)?;
+            self.basis = first_basis(self.alloc, task)?;
         }
-        let bounds = bounds_of(self.alloc, task)?;
-        let needs = needs_of(self.alloc, task)?;
-        self.basis
-            .set_values(self.alloc, bounds.items(), needs.items())?;
-        let places = no_places(self.alloc, needs.items())?;
         Ok(Question {
-            bounds,
-            needs,
+            amounts: self.set_values(task)?,
             waiting: List::new(self.alloc),
-            places,
-            reach,
+            reach: Reach::new(self.alloc, &task.graph)?,
             alone: false,
         })
     }
@@ -332,14 +390,7 @@ impl WarmRouter {
         ensures { IfOk result (λ o. IfSome o (IsWarmAnswer (graph_of task.now.graph) task.now.demands.now task.now.caps.now)) }
     {
         let mut question = self.prepare(task)?;
-        for _ in 0..turns {
-            match advance(self.alloc, task, &mut self.basis, &mut question)? {
-                Step::Turned => {}
-                Step::Done(answer) => return Ok(Some(answer)),
-                Step::GivenUp => return Ok(None),
-            }
-        }
-        Ok(None)
+        answer(self.alloc, task, &mut self.basis, &mut question, turns)
     }
 
     /// The paths of the basis, as columns that a routing program may begin with. It copies each of them. It takes time and memory in their links.

@@ -1,7 +1,7 @@
 ghost use Rattle.std.specs.Prelude.{◌≡◌, length};
 
 use flow_mending::reach::{Arc, FAR, Reach};
-use net_core::{List, NoMemory, NodeId, Path, RouteTask};
+use net_core::{Demand, List, NoMemory, NodeId, Path, RouteTask};
 use std::alloc::Global;
 use warm_basis::{Share, Shortage, along, need_of};
 
@@ -78,6 +78,15 @@ fn set_arcs(arcs: &mut [Arc], slopes: &[i64]) {
     }
 }
 
+/// Takes an amount from the prices of the keys that count as short.
+fn lower_short(prices: &mut [i64], shares: &[Share], amount: i64) {
+    for share in shares {
+        if share.counts && share.demand < prices.len() {
+            prices[share.demand] = prices[share.demand].wrapping_sub(amount);
+        }
+    }
+}
+
 /// What each key counts under the slopes, less than that by `den` where it is short.
 fn prices_of(
     alloc: Global,
@@ -89,12 +98,7 @@ fn prices_of(
     for key in keys {
         prices.push(along(shortage.slopes.items(), key.items()))?;
     }
-    let all = prices.items_mut();
-    for share in shares {
-        if share.counts && share.demand < all.len() {
-            all[share.demand] = all[share.demand].wrapping_sub(shortage.den);
-        }
-    }
+    lower_short(prices.items_mut(), shares, shortage.den);
     Ok(prices)
 }
 
@@ -109,27 +113,47 @@ fn count_at(ends: &mut [i64], node: NodeId, by: i64) {
 /// The demands for which there may be a cheaper path than the key.
 fn asks_of(
     alloc: Global,
-    task: &RouteTask,
+    demands: &[Demand],
     prices: &[i64],
     needs: &[i128],
-) -> Result<Asking, NoMemory> {
-    let demands = task.demands.items();
+) -> Result<List<Ask>, NoMemory> {
     let mut asks = List::from_vec(Vec::with_capacity(alloc, demands.len())?);
-    let mut ends = List::filled(alloc, 0i64, task.graph.net.nodes().len())?;
     for k in 0..demands.len() {
-        let (from, to, need) = (demands[k].from, demands[k].to, need_of(needs, k));
+        let need = need_of(needs, k);
         if k < prices.len() && prices[k] > 0 && need > 0 {
             asks.push(Ask {
                 demand: k,
-                from,
-                to,
+                from: demands[k].from,
+                to: demands[k].to,
                 need,
                 price: prices[k],
             })?;
-            count_at(ends.items_mut(), from, 1);
-            count_at(ends.items_mut(), to, 1);
         }
     }
+    Ok(asks)
+}
+
+/// Counts at each node how many demands end there.
+fn count_ends(ends: &mut [i64], asks: &[Ask]) {
+    for ask in asks {
+        count_at(ends, ask.from, 1);
+        count_at(ends, ask.to, 1);
+    }
+}
+
+/// What is to be asked under the slopes: all demands for which there may be a cheaper path than the key.
+fn asking_of(
+    alloc: Global,
+    task: &RouteTask,
+    shortage: &Shortage,
+    keys: &[Path],
+    shares: &[Share],
+    needs: &[i128],
+) -> Result<Asking, NoMemory> {
+    let prices = prices_of(alloc, shortage, keys, shares)?;
+    let asks = asks_of(alloc, task.demands.items(), prices.items(), needs)?;
+    let mut ends = List::filled(alloc, 0i64, task.graph.net.nodes().len())?;
+    count_ends(ends.items_mut(), asks.items());
     let count = asks.len();
     Ok(Asking { asks, count, ends })
 }
@@ -245,6 +269,23 @@ fn ask_at(
     Ok(())
 }
 
+/// Asks all demands, by a search from one node after another, at which most of those end that are left.
+fn ask_all(
+    alloc: Global,
+    reach: &mut Reach,
+    asking: &mut Asking,
+    found: &mut Found,
+) -> Result<(), NoMemory> {
+    for _ in 0..asking.ends.len() {
+        let Some(root) = busiest(asking.ends.items()) else {
+            return Ok(());
+        };
+        reach.search(root, None);
+        ask_at(alloc, reach, root, asking, found)?;
+    }
+    Ok(())
+}
+
 /// The paths that take most off what is short of those that are cheaper than the keys of their demands, under slopes none of which is
 /// below 0. It takes a search from each of some nodes, at which all demands end for which there may be such a path.
 pub(crate) fn collect(
@@ -256,20 +297,13 @@ pub(crate) fn collect(
     needs: &[i128],
     reach: &mut Reach,
 ) -> Result<Found, NoMemory> {
-    let prices = prices_of(alloc, shortage, keys, shares)?;
-    let mut asking = asks_of(alloc, task, prices.items(), needs)?;
+    let mut asking = asking_of(alloc, task, shortage, keys, shares, needs)?;
     set_arcs(reach.arcs_mut(), shortage.slopes.items());
     let mut found = Found {
-        waiting: List::from_vec(Vec::with_capacity(alloc, MOST)?),
+        waiting: List::new(alloc),
         least: 0,
         asked: 0,
     };
-    for _ in 0..task.graph.net.nodes().len() {
-        let Some(root) = busiest(asking.ends.items()) else {
-            return Ok(found);
-        };
-        reach.search(root, None);
-        ask_at(alloc, reach, root, &mut asking, &mut found)?;
-    }
+    ask_all(alloc, reach, &mut asking, &mut found)?;
     Ok(found)
 }

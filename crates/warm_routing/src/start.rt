@@ -2,10 +2,19 @@ use flow_mending::bounded;
 use flow_mending::reach::Reach;
 use net_core::{Demand, LinkId, List, NoMemory, NodeId, Path, RouteTask};
 use std::alloc::Global;
-use warm_basis::Basis;
+use warm_basis::{Basis, no_places};
+
+/// What the links hold and the demands need.
+#[derive(Drop)]
+pub(crate) struct Amounts {
+    pub bounds: List<i128>,
+    pub needs: List<i128>,
+    /// Room for the places of the demands' shares.
+    pub places: List<usize>,
+}
 
 /// The capacity of each link, 0 where the state fails it.
-pub(crate) fn bounds_of(alloc: Global, task: &RouteTask) -> Result<List<i128>, NoMemory> {
+fn bounds_of(alloc: Global, task: &RouteTask) -> Result<List<i128>, NoMemory> {
     let nums = task.caps.nums.items();
     let mut bounds = List::from_vec(Vec::with_capacity(alloc, nums.len())?);
     for e in 0..nums.len() {
@@ -16,13 +25,23 @@ pub(crate) fn bounds_of(alloc: Global, task: &RouteTask) -> Result<List<i128>, N
 }
 
 /// What each demand needs over the scale.
-pub(crate) fn needs_of(alloc: Global, task: &RouteTask) -> Result<List<i128>, NoMemory> {
+fn needs_of(alloc: Global, task: &RouteTask) -> Result<List<i128>, NoMemory> {
     let demands = task.demands.items();
     let mut needs = List::from_vec(Vec::with_capacity(alloc, demands.len())?);
     for d in demands {
         needs.push(bounded(d.need as u128 * task.caps.scale as u128))?;
     }
     Ok(needs)
+}
+
+/// What the links hold and the demands need in a task.
+pub(crate) fn amounts_of(alloc: Global, task: &RouteTask) -> Result<Amounts, NoMemory> {
+    let needs = needs_of(alloc, task)?;
+    Ok(Amounts {
+        bounds: bounds_of(alloc, task)?,
+        places: no_places(alloc, needs.items())?,
+        needs,
+    })
 }
 
 /// Empty paths.
@@ -68,11 +87,8 @@ fn first_keys(alloc: Global, task: &RouteTask, reach: &mut Reach) -> Result<List
 }
 
 /// Keys of fewest links, and the slacks of the links.
-pub(crate) fn first_basis(
-    alloc: Global,
-    task: &RouteTask,
-    reach: &mut Reach,
-) -> Result<Basis, NoMemory> {
-    let keys = first_keys(alloc, task, reach)?;
+pub(crate) fn first_basis(alloc: Global, task: &RouteTask) -> Result<Basis, NoMemory> {
+    let mut reach = Reach::new(alloc, &task.graph)?;
+    let keys = first_keys(alloc, task, &mut reach)?;
     Basis::of_slacks(alloc, keys, task.graph.net.links().len())
 }
