@@ -1,5 +1,5 @@
 -- the parts of table lines
-use Rattle.std.proofs.Common.{◌≡◌, ℕ, zero, suc, ◌+◌, ◌-◌, ◌<◌, ◌≤◌, ⊎_elim, ◌↔◌, Bool, true, false, add-one, ne_eqb, List, [], ◌∷◌, drop, length, min, slice_index, zip, refl, ap, subst, arith}
+use Rattle.std.proofs.Common.{◌≡◌, ℕ, zero, suc, ◌+◌, ◌<◌, ◌≤◌, ⊎_elim, ◌↔◌, Bool, true, false, add-one, ne_eqb, List, [], ◌∷◌, drop, length, min, slice_index, zip, refl, ap, subst, arith}
 use Rattle.net_core.proofs.Library.{both_ways, cases_lt}
 use Rattle.cover_table.specs.CoverWeights.{CoversNeed}
 use Rattle.plan_terms.specs.Terms.{Case, Link}

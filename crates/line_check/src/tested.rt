@@ -1,7 +1,7 @@
-ghost use Rattle.std.specs.Prelude.{◌≡◌, ◌↔◌, true, List, All, IfOk, IsTrue, MatchOption};
+ghost use Rattle.std.specs.Prelude.{◌≡◌, ◌↔◌, ◌++◌, true, List, [], All, IfOk, IsTrue, MatchOption, OnOk, map};
 ghost use Rattle.std.proofs.Common.{inl, inr};
 ghost use Rattle.plan_terms.specs.Terms.{case_of};
-ghost use Rattle.line_check.specs.Lines.{sources_of};
+ghost use Rattle.line_check.specs.Lines.{Source, sources_of};
 ghost use Rattle.line_check.specs.declared.line.Line.TheVariants.{Divided, Table};
 ghost use Rattle.line_check.specs.declared.line.TableKind.TheVariants.{Plain, Failing};
 ghost use Rattle.line_check.specs.declared.tested.Tested.{Tested};
@@ -197,6 +197,40 @@ pub fn tested_line(
     }
 }
 
+/// Tests cuts, and puts their tests into a list that has none yet.
+fn add_cuts(
+    alloc: Global,
+    instance: &Instance,
+    cuts: &[CutLine],
+    tested: &mut List<Tested>,
+) -> Result<(), NoMemory>
+    requires { tested.old ≡ [] }
+    ensures { OnOk result (AreTested (case_of instance.now) (map inl cuts.now) tested.new) }
+{
+    for cut in cuts {
+        let test = tested_cut(alloc, instance, cut)?;
+        tested.push(test)?;
+    }
+    Ok(())
+}
+
+/// Tests further lines by the tests before them, and puts their tests last.
+fn add_lines(
+    alloc: Global,
+    instance: &Instance,
+    lines: &[Line],
+    tested: &mut List<Tested>,
+) -> Result<(), NoMemory>
+    ensures { OnOk result ((first : List Source) → AreTested (case_of instance.now) first tested.old
+        → AreTested (case_of instance.now) (first ++ map inr lines.now) tested.new) }
+{
+    for line in lines {
+        let test = tested_line(alloc, instance, tested.items(), line)?;
+        tested.push(test)?;
+    }
+    Ok(())
+}
+
 /// All cuts, and then all further lines, tested one by one. It takes the time and the memory of each of the tests.
 pub fn tested_lines(
     alloc: Global,
@@ -207,12 +241,7 @@ pub fn tested_lines(
     ensures { IfOk result (AreTested (case_of instance.now) (sources_of cuts.now lines.now)) }
 {
     let mut tested = List::new(alloc);
-    for cut in cuts {
-        tested.push(tested_cut(alloc, instance, cut)?)?;
-    }
-    for line in lines {
-        let next = tested_line(alloc, instance, tested.items(), line)?;
-        tested.push(next)?;
-    }
+    add_cuts(alloc, instance, cuts, &mut tested)?;
+    add_lines(alloc, instance, lines, &mut tested)?;
     Ok(tested)
 }
