@@ -1,5 +1,5 @@
 -- what is answered of the states, one after another
-use Rattle.std.proofs.Common.{◌≡◌, ◌≢◌, ◌∙◌, ℕ, ◌+◌, ◌*◌, ◌<◌, ◌≤◌, ◌⊎◌, inl, inr, ⊎_elim, List, [], ◌∷◌, ◌++◌, All, AllPairs, Contains, Some, drop, get_or, length, slice_get, sym, ap, subst, arith, sum_by, zip, append-nil, length-append}
+use Rattle.std.proofs.Common.{◌≡◌, ◌≢◌, ◌∙◌, ℕ, ◌+◌, ◌*◌, ◌<◌, ◌≤◌, ◌⊎◌, inl, inr, ⊎_elim, List, [], ◌∷◌, ◌++◌, All, AllPairs, Contains, None, Some, drop, get_or, length, slice_get, refl, sym, ap, subst, arith, sum_by, zip, append-nil, length-append}
 use Rattle.net_core.proofs.Library.{drop-append-le, All-append, All-cons, All-nil, All-weaker, Contains-append_left, Contains-append_right, front_rest, all_pairs_push}
 use Rattle.std.proofs.lemmas.List.Concat.{flat_map-append}
 use Rattle.plan_terms.specs.Terms.{Demand, Entry, Caps, Network, CutLine, States, Case, graph_in, Joins, AreKept, IsCut, IsRight, Keeps}
@@ -208,6 +208,14 @@ module _ (p : Case) (caps : Caps) where
       let ys = cuts_after b.entries c.entries in
       subst (λ cuts. AreAnswersBelow p caps (n + 1) c.entries cuts (answers ++ answer ∷ [])) (sym (pools_since a c (xs ++ ys) (pools_both a b c xs ys first second)))
       (answers_more b.entries c.entries (λ cut spot. spot_later b c ys cut spot second) n xs ys answers answer so_far state is named)
+
+  -- at first no state is answered
+  pub board_unasked : (b : Board) (answers : List StateAnswer) → answers ≡ [] → AreAnswersBelow p caps 0 b.entries (cuts_after b.entries b.entries) answers
+  board_unasked b answers none = subst (AreAnswersBelow p caps 0 b.entries (cuts_after b.entries b.entries)) (sym none) (record {
+    count = refl;
+    each = λ s a at. absurd (let e : None ≡ Some a = at in cc e);
+    among = none_among b [];
+  })
 
 -- ---- the separator
 

@@ -7,7 +7,7 @@ ghost use Rattle.separator.specs.inner.Working.{PoolsMore, PoolsOnly, state_and_
 
 use cut_pool::{AdmitAnswer, Board};
 use metric_cut::Cut;
-use net_core::{Copied, CutLine, Demands, NoMemory};
+use net_core::{Copied, CutLine, Demands, NoMemory, discard};
 use plan_types::Spot;
 
 /// The cut with its right side at the demands, without its distances.
@@ -24,17 +24,26 @@ pub fn line_of(cut: &Cut, demands: &Demands) -> Result<CutLine, NoMemory>
     })
 }
 
-/// The place of a cut in the pool after a board's answer to it. It takes constant time.
-pub fn spot_after(answer: AdmitAnswer) -> Result<Spot, NoMemory>
-    ensures { IsSpotAfter answer result }
+/// The place of a cut that a board's answer tells.
+fn spot_told(answer: &AdmitAnswer) -> Result<Spot, NoMemory>
+    ensures { IsSpotAfter answer.now result }
 {
     match answer {
-        AdmitAnswer::Admitted { index, .. } => Ok(Spot::Pool(index)),
-        AdmitAnswer::Known(index, _) => Ok(Spot::Pool(index)),
+        AdmitAnswer::Admitted { index, .. } => Ok(Spot::Pool(*index)),
+        AdmitAnswer::Known(index, _) => Ok(Spot::Pool(*index)),
         AdmitAnswer::PoolFull(_) => Ok(Spot::Local),
         AdmitAnswer::Full(_) => Ok(Spot::Local),
         AdmitAnswer::NoMemory(_) => Err(NoMemory),
     }
+}
+
+/// The place of a cut in the pool after a board's answer to it. It takes constant time.
+pub fn spot_after(answer: AdmitAnswer) -> Result<Spot, NoMemory>
+    ensures { IsSpotAfter answer result }
+{
+    let spot = spot_told(&answer);
+    discard(answer);
+    spot
 }
 
 /// Admits a cut to the board's pool, where there is room for it, and tells its place there.

@@ -25,11 +25,21 @@ returns-in-Violated-clause-answer c =
 pub returns-in-Routed-clause-pools : goal.returns-in-Routed-clause-pools
 returns-in-Routed-clause-pools c = of_none (case_of c.args.instance.now) c.args.caps.now c.args.state.0 c.args.board.now
 
+pub returns-in-Routed-clause-answer : goal.returns-in-Routed-clause-answer
+returns-in-Routed-clause-answer c =
+    let p = case_of c.args.instance.now in
+    subst (IsFinding (graph_in p c.args.state.0) p.demands c.args.caps.now) c.in-Routed.is c.requires.found
+
 pub returns-in-Routed-clause-among : goal.returns-in-Routed-clause-among
 returns-in-Routed-clause-among c = none_among c.args.board.now []
 
 pub returns-in-Wide-clause-pools : goal.returns-in-Wide-clause-pools
 returns-in-Wide-clause-pools c = of_none (case_of c.args.instance.now) c.args.caps.now c.args.state.0 c.args.board.now
+
+pub returns-in-Wide-clause-answer : goal.returns-in-Wide-clause-answer
+returns-in-Wide-clause-answer c =
+    let p = case_of c.args.instance.now in
+    subst (IsFinding (graph_in p c.args.state.0) p.demands c.args.caps.now) c.in-Wide.is c.requires.found
 
 pub returns-in-Wide-clause-among : goal.returns-in-Wide-clause-among
 returns-in-Wide-clause-among c = none_among c.args.board.now []

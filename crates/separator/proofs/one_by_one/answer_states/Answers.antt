@@ -1,7 +1,18 @@
-use Rattle.std.proofs.Common.{◌+◌, ap, arith, length}
+use Rattle.std.proofs.Common.{◌+◌, ◌∙◌, ap, arith, length}
 use Rattle.plan_terms.specs.Terms.{case_of}
-use Rattle.separator.proofs.Answering.{board_answers_more, below_more, below_weaker}
+use Rattle.separator.proofs.Answering.{board_answers_more, board_unasked, below_more, below_none, below_weaker}
 use Rattle.separator.proofs.one_by_one.answer_states.Goals as goal
+
+pub loop-s-init : goal.loop-s-init
+loop-s-init c =
+    let p = case_of c.args.instance.now in
+    (below_none p c.args.caps.now c.args.board.now, board_unasked p c.args.caps.now c.args.board.now c.new-answers.result c.new-answers.ensures)
+
+pub answer_state-requires-clause-net : goal.answer_state-requires-clause-net
+answer_state-requires-clause-net c = ap (λ o. o.0) c.loop-s.invariant.0.pools.origin ∙ c.requires.net
+
+pub answer_state-requires-clause-listed : goal.answer_state-requires-clause-listed
+answer_state-requires-clause-listed c = ap (λ o. o.1) c.loop-s.invariant.0.pools.origin ∙ c.requires.listed
 
 pub returns-in_err-answer_state-clause-pools : goal.returns-in_err-answer_state-clause-pools
 returns-in_err-answer_state-clause-pools c =

@@ -1,4 +1,4 @@
-use Rattle.std.proofs.Common.{◌+◌, arith, length}
+use Rattle.std.proofs.Common.{◌+◌, ◌∙◌, ap, arith, length}
 use Rattle.plan_terms.specs.Terms.{case_of}
 use Rattle.separator.proofs.Answering.{below_more, below_none, below_weaker}
 use Rattle.separator.proofs.SomeBoards.{board_adds, board_unanswered}
@@ -14,6 +14,12 @@ pub loop-s-init : goal.loop-s-init
 loop-s-init c =
     let p = case_of c.args.instance.now in
     (below_none p c.args.caps.now c.args.board.now, board_unanswered p c.args.caps.now 0 c.args.board.now c.new-answers.result c.new-answers.ensures)
+
+pub answer_set-requires-clause-net : goal.answer_set-requires-clause-net
+answer_set-requires-clause-net c = ap (λ o. o.0) c.loop-s.invariant.0.pools.origin ∙ c.requires.net
+
+pub answer_set-requires-clause-listed : goal.answer_set-requires-clause-listed
+answer_set-requires-clause-listed c = ap (λ o. o.1) c.loop-s.invariant.0.pools.origin ∙ c.requires.listed
 
 pub returns-in_err-answer_set-clause-pools : goal.returns-in_err-answer_set-clause-pools
 returns-in_err-answer_set-clause-pools c =

@@ -1,10 +1,16 @@
-use Rattle.std.proofs.Common.{◌≡◌, ◌+◌, ◌<◌, [], ap, arith, length}
+use Rattle.std.proofs.Common.{◌≡◌, ◌+◌, ◌<◌, ◌∙◌, [], ap, arith, length}
 use Rattle.net_core.proofs.Library.{IfOk-weaker, nil_from_length}
 use Rattle.plan_terms.specs.Terms.{case_of}
 use Rattle.separator.specs.Separators.{cuts_after, cuts_answered}
 use Rattle.separator.proofs.SomeAnswers.{cuts_are_some}
 use Rattle.separator.proofs.SomeBoards.{among_after_nothing, below_after_nothing, pools_nothing}
 use Rattle.separator.proofs.some_states.answer_some.Goals as goal
+
+pub ask_ring-requires-clause-net : goal.ask_ring-requires-clause-net
+ask_ring-requires-clause-net c = ap (λ o. o.0) c.answer_roomy_sets.ensures.pools.pools.origin ∙ c.requires.net
+
+pub ask_ring-requires-clause-listed : goal.ask_ring-requires-clause-listed
+ask_ring-requires-clause-listed c = ap (λ o. o.1) c.answer_roomy_sets.ensures.pools.pools.origin ∙ c.requires.listed
 
 pub returns-then-len-eq0-clause-pools : goal.returns-then-len-eq0-clause-pools
 returns-then-len-eq0-clause-pools c =

@@ -1,4 +1,4 @@
-use Rattle.std.proofs.Common.{◌+◌, IfSome, arith, length, subst, ◌∷◌, []}
+use Rattle.std.proofs.Common.{◌+◌, ◌∙◌, IfSome, ap, arith, length, subst, ◌∷◌, []}
 use Rattle.net_core.proofs.Library.{IfOk-weaker}
 use Rattle.plan_terms.specs.Terms.{case_of}
 use Rattle.separator.specs.Separators.{cuts_after, cuts_answered}
@@ -32,6 +32,12 @@ returns-in-Some-clause-among c =
     IfOk-weaker c.only_cut.result _ _
     (λ answers is. (only_is_some p caps n a a now c.in-Some.cut answers (omega (arith, c.count-count.ensures)) (pools_none a) c.ask_until_cut.ensures.pools.pools found is).1)
     c.only_cut.ensures
+
+pub ask_before-requires-clause-net : goal.ask_before-requires-clause-net
+ask_before-requires-clause-net c = ap (λ o. o.0) c.ask_until_cut.ensures.pools.pools.origin ∙ c.requires.net
+
+pub ask_before-requires-clause-listed : goal.ask_before-requires-clause-listed
+ask_before-requires-clause-listed c = ap (λ o. o.1) c.ask_until_cut.ensures.pools.pools.origin ∙ c.requires.listed
 
 pub ask_before-requires-clause-later : goal.ask_before-requires-clause-later
 ask_before-requires-clause-later c =

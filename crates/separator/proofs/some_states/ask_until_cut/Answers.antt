@@ -1,4 +1,4 @@
-use Rattle.std.proofs.Common.{◌≡◌, ℕ, List, [], ◌∷◌, ap, arith, subst}
+use Rattle.std.proofs.Common.{◌≡◌, ◌∙◌, ℕ, List, [], ◌∷◌, ap, arith, subst}
 use Rattle.plan_terms.specs.Terms.{case_of}
 use Rattle.separator.specs.Separators.{cut_answered, cuts_after}
 use Rattle.separator.specs.inner.Working.{AreCutsAnswered, ContinueTo}
@@ -9,6 +9,12 @@ use Rattle.separator.proofs.some_states.ask_until_cut.Goals as goal
 
 pub loop-s-init : goal.loop-s-init
 loop-s-init c = (pools_none c.args.board.now, λ m are. are)
+
+pub answer_state-requires-clause-net : goal.answer_state-requires-clause-net
+answer_state-requires-clause-net c = ap (λ o. o.0) c.loop-s.invariant.0.origin ∙ c.requires.net
+
+pub answer_state-requires-clause-listed : goal.answer_state-requires-clause-listed
+answer_state-requires-clause-listed c = ap (λ o. o.1) c.loop-s.invariant.0.origin ∙ c.requires.listed
 
 pub returns-in_err-answer-clause-pools : goal.returns-in_err-answer-clause-pools
 returns-in_err-answer-clause-pools c =

@@ -1,4 +1,4 @@
-use Rattle.std.proofs.Common.{All, Contains, subst, sym}
+use Rattle.std.proofs.Common.{◌≢◌, All, AllPairs, Contains, subst, sym}
 use Rattle.net_core.proofs.Library.{IfOk-weaker}
 use Rattle.plan_terms.specs.Terms.{case_of}
 use Rattle.separator.specs.Separators.{SeparatesAt, cuts_answered, cuts_after}
@@ -20,6 +20,16 @@ returns-clause-separating c =
     let now = c.answer_some.new.board in
     let same = own_cuts self.began.value self.board now (cuts_after self.board.entries now.entries) self.began_before c.answer_some.ensures.pools.pools in
     ∣ subst (All (SeparatesAt (case_of c.args.instance.now) c.args.caps.now)) (sym same) c.answer_some.ensures.pools.cuts_are.separating ∣₁
+
+pub returns-clause-different : goal.returns-clause-different
+returns-clause-different c =
+    let self = c.args.self.now in
+    let now = c.answer_some.new.board in
+    let same = own_cuts self.began.value self.board now (cuts_after self.board.entries now.entries) self.began_before c.answer_some.ensures.pools.pools in
+    subst (AllPairs (λ x y. x.0 ≢ y.0)) (sym same) c.answer_some.ensures.pools.cuts_are.different
+
+pub returns-clause-answers : goal.returns-clause-answers
+returns-clause-answers c = IfOk-weaker c.answer_some.result _ _ (λ answers are. ∣ are ∣₁) c.answer_some.ensures.answers
 
 pub returns-clause-answered : goal.returns-clause-answered
 returns-clause-answered c =
