@@ -1,3 +1,4 @@
 pub mod Decided
+pub mod RoutedCovers
 pub mod SharedRoutes
 pub mod Widened

@@ -1,14 +1,15 @@
-ghost use Rattle.std.specs.Prelude.{◌≡◌, ◌<◌, ◌≤◌, IfOk, length};
+ghost use Rattle.std.specs.Prelude.{◌≡◌, ◌<◌, ◌≤◌, IfOk, MatchOption, length};
 ghost use Rattle.plan_terms.specs.Terms.{case_of, AreWithinLimits, IsFallback, IsSurvivable};
 ghost use Rattle.share_covers.specs.Choices.{IsChosen, IsQualityOfShare};
 ghost use Rattle.share_covers.specs.inner.Decided.{decided};
+ghost use Rattle.share_covers.specs.inner.RoutedCovers.{AreRoutedCovers, HasDearerCovers};
 ghost use Rattle.share_covers.specs.inner.Widened.{widened};
 
 use crate::covers::{Installed, cover_share};
 use crate::routes::InstalledRoutes;
 use crate::shared_routes::route_covers;
 use module_choice::Fallback;
-use net_core::{Counts, Evidence, Instance, List, NoMemory, Routing};
+use net_core::{Counts, Evidence, Instance, List, NoMemory, Routing, discard};
 use plan_types::{Cause, Quality, Share};
 use std::alloc::Global;
 
@@ -22,6 +23,13 @@ pub struct Chosen {
     /// What the counts cost, in units of the network.
     pub cost: u128,
     pub quality: Quality,
+}
+
+/// The covers of a share, and what the states answer within them.
+#[derive(Drop)]
+struct RoutedCovers {
+    installed: Installed,
+    answer: InstalledRoutes,
 }
 
 /// The fallback plan.
@@ -41,33 +49,65 @@ fn widened(quality: Quality, evidence: Evidence) -> Quality
     ensures { result ≡ widened evidence quality }
 {
     match quality {
-        Quality::Tight(_) => Quality::Loose(Cause::Wide(evidence)),
-        Quality::Loose(cause) => Quality::Loose(cause),
+        Quality::Tight(fractional) => {
+            discard(fractional);
+            Quality::Loose(Cause::Wide(evidence))
+        }
+        Quality::Loose(cause) => {
+            discard(evidence);
+            Quality::Loose(cause)
+        }
     }
 }
 
 /// The covers where the states answer with routings, else the fallback plan.
-fn decided(
-    answer: InstalledRoutes,
-    installed: Installed,
-    fallback: Fallback,
-    quality: Quality,
-) -> Chosen
-    ensures { result ≡ decided installed fallback quality answer }
+fn decided(covers: RoutedCovers, fallback: Fallback, quality: Quality) -> Chosen
+    ensures { result ≡ decided covers.installed fallback quality covers.answer }
 {
+    let RoutedCovers { installed, answer } = covers;
     let cheaper = installed.cost < fallback.cost;
     match answer {
-        InstalledRoutes::Routed(routings) => Chosen {
-            counts: installed.counts,
-            routings,
-            cost: installed.cost,
-            quality,
-        },
-        InstalledRoutes::Wide(evidence) if cheaper => {
-            keep_fallback(fallback, widened(quality, evidence))
+        InstalledRoutes::Routed(routings) => {
+            discard(fallback);
+            Chosen {
+                counts: installed.counts,
+                routings,
+                cost: installed.cost,
+                quality,
+            }
         }
-        _ => keep_fallback(fallback, quality),
+        InstalledRoutes::Wide(evidence) => {
+            if cheaper {
+                return keep_fallback(fallback, widened(quality, evidence));
+            }
+            discard(evidence);
+            keep_fallback(fallback, quality)
+        }
+        InstalledRoutes::Short(_) => keep_fallback(fallback, quality),
     }
+}
+
+/// The covers of a share, with what the states answer within them; `None` where they cost more than so much.
+fn routed_covers(
+    alloc: Global,
+    instance: &Instance,
+    cost: u128,
+    share: &Share,
+    quality: &Quality,
+) -> Result<Option<RoutedCovers>, NoMemory>
+    requires survivable { let p = case_of instance.now in IsSurvivable p }
+    requires scale { 0 < share.now.scale }
+    requires units { length share.now.units ≡ length instance.now.net.now.links }
+    requires quality { let p = case_of instance.now in ∥ IsQualityOfShare p share.now quality.now ∥₁ }
+    ensures { let p = case_of instance.now in IfOk result (λ found. MatchOption found (HasDearerCovers p share.now cost)
+        (AreRoutedCovers p share.now cost)) }
+{
+    let installed = cover_share(alloc, instance.net, share)?;
+    if cost < installed.cost {
+        return Ok(None);
+    }
+    let answer = route_covers(alloc, instance, quality, &installed.counts)?;
+    Ok(Some(RoutedCovers { installed, answer }))
 }
 
 /// The modules that cover a share where they carry the demands in each state and cost no more than the fallback plan, else the
@@ -101,10 +141,13 @@ pub fn choose(
     requires quality { let p = case_of instance.now in ∥ IsQualityOfShare p share.now quality ∥₁ }
     ensures { let p = case_of instance.now in IfOk result (IsChosen p share.now fallback quality) }
 {
-    let installed = cover_share(alloc, instance.net, share)?;
-    if fallback.cost < installed.cost {
-        return Ok(keep_fallback(fallback, quality));
+    match routed_covers(alloc, instance, fallback.cost, share, &quality) {
+        Ok(Some(covers)) => Ok(decided(covers, fallback, quality)),
+        Ok(None) => Ok(keep_fallback(fallback, quality)),
+        Err(error) => {
+            discard(fallback);
+            discard(quality);
+            Err(error)
+        }
     }
-    let answer = route_covers(alloc, instance, &quality, &installed.counts)?;
-    Ok(decided(answer, installed, fallback, quality))
 }
