@@ -10,4 +10,4 @@ mod states;
 
 pub use fault::ImportFault;
 pub use imported::Imported;
-pub use states::import;
+pub use states::{import, import_instance};

@@ -1,11 +1,10 @@
-ghost use Rattle.std.specs.Prelude.{◌≡◌, ℕ, ◌+◌, ◌<◌, ◌≤◌, All, IfOk, IsTrue, MatchOption, false, length, slice_index};
-ghost use Rattle.plan_terms.specs.Terms.{Survives, graph};
+ghost use Rattle.std.specs.Prelude.{◌≡◌, ℕ, ◌<◌, ◌≤◌, All, IfOk, IsTrue, MatchOption, false, length, slice_index};
+ghost use Rattle.plan_terms.specs.Terms.{Survives, graph_of};
 ghost use Rattle.flow_import.specs.Imports.{flow_load};
 ghost use Rattle.flow_import.specs.inner.Steps.{AreLoads, IsFirstAbove, IsFirstLost};
 
-use failure_states::survives;
 use flow_file::LinkFlow;
-use net_core::{LinkId, Network, NoMemory, StateId, States};
+use net_core::{LinkId, Network, NoMemory, Surviving};
 use std::alloc::Global;
 
 /// What the flows on each link sum to. What the sums were before does not matter.
@@ -37,32 +36,25 @@ pub(crate) fn loads_of(
 }
 
 /// Whether a link survives or has no load.
-fn is_alive(net: &Network, states: &States, state: StateId, link: LinkId, load: u128) -> bool
-    requires state { state.0 < length states.now.listed + 1 }
-    requires link { link.0 < length net.now.links }
-    ensures yes { IsTrue result → 0 < load → Survives (graph net.now states.now state.0) link.0 }
-    ensures no { result ≡ false → (0 < load) × (Survives (graph net.now states.now state.0) link.0 → ⊥) }
+fn is_alive(graph: &Surviving, link: LinkId, load: u128) -> bool
+    requires { link.0 < length graph.now.net.now.links }
+    ensures yes { IsTrue result → 0 < load → Survives (graph_of graph.now) link.0 }
+    ensures no { result ≡ false → (0 < load) × (Survives (graph_of graph.now) link.0 → ⊥) }
 {
-    load == 0 || survives(net, states, state, link)
+    load == 0 || graph.has(link)
 }
 
 /// The first link with a load that doesn't survive.
-pub(crate) fn first_dead(
-    net: &Network,
-    states: &States,
-    state: StateId,
-    loads: &[u128],
-) -> Option<LinkId>
-    requires state { state.0 < length states.now.listed + 1 }
-    requires sizes { length loads.now ≡ length net.now.links }
+pub(crate) fn first_dead(graph: &Surviving, loads: &[u128]) -> Option<LinkId>
+    requires sizes { length loads.now ≡ length graph.now.net.now.links }
     requires few { length loads.now ≤ 256 }
     ensures { MatchOption result
-        ((e : ℕ) → e < length loads.now → 0 < slice_index loads.now e → Survives (graph net.now states.now state.0) e)
-        (λ e. IsFirstLost (graph net.now states.now state.0) loads.now e.0) }
+        ((e : ℕ) → e < length loads.now → 0 < slice_index loads.now e → Survives (graph_of graph.now) e)
+        (λ e. IsFirstLost (graph_of graph.now) loads.now e.0) }
 {
     for e in 0..loads.len() {
         let link = LinkId(e as u32);
-        if !is_alive(net, states, state, link, loads[e]) {
+        if !is_alive(graph, link, loads[e]) {
             return Some(link);
         }
     }

@@ -9,7 +9,7 @@ ghost use Rattle.plan_import.specs.ImportedPlans.{IsImportEnding, with_design};
 ghost use Rattle.plan_import.specs.declared.ending.ImportEnding.TheVariants.{Faulty};
 
 use flow_file::FlowFile;
-use flow_import::{ImportFault, Imported, import};
+use flow_import::{ImportFault, Imported, import_instance};
 use lone_plan::{LonePlan, PlannedReport, plan_once};
 use net_core::{Instance, Name, NoMemory, StateId, discard};
 use outside_io::Gate;
@@ -75,7 +75,7 @@ fn import_into(
     requires file { IsFlowFile (known_of instance.now.net.now instance.now.states.now) instance.now.demands.now file }
     ensures { IfOk result (IsImportEnding (case_of instance.now) instance.now.net.now.notes file) }
 {
-    match import(alloc, instance.net, instance.states, instance.demands, file) {
+    match import_instance(alloc, instance, file) {
         Ok(imported) => Ok(ImportEnding::Imported(with_design(planned, imported))),
         Err(fault) => {
             discard(planned);

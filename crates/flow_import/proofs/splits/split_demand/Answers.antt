@@ -5,10 +5,10 @@ use Rattle.flow_import.proofs.Splitting.{arcs_few, arcs_known, unbalanced_at}
 use Rattle.flow_import.proofs.splits.split_demand.Goals as goal
 
 pub split_flow-requires-clause-arcs : goal.split_flow-requires-clause-arcs
-split_flow-requires-clause-arcs c = rw c.in_ok-arcs.ensures (arcs_known c.args.net.now.links c.args.demands.now c.args.flows.now c.requires.flows c.args.demand)
+split_flow-requires-clause-arcs c = rw c.in_ok-arcs.ensures (arcs_known c.args.instance.now.net.now.links c.args.instance.now.demands.now c.args.flows.now c.requires.flows c.args.demand)
 
 pub split_flow-requires-clause-few : goal.split_flow-requires-clause-few
-split_flow-requires-clause-few c = rw c.in_ok-arcs.ensures (arcs_few c.args.net.now.links c.args.demands.now c.args.flows.now c.requires.flows c.args.demand)
+split_flow-requires-clause-few c = rw c.in_ok-arcs.ensures (arcs_few c.args.instance.now.net.now.links c.args.instance.now.demands.now c.args.flows.now c.requires.flows c.args.demand)
 
 pub returns-in-Err-Unbalanced-clause-fault : goal.returns-in-Err-Unbalanced-clause-fault
 returns-in-Err-Unbalanced-clause-fault c =
@@ -17,6 +17,6 @@ returns-in-Err-Unbalanced-clause-fault c =
       refl,
       refl,
       unbalanced_at c.split_flow.result node
-          (λ n. IsFirstUnbalanced (length c.args.net.now.nodes) c.args.net.now.links (demand_arcs c.args.demand c.args.flows.now) c.args.d.now.from.0 c.args.d.now.to.0 c.args.d.now.need n)
+          (λ n. IsFirstUnbalanced (length c.args.instance.now.net.now.nodes) c.args.instance.now.net.now.links (demand_arcs c.args.demand c.args.flows.now) c.args.d.now.from.0 c.args.d.now.to.0 c.args.d.now.need n)
           (c.in-Err-Unbalanced.is ∙ ap Err c.in-Err-Unbalanced.field-0-is) first,
     )

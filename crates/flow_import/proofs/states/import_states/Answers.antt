@@ -1,6 +1,6 @@
 use Rattle.std.proofs.Common.{◌+◌, ◌<◌, List, length, subst, sym, arith}
 use Rattle.net_core.proofs.Library.{err_from_is_err_and}
-use Rattle.plan_terms.specs.Terms.{case}
+use Rattle.plan_terms.specs.Terms.{case_of}
 use Rattle.flow_file.specs.declared.flow.LinkFlow.{LinkFlow}
 use Rattle.flow_import.specs.Imports.{IsImportFault, IsImportedState}
 use Rattle.flow_import.specs.inner.Steps.{AreImportedTo}
@@ -9,7 +9,7 @@ use Rattle.flow_import.proofs.states.import_states.Goals as goal
 
 pub loop-s-preserved : goal.loop-s-preserved
 loop-s-preserved c =
-    let p = case c.args.net.now c.args.states.now c.args.demands.now in
+    let p = case_of c.args.instance.now in
     let caps = c.args.caps.now in
     let all = c.args.flows.now in
     let s = c.loop-s.s in
@@ -20,7 +20,7 @@ loop-s-preserved c =
 
 pub returns-in_err-routing-clause-fault : goal.returns-in_err-routing-clause-fault
 returns-in_err-routing-clause-fault c =
-    let p = case c.args.net.now c.args.states.now c.args.demands.now in
+    let p = case_of c.args.instance.now in
     let r = err_from_is_err_and c.from_residual.result c.from_residual.ensures.1 in
     rw r.1 (subst (IsImportFault p c.args.caps.now c.args.flows.now) (sym r.2)
     (fault_after p c.args.caps.now c.args.flows.now c.loop-s.s c.loop-s.routings c.in_err-routing.field-0.0 (omega (arith, c.loop-s-test.true, c.count-s-end.ensures)) c.loop-s.invariant
