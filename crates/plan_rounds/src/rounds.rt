@@ -1,4 +1,4 @@
-ghost use Rattle.std.specs.Prelude.{◌≡◌, ◌≢◌, ◌+◌, ◌≤◌, ◌<◌, ℕ, List as Seq, Option as Maybe, None, All, AllPairs, Contains, IfOk, IfSome, OnOk, length, true, false};
+ghost use Rattle.std.specs.Prelude.{◌≡◌, ◌≢◌, ◌+◌, ◌≤◌, ◌<◌, ℕ, List as Seq, Option as Maybe, None, All, AllPairs, Contains, IfOk, IfSome, OnOk, length, take, true, false};
 ghost use Rattle.plan_terms.specs.Terms.{case_of, IsSurvivable};
 ghost use Rattle.route_law.specs.Terms.{caps_times};
 ghost use Rattle.master_law.specs.Terms.{AreUnitPairs};
@@ -10,7 +10,9 @@ ghost use Rattle.plan_rounds.specs.inner.Alone.{PoolsRounds, PoolsTurn};
 ghost use Rattle.plan_rounds.specs.inner.Answered.{AreRoutedStates, IsEvidenceOfState};
 ghost use Rattle.plan_rounds.specs.inner.Listing.{AreListed, GoesOn};
 ghost use Rattle.plan_rounds.specs.inner.Turns.{AddsFirst, EndsAt, IsTurnAfter, IsTurnOf, Judges, WorksOn};
-ghost use Rattle.plan_rounds.specs.declared.rounds.Turn.TheVariants.{Further};
+ghost use Rattle.plan_rounds.specs.declared.rounds.Turn.TheVariants.{Further, Last};
+ghost use Rattle.plan_types.specs.declared.quality.Cause.TheVariants.{Wide};
+ghost use Rattle.plan_types.specs.declared.quality.Quality.TheVariants.{Loose};
 
 use crate::adding::{add_first, take_back};
 use crate::candidates::Candidates;
@@ -198,6 +200,27 @@ fn ask<S: Separate>(
     judge(alloc, instance, room, best, caps, answered, candidates)
 }
 
+/// The end at a number of first cuts, since their certificate is too wide by this evidence: the cuts after them are taken off.
+fn end_wide(
+    alloc: Global,
+    count: usize,
+    before: Option<Best>,
+    evidence: Evidence,
+    candidates: &mut Candidates,
+) -> Result<Turn, NoMemory>
+    ensures { IfOk result (λ turn. (turn ≡ Last before (Loose (Wide evidence))) × (candidates.new.lines ≡ take count candidates.old.lines)
+        × (candidates.new.spots ≡ take count candidates.old.spots)) }
+{
+    match take_back(alloc, count, candidates) {
+        Ok(()) => Ok(Turn::Last(before, Quality::Loose(Cause::Wide(evidence)))),
+        Err(error) => {
+            discard(evidence);
+            discard(before);
+            Err(error)
+        }
+    }
+}
+
 /// One turn where the certificate of the cuts so far is too wide, by this evidence: further ones come at the capacities of their least
 /// shares, until a certificate isn't, and then a turn at that one. Where there never is one, the end at the cuts as they are.
 fn turn_past_wide<S: Separate>(
@@ -227,17 +250,22 @@ fn turn_past_wide<S: Separate>(
 {
     let count = candidates.lines.len();
     let most = count + room;
-    let found = pass_wide(alloc, instance, pairs, most, kept, separator, candidates)?;
-    let Some(best) = found else {
-        take_back(alloc, count, candidates)?;
-        return Ok(Turn::Last(before, Quality::Loose(Cause::Wide(evidence))));
-    };
-    discard(evidence);
-    discard(before);
-    let rest = most - candidates.lines.len();
-    ask(
-        alloc, instance, pairs, rest, best, round, separator, candidates,
-    )
+    match pass_wide(alloc, instance, pairs, most, kept, separator, candidates) {
+        Ok(Some(best)) => {
+            discard(evidence);
+            discard(before);
+            let rest = most - candidates.lines.len();
+            ask(
+                alloc, instance, pairs, rest, best, round, separator, candidates,
+            )
+        }
+        Ok(None) => end_wide(alloc, count, before, evidence, candidates),
+        Err(error) => {
+            discard(evidence);
+            discard(before);
+            Err(error)
+        }
+    }
 }
 
 /// One turn: the best certificate of the cuts so far, and what the states answer at its share. The one before is for the end where

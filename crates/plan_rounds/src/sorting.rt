@@ -1,11 +1,11 @@
-ghost use Rattle.std.specs.Prelude.{◌≡◌, ◌+◌, ◌<◌, ◌^◌, ℕ, List as Seq, All, IfOk, OnOk, length, map};
+ghost use Rattle.std.specs.Prelude.{◌≡◌, ◌+◌, ◌<◌, ◌^◌, [], None, ℕ, List as Seq, All, IfOk, OnOk, length, map};
 ghost use Rattle.plan_terms.specs.Terms.{Entry, Caps, Case};
 ghost use Rattle.cut_pool.specs.Terms.{cut_of_line};
 ghost use Rattle.separator.specs.Separators.{AreRoundAnswers, cuts_answered};
 ghost use Rattle.plan_rounds.specs.inner.Answered.{AnswersShort, AreSorted, PutsAnswer};
 
 use crate::candidates::Candidates;
-use net_core::{Evidence, List, NoMemory, Routing};
+use net_core::{Evidence, List, NoMemory, Routing, discard};
 use separator::{Separated, StateAnswer};
 use std::alloc::Global;
 
@@ -36,7 +36,22 @@ fn put_answer(answer: Separated, answered: &mut Answered) -> Result<(), NoMemory
             answered.found.lines.push(line)?;
             answered.found.spots.push(spot)?;
         }
-        Separated::Wide(evidence) => answered.wide = Some(evidence),
+        Separated::Wide(evidence) => discard(answered.wide.replace(evidence)),
+    }
+    Ok(())
+}
+
+/// Puts the answers of states, in their order, to those of no state.
+fn put_answers(answers: List<StateAnswer>, answered: &mut Answered) -> Result<(), NoMemory>
+    requires { answered.old ≡ record { routings = []; found = record { lines = []; spots = [] }; wide = None } }
+    ensures sorted { OnOk result ((p : Case) (caps : Caps) (history : Seq Entry) → AreRoundAnswers p caps history answers
+        → AreSorted p caps history (length p.listed + 1) answered.new) }
+    ensures found { OnOk result (map cut_of_line answered.new.found.lines ≡ cuts_answered answers) }
+{
+    let mut left = answers.into_vec();
+    left.reverse();
+    while let Some(next) = left.pop() {
+        put_answer(next.answer, answered)?;
     }
     Ok(())
 }
@@ -55,10 +70,11 @@ pub fn sorted(alloc: Global, answers: List<StateAnswer>) -> Result<Answered, NoM
         },
         wide: None,
     };
-    let mut left = answers.into_vec();
-    left.reverse();
-    while let Some(next) = left.pop() {
-        put_answer(next.answer, &mut answered)?;
+    match put_answers(answers, &mut answered) {
+        Ok(()) => Ok(answered),
+        Err(error) => {
+            discard(answered);
+            Err(error)
+        }
     }
-    Ok(answered)
 }

@@ -25,13 +25,15 @@ use std::alloc::Global;
 fn add_found(answered: Answered, room: usize, candidates: &mut Candidates) -> Result<bool, NoMemory>
     ensures { IfOk result (λ added. AddsFound room answered candidates.old candidates.new added) }
 {
+    let is_wide = answered.wide.is_some();
     let Answered {
         routings,
         found,
         wide,
     } = answered;
     discard(routings);
-    if room == 0 || found.lines.len() == 0 || wide.is_some() {
+    discard(wide);
+    if room == 0 || found.lines.len() == 0 || is_wide {
         discard(found);
         return Ok(false);
     }

@@ -1,4 +1,4 @@
-use Rattle.std.proofs.Common.{arith, subst}
+use Rattle.std.proofs.Common.{◌∙◌, ap, arith, subst, sym}
 use Rattle.net_core.proofs.Library.{∥∥₁_elim, ∥∥₁_map, props}
 use Rattle.plan_terms.specs.Terms.{case_of}
 use Rattle.plan_law.proofs.Begun.{opened_none}
@@ -7,6 +7,12 @@ use Rattle.plan_rounds.proofs.Listing.{pool_listed}
 use Rattle.plan_rounds.proofs.OwnPool.{pools_both, pools_none}
 use Rattle.plan_rounds.proofs.Seeing.{goes_both, goes_none}
 use Rattle.plan_rounds.proofs.openings.open_states.Goals as goal
+
+pub open_state-requires-clause-network : goal.open_state-requires-clause-network
+open_state-requires-clause-network g c = c.requires.network ∙ ap (λ f. f.network) (sym c.loop-s.invariant.0.same)
+
+pub open_state-requires-clause-states : goal.open_state-requires-clause-states
+open_state-requires-clause-states g c = c.requires.states ∙ ap (λ f. f.states) (sym c.loop-s.invariant.0.same)
 
 pub returns-in_err-spots-clause-on : goal.returns-in_err-spots-clause-on
 returns-in_err-spots-clause-on g c = goes_none _ _

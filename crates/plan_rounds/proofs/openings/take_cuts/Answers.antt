@@ -10,6 +10,12 @@ use Rattle.plan_rounds.proofs.OwnPool.{pools_both, pools_none}
 use Rattle.plan_rounds.proofs.Seeing.{goes_both, goes_none}
 use Rattle.plan_rounds.proofs.openings.take_cuts.Goals as goal
 
+pub take_cut-requires-clause-network : goal.take_cut-requires-clause-network
+take_cut-requires-clause-network g c = c.requires.network ∙ ap (λ f. f.network) (sym c.loop-cut.invariant.1.same)
+
+pub take_cut-requires-clause-states : goal.take_cut-requires-clause-states
+take_cut-requires-clause-states g c = c.requires.states ∙ ap (λ f. f.states) (sym c.loop-cut.invariant.1.same)
+
 pub loop-cut-init : goal.loop-cut-init
 loop-cut-init g c =
     let is : Cut → Type 0 = λ x. IsCutOf (graph_in (case_of c.args.instance.now) x.state.0) x in

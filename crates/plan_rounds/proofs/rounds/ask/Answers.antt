@@ -10,6 +10,21 @@ use Rattle.plan_rounds.proofs.Sharing.{divided_count}
 use Rattle.plan_rounds.proofs.Turning.{judged_listed, judged_turn, share_gives}
 use Rattle.plan_rounds.proofs.rounds.ask.Goals as goal
 
+pub judge-requires-clause-positive : goal.judge-requires-clause-positive
+judge-requires-clause-positive g c = c.in_ok-caps.ensures.positive
+
+pub judge-requires-clause-times : goal.judge-requires-clause-times
+judge-requires-clause-times g c = c.in_ok-caps.ensures.times
+
+pub returns-in_err-answers-clause-on : goal.returns-in_err-answers-clause-on
+returns-in_err-answers-clause-on g c = record { same = c.answers_at.ensures.frame; more = c.answers_at.ensures.more }
+
+pub returns-in_err-answered-clause-on : goal.returns-in_err-answered-clause-on
+returns-in_err-answered-clause-on g c = record { same = c.answers_at.ensures.frame; more = c.answers_at.ensures.more }
+
+pub returns-clause-on : goal.returns-clause-on
+returns-clause-on g c = record { same = c.answers_at.ensures.frame; more = c.answers_at.ensures.more }
+
 pub returns-in_err-caps-clause-on : goal.returns-in_err-caps-clause-on
 returns-in_err-caps-clause-on g c = goes_none _ _
 

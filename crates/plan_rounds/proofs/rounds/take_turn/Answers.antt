@@ -1,5 +1,5 @@
 use Rattle.std.proofs.Common.{inl}
-use Rattle.net_core.proofs.Library.{∥∥₁_map}
+use Rattle.net_core.proofs.Library.{∥∥₁_elim, ∥∥₁_map, props}
 use Rattle.net_core.proofs.Networks.{modules_sound}
 use Rattle.plan_terms.specs.Terms.{case_of}
 use Rattle.plan_rounds.proofs.Bounding.{have_bounds}
@@ -7,6 +7,33 @@ use Rattle.plan_rounds.proofs.Results.{if_ok}
 use Rattle.plan_rounds.proofs.Seeing.{goes_none}
 use Rattle.plan_rounds.proofs.Turning.{best_at}
 use Rattle.plan_rounds.proofs.rounds.take_turn.Goals as goal
+
+pub best_so_far-requires-clause-right : goal.best_so_far-requires-clause-right
+best_so_far-requires-clause-right g c k d lt = ∥∥₁_elim c.requires.listed (hlevel props) (λ are. are.low k d lt)
+
+pub best_so_far-requires-clause-different : goal.best_so_far-requires-clause-different
+best_so_far-requires-clause-different g c i j d ij lj same = ∥∥₁_elim c.requires.listed (hlevel props) (λ are. are.different i j d ij lj same)
+
+pub returns-in-Ok-clause-on : goal.returns-in-Ok-clause-on
+returns-in-Ok-clause-on g c = c.ask.ensures.on
+
+pub returns-in-Ok-clause-listed : goal.returns-in-Ok-clause-listed
+returns-in-Ok-clause-listed g c = c.ask.ensures.listed
+
+pub returns-in-Ok-clause-alone : goal.returns-in-Ok-clause-alone
+returns-in-Ok-clause-alone g c = c.ask.ensures.alone
+
+pub returns-in-Err-Wide-clause-on : goal.returns-in-Err-Wide-clause-on
+returns-in-Err-Wide-clause-on g c = c.turn_past_wide.ensures.on
+
+pub returns-in-Err-Wide-clause-listed : goal.returns-in-Err-Wide-clause-listed
+returns-in-Err-Wide-clause-listed g c = c.turn_past_wide.ensures.listed
+
+pub returns-in-Err-Wide-clause-turn : goal.returns-in-Err-Wide-clause-turn
+returns-in-Err-Wide-clause-turn g c = c.turn_past_wide.ensures.turn
+
+pub returns-in-Err-Wide-clause-alone : goal.returns-in-Err-Wide-clause-alone
+returns-in-Err-Wide-clause-alone g c = c.turn_past_wide.ensures.alone
 
 pub best_so_far-requires-clause-lengths : goal.best_so_far-requires-clause-lengths
 best_so_far-requires-clause-lengths g c = have_bounds (case_of c.args.instance.now) (g.S.Separate.seen_of c.args.separator.now).history c.args.candidates.now c.requires.listed

@@ -1,20 +1,20 @@
-use Rattle.std.proofs.Common.{◌≡◌, ◌+◌, ⊎_elim, List, None, [], ◌++◌, ap, refl, length, map, arith, reverse, subst, sym, ◌∙◌}
+use Rattle.std.proofs.Common.{◌≡◌, ◌+◌, ⊎_elim, List, [], ◌++◌, ap, length, map, arith, reverse, subst, sym, ◌∙◌}
 use Rattle.std.proofs.lemmas.List.{append-nil, reverse-reverse}
 use Rattle.cut_pool.specs.Terms.{cut_of_line}
 use Rattle.separator.specs.Separators.{AreStateAnswers, AreViolatedStates, cuts_answered}
 use Rattle.separator.specs.declared.answers.StateAnswer.{StateAnswer}
 use Rattle.plan_rounds.specs.inner.Answered.{AreSorted}
+use Rattle.plan_rounds.specs.declared.sorting.Answered.{Answered}
 use Rattle.plan_rounds.proofs.Answering.{AreAnswersFrom, AreSomeSorted, answers_all, found_more, answers_rest, answers_some, some_are_sorted, some_begun, some_further, sorted_more, sorted_none}
 use Rattle.plan_rounds.proofs.Multiplying.{last_first, none_left}
-use Rattle.plan_rounds.proofs.sorting.sorted.Goals as goal
+use Rattle.plan_rounds.proofs.sorting.put_answers.Goals as goal
 
 pub loop-next-init : goal.loop-next-init
 loop-next-init c =
     let same : reverse c.reverse.new.self.items ≡ c.args.answers = ap reverse c.reverse.ensures.items ∙ (reverse-reverse _ ∙ c.into_vec-left.ensures) in (
-      λ p caps history are. (0, subst (AreAnswersFrom p caps history 0) (sym same) (answers_all p caps history c.args.answers are), rw (c.new.ensures, c.new-2.ensures, c.new-3.ensures) (sorted_none p caps history)),
-      rw c.new-2.ensures (ap cuts_answered same),
-      λ p caps history are. some_begun p caps history c.args.answers (reverse c.reverse.new.self.items) (record { routings = c.new.result; found = record { lines = c.new-2.result; spots = c.new-3.result }; wide = None }) same
-          (rw (c.new.ensures, c.new-2.ensures, c.new-3.ensures) refl) are,
+      λ p caps history are. (0, subst (AreAnswersFrom p caps history 0) (sym same) (answers_all p caps history c.args.answers are), subst (AreSorted p caps history 0) (sym c.requires) (sorted_none p caps history)),
+      ap (λ (a : Answered). map cut_of_line a.found.lines ++ cuts_answered (reverse c.reverse.new.self.items)) c.requires ∙ ap cuts_answered same,
+      λ p caps history are. some_begun p caps history c.args.answers (reverse c.reverse.new.self.items) c.args.answered.now same c.requires are,
     )
 
 pub loop-next-preserved : goal.loop-next-preserved

@@ -4,7 +4,7 @@ use Rattle.cut_pool.specs.Terms.{cut_of_line}
 use Rattle.separator.specs.Separators.{AreStateAnswers, AreViolatedStates, cuts_answered}
 use Rattle.plan_rounds.specs.inner.Answered.{AreSorted}
 use Rattle.plan_rounds.proofs.Answering.{AreAnswersFrom, AreSomeSorted}
-use Rattle.plan_rounds.proofs.sorting.sorted.Given as goal
+use Rattle.plan_rounds.proofs.sorting.put_answers.Given as goal
 
 -- the answers that are left
 abbrev pub decreases-loop-next : goal.decreases-loop-next

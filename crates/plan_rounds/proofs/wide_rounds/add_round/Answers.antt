@@ -11,6 +11,15 @@ use Rattle.plan_rounds.proofs.Seeing.{goes_none}
 use Rattle.plan_rounds.proofs.Sharing.{divided_length, divided_scale}
 use Rattle.plan_rounds.proofs.wide_rounds.add_round.Goals as goal
 
+pub returns-in_err-answers-clause-on : goal.returns-in_err-answers-clause-on
+returns-in_err-answers-clause-on g c = record { same = c.answers_at.ensures.frame; more = c.answers_at.ensures.more }
+
+pub returns-in_err-answered-clause-on : goal.returns-in_err-answered-clause-on
+returns-in_err-answered-clause-on g c = record { same = c.answers_at.ensures.frame; more = c.answers_at.ensures.more }
+
+pub returns-clause-on : goal.returns-clause-on
+returns-clause-on g c = record { same = c.answers_at.ensures.frame; more = c.answers_at.ensures.more }
+
 pub returns-in_err-caps-clause-on : goal.returns-in_err-caps-clause-on
 returns-in_err-caps-clause-on g c = goes_none _ _
 

@@ -1,4 +1,4 @@
-use Rattle.std.proofs.Common.{◌-◌, arith, subst}
+use Rattle.std.proofs.Common.{◌-◌, ◌∙◌, ap, arith, subst, sym}
 use Rattle.net_core.proofs.Library.{∥∥₁_elim, ∥∥₁_map, props}
 use Rattle.plan_terms.specs.Terms.{case_of}
 use Rattle.plan_rounds.specs.inner.Alone.{IsPoolAsFar}
@@ -9,6 +9,12 @@ use Rattle.plan_rounds.proofs.OwnTurns.{far_told, pool_worked}
 use Rattle.plan_rounds.proofs.Passing.{extends_added, extends_none, less_room, passed_added, passed_none}
 use Rattle.plan_rounds.proofs.Seeing.{goes_both, goes_none}
 use Rattle.plan_rounds.proofs.wide_rounds.pass_wide.Goals as goal
+
+pub add_round-requires-clause-network : goal.add_round-requires-clause-network
+add_round-requires-clause-network g c = c.requires.network ∙ ap (λ f. f.network) (sym c.loop-caps.invariant.0.same)
+
+pub add_round-requires-clause-states : goal.add_round-requires-clause-states
+add_round-requires-clause-states g c = c.requires.states ∙ ap (λ f. f.states) (sym c.loop-caps.invariant.0.same)
 
 pub loop-caps-init : goal.loop-caps-init
 loop-caps-init g c =
