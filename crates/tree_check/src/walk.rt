@@ -1,6 +1,6 @@
 ghost use Rattle.std.specs.Prelude.{◌≡◌, ◌+◌, ◌<◌, ◌^◌, ◌↔◌, ◌++◌, [], ◌∷◌, IfErr, IfOk, IsTrue, OnOk, length};
 ghost use Rattle.plan_terms.specs.Terms.{Case, case_of};
-ghost use Rattle.tree_check.specs.Boxes.{whole_box};
+ghost use Rattle.tree_check.specs.Boxes.{IsSplitOf, lower_side, upper_side, whole_box};
 ghost use Rattle.tree_check.specs.Laws.{IsSplitIfAny};
 ghost use Rattle.tree_check.specs.Proofs.{IsAcceptedProof, VerdictFollows};
 ghost use Rattle.tree_check.specs.Trees.{sides_of};
@@ -24,16 +24,46 @@ pub(crate) struct Found {
     pub least: u128,
 }
 
+/// Puts the side of a split with more modules of the kind first.
+fn push_upper(
+    left: &mut VecDeque<Boxed>,
+    boxed: &Boxed,
+    e: usize,
+    m: usize,
+    at: u64,
+) -> Result<(), NoMemory>
+    requires { IsSplitOf boxed.now e m at }
+    ensures { OnOk result (left.new.items ≡ upper_side boxed.now e m at ∷ left.old.items) }
+{
+    let upper = upper_side(boxed, e, m, at)?;
+    left.push_front(upper)?;
+    Ok(())
+}
+
+/// Puts the side of a split with at most `at` modules of the kind first.
+fn push_lower(
+    left: &mut VecDeque<Boxed>,
+    boxed: &Boxed,
+    e: usize,
+    m: usize,
+    at: u64,
+) -> Result<(), NoMemory>
+    requires { IsSplitOf boxed.now e m at }
+    ensures { OnOk result (left.new.items ≡ lower_side boxed.now e m at ∷ left.old.items) }
+{
+    let lower = lower_side(boxed, e, m, at)?;
+    left.push_front(lower)?;
+    Ok(())
+}
+
 /// Puts the two sides of a split first.
 fn push_sides(left: &mut VecDeque<Boxed>, boxed: &Boxed, node: &Node) -> Result<(), NoMemory>
     requires { IsSplitIfAny boxed.now node.now }
     ensures { OnOk result (left.new.items ≡ sides_of boxed.now node.now ++ left.old.items) }
 {
     if let Node::Split { link, module, at } = node {
-        let upper = upper_side(boxed, link.0 as usize, *module as usize, *at)?;
-        left.push_front(upper)?;
-        let lower = lower_side(boxed, link.0 as usize, *module as usize, *at)?;
-        left.push_front(lower)?;
+        push_upper(left, boxed, link.0 as usize, *module as usize, *at)?;
+        push_lower(left, boxed, link.0 as usize, *module as usize, *at)?;
     }
     Ok(())
 }
@@ -115,9 +145,34 @@ fn follows(found: &Found, verdict: &Verdict) -> bool
 fn whole_left(alloc: Global, net: &Network) -> Result<VecDeque<Boxed>, NoMemory>
     ensures { IfOk result (λ left. left.items ≡ whole_box net.now.links ∷ []) }
 {
+    let whole = whole_box(alloc, net)?;
     let mut left = VecDeque::new(alloc);
-    left.push_front(whole_box(alloc, net)?)?;
+    left.push_front(whole)?;
     Ok(left)
+}
+
+/// Walks through a proof's tree with the boxes that no node has yet, and tells what is wrong with it first.
+fn walk_left(
+    alloc: Global,
+    tests: &Tests,
+    left: &mut VecDeque<Boxed>,
+    proof: &Proof,
+) -> Result<(), Stop>
+    requires tests { AreTestsOf proof.now tests.now }
+    requires cost { proof.now.plan.cost ≡ tests.now.cost }
+    requires few { length proof.now.tree + 1 < 2 ^ 32 }
+    requires whole { left.old.items ≡ whole_box tests.now.instance.now.net.now.links ∷ [] }
+    ensures accepted { OnOk result (IsAcceptedProof (case_of tests.now.instance.now) proof.now) }
+    ensures stops { IfErr result (StopsWalk (case_of tests.now.instance.now) proof.now) }
+{
+    let found = take_all(alloc, tests, left, proof)?;
+    if left.len() > 0 {
+        return Err(Stop::Fault(proof.tree.len() as u32));
+    }
+    if !follows(&found, &proof.verdict) {
+        return Err(Stop::Fault(proof.tree.len() as u32 + 1));
+    }
+    Ok(())
 }
 
 /// Walks through a proof's tree, and tells what is wrong with it first.
@@ -129,12 +184,5 @@ pub(crate) fn walk(alloc: Global, tests: &Tests, proof: &Proof) -> Result<(), St
     ensures stops { IfErr result (StopsWalk (case_of tests.now.instance.now) proof.now) }
 {
     let mut left = whole_left(alloc, tests.instance.net)?;
-    let found = take_all(alloc, tests, &mut left, proof)?;
-    if left.len() > 0 {
-        return Err(Stop::Fault(proof.tree.len() as u32));
-    }
-    if !follows(&found, &proof.verdict) {
-        return Err(Stop::Fault(proof.tree.len() as u32 + 1));
-    }
-    Ok(())
+    walk_left(alloc, tests, &mut left, proof)
 }

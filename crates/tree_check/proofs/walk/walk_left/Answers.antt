@@ -2,7 +2,7 @@ use Rattle.std.proofs.Common.{◌+◌, inr, arith}
 use Rattle.std.proofs.lemmas.Bool.{both_ways}
 use Rattle.plan_terms.specs.Terms.{case_of}
 use Rattle.tree_check.proofs.Walked.{accepted, not_founded}
-use Rattle.tree_check.proofs.walk.walk.Goals as goal
+use Rattle.tree_check.proofs.walk.walk_left.Goals as goal
 
 pub returns-then-not-follows-clause-stops : goal.returns-then-not-follows-clause-stops
 returns-then-not-follows-clause-stops c =
