@@ -1,5 +1,5 @@
 -- what an accepted proof says of able counts
-use Rattle.std.proofs.Common.{◌≡◌, ℕ, ◌≤◌, List, [], ◌∷◌, ◌⊎◌, inl, inr, ⊎_elim, subst, sym, arith}
+use Rattle.std.proofs.Common.{◌≡◌, ℕ, ◌≤◌, List, [], ◌∷◌, ◌⊎◌, inl, inr, ⊎_elim, subst, arith}
 use Rattle.std.specs.List.{AllByRecursion}
 use Rattle.net_core.proofs.Library.{All-from_recursion, slice_get_within}
 use Rattle.plan_terms.specs.Terms.{Case, IsAble, total_cost}

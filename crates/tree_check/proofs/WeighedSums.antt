@@ -1,7 +1,7 @@
 -- sums over the lines of a certificate, line by line
 use Rattle.std.proofs.Common.{◌≡◌, ℕ, ◌+◌, ◌*◌, ◌<◌, List, [], ◌∷◌, get_or, length, map, take, refl, sym, ◌∙◌, arith, sum_by}
 use Rattle.net_core.proofs.Library.{sum_by-cons, sum_by_more}
-use Rattle.line_check.specs.Terms.{Multiplier, WeightedLine, entry, test_at, weighed}
+use Rattle.line_check.specs.Terms.{Multiplier, WeightedLine, test_at, weighed}
 use Rattle.tree_check.specs.BoxValues.{asked_right, given_free}
 use Rattle.line_check.specs.declared.tested.Tested.{Tested}
 

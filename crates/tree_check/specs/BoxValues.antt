@@ -1,5 +1,5 @@
 -- what lines show about the counts of a box: a least cost, or that there are none
-use Rattle.std.specs.Prelude.{◌≡◌, ◌≢◌, ℕ, ◌+◌, ◌-◌, ◌*◌, ◌^◌, ◌≤◌, ◌<◌, List, All, Bool, IsSome, if◌then◌else◌, length, map, nat_lt, slice_index, sum_by, unwrap_or}
+use Rattle.std.specs.Prelude.{◌≢◌, ℕ, ◌+◌, ◌-◌, ◌*◌, ◌^◌, ◌≤◌, ◌<◌, List, All, Bool, IsSome, if◌then◌else◌, length, map, nat_lt, slice_index, sum_by, unwrap_or}
 use Rattle.std.specs.List.{list_any}
 use Rattle.plan_terms.specs.Terms.{IsBound, Link, sum_below}
 use Rattle.tree_check.specs.Boxes.{span_at, spans_of}

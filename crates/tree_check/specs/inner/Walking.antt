@@ -1,6 +1,5 @@
 -- what a node that holds is to a walk, and what a walk has found
 use Rattle.std.specs.Prelude.{◌≡◌, ℕ, ◌≤◌, ◌<◌, ◌⊎◌, ⊤, true, false, Option, None, Some, List, [], ◌∷◌, ◌++◌, All, min, take}
-use Rattle.std.specs.List.{AllZip}
 use Rattle.plan_terms.specs.Terms.{AreCounts, Case, Link, case_of}
 use Rattle.line_check.specs.Terms.{IsLeastPlace}
 use Rattle.tree_check.specs.Boxes.{least_counts, whole_box}
@@ -10,7 +9,6 @@ use Rattle.tree_check.specs.Trees.{TreeBox, boxes_left, sides_of}
 use Rattle.line_check.specs.declared.inequality.Inequality.{Inequality}
 use Rattle.tree_check.specs.declared.nodes.Held.{Held}
 use Rattle.tree_check.specs.declared.nodes.Held.TheVariants.{Settled, Open}
-use Rattle.tree_check.specs.declared.proof.BoxCert.{BoxCert}
 use Rattle.tree_check.specs.declared.proof.Node.{Node}
 use Rattle.tree_check.specs.declared.proof.Proof.{Proof}
 use Rattle.tree_check.specs.declared.stop.Stop.{Stop}
