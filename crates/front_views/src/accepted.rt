@@ -1,5 +1,5 @@
 ghost use Rattle.std.specs.Prelude.{OnOk};
-ghost use Rattle.view_text.specs.Terms.{AddsText, HoldsOfSingle, IsFirstBlock, IsReportView, problem_case};
+ghost use Rattle.view_text.specs.Terms.{AddsText, HoldsOfSingle, IsReportView, problem_case};
 ghost use Rattle.view_forms.specs.Terms.{HasForm, IsFormOf};
 ghost use Rattle.front_views.specs.AcceptedReports.{IsAcceptedReport};
 
@@ -7,7 +7,7 @@ use net_core::{Bytes, NoMemory, Problem};
 use plan_types::Report;
 use std::alloc::Global;
 use view_forms::{ViewForm, put_form};
-use view_text::{CostProof, put_first_block, put_view};
+use view_text::{CostProof, put_view};
 
 /// Puts the view of an accepted report last, of a network whose file has this name, with what is known of the cost of a single plan. Where
 /// memory runs out, the text may end in part of it. It takes the time and the memory of `put_view`.
@@ -29,30 +29,6 @@ pub fn put_accepted(
     ensures { OnOk result (AddsText (IsReportView network.now (problem_case problem.now) report.now.outcomes proof) text.old text.new) }
 {
     put_view(
-        text,
-        alloc,
-        network,
-        problem,
-        report.outcomes.items(),
-        proof,
-    )
-}
-
-/// Puts the first block of that view last. Where memory runs out, the text may end in part of it. It takes the time and the memory of
-/// `put_first_block`.
-pub fn put_accepted_block(
-    text: &mut Bytes,
-    alloc: Global,
-    network: &[u8],
-    problem: &Problem,
-    report: &Report,
-    proof: CostProof,
-) -> Result<(), NoMemory>
-    requires accepted { IsAcceptedReport (problem_case problem.now) problem.now.net.notes report.now }
-    requires holds { HoldsOfSingle (problem_case problem.now) proof report.now.outcomes }
-    ensures { OnOk result (AddsText (IsFirstBlock network.now (problem_case problem.now) report.now.outcomes proof) text.old text.new) }
-{
-    put_first_block(
         text,
         alloc,
         network,

@@ -15,7 +15,7 @@ mod states;
 mod trees;
 mod views;
 
-pub use accepted::{put_accepted, put_accepted_block};
+pub use accepted::put_accepted;
 pub use states::{picture_form, state_form};
 pub use view_forms;
 pub use views::view_report;
