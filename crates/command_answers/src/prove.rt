@@ -1,4 +1,4 @@
-ghost use Rattle.std.specs.Prelude.{◌≡◌, ◌≤◌, ◌<◌, ◌↔◌, All, IfOk, IsTrue};
+ghost use Rattle.std.specs.Prelude.{◌≡◌, ◌≤◌, IfOk};
 ghost use Rattle.plan_terms.specs.Terms.{case, case_of};
 ghost use Rattle.proof_report.specs.Terms.{IsSeparationOf, AreCharged};
 ghost use Rattle.proof_report.specs.ProvedReports.{IsProofEnding, IsProvedReport};
@@ -7,26 +7,12 @@ ghost use Rattle.check_answers.specs.declared.status.Status.{Status};
 
 use crate::plan::separated;
 use check_answers::{Answer, Status};
-use net_core::{Instance, Link, List, Module, Name, NoMemory, Problem, StateId};
+use net_core::{Instance, List, Name, NoMemory, Problem, StateId};
 use outside_io::Gate;
-use proof_report::{ProofEnding, ProvedReport, prove_once, write_proved};
+use proof_report::{ProofEnding, ProvedReport, are_charged, prove_once, write_proved};
 use std::alloc::Global;
 use std::sync::Wait;
 use std::thread::Threads;
-
-/// Whether each of these modules costs something.
-fn are_dear(modules: &[Module]) -> bool
-    ensures { IsTrue result ↔ All (λ m. 0 < m.cost) modules.now }
-{
-    modules.iter().all(|m| m.cost > 0)
-}
-
-/// Whether all modules cost something.
-fn are_charged(links: &[Link]) -> bool
-    ensures { IsTrue result ↔ AreCharged links.now }
-{
-    links.iter().all(|l| are_dear(l.modules.items()))
-}
 
 /// The answer to a network in which a module costs nothing.
 fn free_module(alloc: Global) -> Result<Answer, NoMemory>

@@ -1,19 +1,13 @@
-ghost use Rattle.std.specs.Prelude.{◌≡◌, ℕ, ◌<◌, ◌↔◌, [], All, IfOk, IsTrue, MatchOption};
+ghost use Rattle.std.specs.Prelude.{◌≡◌, ℕ, [], IfOk, MatchOption};
 ghost use Rattle.proof_report.specs.Terms.{AreCharged};
 ghost use Rattle.check_answers.specs.declared.status.Status.{Status};
 ghost use Rattle.front_plans.specs.FrontPlans.{IsFirstFreeLink, free_link_message};
 
 use crate::answer::PlanAnswer;
 use check_answers::Status;
-use net_core::{Bytes, Link, List, Module, NoMemory};
+use net_core::{Bytes, Link, List, NoMemory};
+use proof_report::are_dear;
 use std::alloc::Global;
-
-/// Whether each of these modules costs something.
-fn are_dear(modules: &[Module]) -> bool
-    ensures { IsTrue result ↔ All (λ m. 0 < m.cost) modules.now }
-{
-    modules.iter().all(|m| m.cost > 0)
-}
 
 /// The first link of which a module costs nothing.
 pub(crate) fn first_free(links: &[Link]) -> Option<&Link>

@@ -1,10 +1,12 @@
 //! The report of a plan with the branch tree that shows it to be cheapest, or how far from it the plan may be.
 #![tactic(auto)]
 
+mod charged;
 mod ending;
 mod handed;
 mod writer;
 
+pub use charged::{are_charged, are_dear};
 pub use ending::{ProofEnding, ProvedReport, prove_once, prove_once_by_lines};
 pub use trimmed_report;
 pub use trimmed_report::{lone_plan, trim_plan};
