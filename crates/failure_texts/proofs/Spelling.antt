@@ -1,12 +1,11 @@
 -- the text of a failure list spells its states
-use Rattle.std.proofs.Common.{◌≡◌, ℕ, ◌≤◌, List, [], ◌∷◌, ◌++◌, All, codes, flat_map, length, map, refl, sym, ap, subst, append_assoc, ◌∙◌}
-use Rattle.net_core.proofs.Library.{All-cons, All-from_recursion, All-head, All-nil, All-tail, AllByRecursion, flat_map-append}
+use Rattle.std.proofs.Common.{◌≡◌, ℕ, ◌≤◌, List, [], ◌∷◌, ◌++◌, codes, flat_map, length, refl, sym, ap, subst, append_assoc, ◌∙◌}
+use Rattle.net_core.proofs.Library.{All-from_recursion, AllByRecursion, flat_map-append}
 use Rattle.plan_terms.specs.Terms.{Demand, IsSurvivable, Link, LinkId, Listed, Network, link_name}
-use Rattle.text_kit.specs.Terms.{AddsItems, Closing, IsFileOf, IsShortItem, Item, Opening, Verbatim, section, written}
-use Rattle.text_kit.specs.Written.{byte_after, word_of}
+use Rattle.text_kit.specs.Terms.{AddsItems, Closing, IsFileOf, IsShortItem, Item, Verbatim, section, written}
 use Rattle.text_kit.proofs.Lemmas.{writable, written_is_read}
-use Rattle.comment_lines.specs.Comments.{AddsLines, IsOneLine, comment_line, commented, spaced_items}
-use Rattle.comment_lines.proofs.Passing.{comments_are_no_items}
+use Rattle.comment_lines.specs.Comments.{AddsLines, comment_line}
+use Rattle.report_comments.proofs.Endings.{EndsLine, comments_taken, ends_after, section_ends}
 use Rattle.model_reader.specs.Failures.{IsShort, SpellsFailures, failures_header, list_items, state_items}
 use Rattle.model_reader.specs.declared.failures.FailureList.TheVariants.{OneByOne}
 use Rattle.failure_texts.specs.Fates.{AreFates, with_states}
@@ -14,38 +13,6 @@ use Rattle.failure_texts.specs.FailureTexts.{IsFailureList, able_state, able_sta
 use Rattle.failure_texts.specs.inner.FateItems.{fate_items}
 use Rattle.failure_texts.specs.declared.fates.Fate.{Fate}
 use Rattle.failure_texts.proofs.Listing.{listing, listing_states, listing_survived}
-
--- ---- texts whose last byte ends a line
-
-record EndsLine (text : List ℕ) : Type 0 where
-  pub front : List ℕ
-  pub is : text ≡ front ++ 10 ∷ []
-
-ends_after : (before text : List ℕ) → EndsLine text → EndsLine (before ++ text)
-ends_after before text ends = record { front = before ++ ends.front; is = ap (λ (t : List ℕ). before ++ t) ends.is ∙ sym (append_assoc before ends.front (10 ∷ [])) }
-
-written_before : (i : Item) (is : List Item) → EndsLine (written is) → EndsLine (written (i ∷ is))
-written_before i is ends = ends_after (word_of i) (byte_after i ∷ written is) (ends_after (byte_after i ∷ []) (written is) ends)
-
--- items of which the last closes a parenthesis
-written_ends : (is : List Item) → EndsLine (written (is ++ Closing ∷ []))
-written_ends [] = record { front = 41 ∷ []; is = refl }
-written_ends (i ∷ is) = written_before i (is ++ Closing ∷ []) (written_ends is)
-
--- ---- comments
-
-abbrev words_of : List (List Item) → List (List ℕ)
-words_of lines = map spaced_items lines
-
-lines_are : (lines : List (List Item)) → flat_map comment_line lines ≡ flat_map commented (words_of lines)
-lines_are [] = refl
-lines_are (l ∷ lines) = ap (λ (t : List ℕ). comment_line l ++ t) (lines_are lines)
-
-lines_one : (lines : List (List Item)) → All (λ items. IsOneLine (spaced_items items)) lines → All IsOneLine (words_of lines)
-lines_one [] all = All-nil IsOneLine
-lines_one (l ∷ lines) all =
-    let is : List Item → Type 0 = λ items. IsOneLine (spaced_items items) in
-    All-cons IsOneLine (spaced_items l) (words_of lines) (All-head is l lines all) (lines_one lines (All-tail is l lines all))
 
 -- ---- items
 
@@ -94,16 +61,14 @@ text_spells net demands fates start mid text are begun items comments =
     let body : mid ≡ failures_header ++ 10 ∷ written all = put.text ∙ (ap (λ (t : List ℕ). t ++ written all) begun ∙ append_assoc failures_header (10 ∷ []) (written all)) in
     let whole : text ≡ failure_list_text links demands fates = comments.text ∙ ap (λ (t : List ℕ). t ++ flat_map comment_line lines) body in
     let ends : EndsLine (failures_header ++ 10 ∷ written all) = ends_after failures_header (10 ∷ written all) (ends_after (10 ∷ []) (written all)
-    (written_before (Verbatim (codes "FAILURES")) (Opening ∷ flat_map (state_items links) listed ++ Closing ∷ []) (written_before Opening (flat_map (state_items links) listed ++ Closing ∷ []) (written_ends (flat_map (state_items links) listed))))) in
+    (section_ends (codes "FAILURES") (flat_map (state_items links) listed))) in
     let file : IsFileOf failures_header all (failures_header ++ 10 ∷ written all) = written_is_read failures_header all (record { one = refl; no_blank = refl }) (writable all put.each) in
-    let more = comments_are_no_items failures_header all ends.front (words_of lines) (lines_one lines comments.each) (subst (λ (t : List ℕ). IsFileOf failures_header all t) ends.is file) in
-    let both : (ends.front ++ 10 ∷ []) ++ flat_map commented (words_of lines) ≡ text =
-    ap (λ (t : List ℕ). t ++ flat_map commented (words_of lines)) (sym ends.is) ∙ (ap (λ (t : List ℕ). (failures_header ++ 10 ∷ written all) ++ t) (sym (lines_are lines)) ∙ sym whole) in (
+    let added : AddsLines (failures_header ++ 10 ∷ written all) lines text = subst (λ (t : List ℕ). AddsLines t lines text) body comments in (
       whole,
       (
         OneByOne listed,
         (listing_states net demands listed (listing net demands fates are), All-from_recursion (IsShort links) listed (states_short links listed (Closing ∷ []) put.each.1.1)),
-        subst (λ (t : List ℕ). IsFileOf failures_header all t) both more,
+        comments_taken failures_header all (failures_header ++ 10 ∷ written all) text lines ends added file,
         refl,
       ),
     )

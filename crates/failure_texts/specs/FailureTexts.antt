@@ -1,7 +1,8 @@
 -- a failure list as text, and what is answered in its place
-use Rattle.std.specs.Prelude.{◌≡◌, ℕ, List, [], ◌∷◌, ◌++◌, codes, flat_map, length, slice_get}
+use Rattle.std.specs.Prelude.{◌≡◌, ℕ, List, [], ◌∷◌, ◌++◌, codes, flat_map, length}
 use Rattle.std.specs.Option.{option_map_or}
 use Rattle.plan_terms.specs.Terms.{Demand, IsFirstSeparation, IsSurvivable, Link, Listed, Network, link_name, single_state}
+use Rattle.plan_report.specs.Terms.{demand_name}
 use Rattle.text_kit.specs.Terms.{Item, Verbatim, written}
 use Rattle.comment_lines.specs.Comments.{comment_line}
 use Rattle.model_reader.specs.Failures.{SpellsFailures, failures_header, list_items}
@@ -19,14 +20,10 @@ able_state links fate = option_map_or (λ k. []) fate.separated (single_state fa
 abbrev pub able_states : List Link → List Fate → List Listed
 able_states links fates = flat_map (able_state links) fates
 
--- the name of the demand at a place
-abbrev pub separated_name : List Demand → ℕ → List ℕ
-separated_name demands k = option_map_or (λ d. d.name) (slice_get demands k) []
-
 -- the words on a link whose failure separates a demand
 abbrev pub left_out_items : List Link → List Demand → Fate → ℕ → List Item
 left_out_items links demands fate k =
-    Verbatim (link_name links fate.link) ∷ Verbatim (codes "is left out: without it demand") ∷ Verbatim (separated_name demands k)
+    Verbatim (link_name links fate.link) ∷ Verbatim (codes "is left out: without it demand") ∷ Verbatim (demand_name demands k)
     ∷ Verbatim (codes "can't be carried") ∷ []
 
 -- these words, where it separates one

@@ -1,39 +1,11 @@
-ghost use Rattle.std.specs.Prelude.{◌≡◌, ◌∷◌, [], OnOk, flat_map};
-ghost use Rattle.plan_terms.specs.Terms.{link_name};
-ghost use Rattle.comment_lines.specs.Comments.{AddsLines, AddsSpaced, IsOneLine};
-ghost use Rattle.failure_texts.specs.FailureTexts.{left_out, left_out_items, separated_name};
+ghost use Rattle.std.specs.Prelude.{◌∷◌, [], OnOk, flat_map};
+ghost use Rattle.comment_lines.specs.Comments.{AddsLines, AddsSpaced};
+ghost use Rattle.failure_texts.specs.FailureTexts.{left_out, left_out_items};
 
 use crate::fates::Fate;
 use comment_lines::puts::put_word;
-use net_core::{Bytes, Demand, Link, LinkId, NoMemory};
-
-/// The name of a link; nothing where there is no such link.
-#[tactic(auto, using(crate::proofs::Names::no_link, crate::proofs::Names::one_line))]
-fn link_name(links: &[Link], link: LinkId) -> &[u8]
-    ensures name { result.now ≡ link_name links.now link }
-    ensures line { IsOneLine result.now }
-{
-    let e = link.0 as usize;
-    if e < links.len() {
-        links[e].name.bytes()
-    } else {
-        b""
-    }
-}
-
-/// The name of a demand; nothing where there is no such demand.
-#[tactic(auto, using(crate::proofs::Names::no_demand, crate::proofs::Names::one_line))]
-fn demand_name(demands: &[Demand], k: u32) -> &[u8]
-    ensures name { result.now ≡ separated_name demands.now k }
-    ensures line { IsOneLine result.now }
-{
-    let k = k as usize;
-    if k < demands.len() {
-        demands[k].name.bytes()
-    } else {
-        b""
-    }
-}
+use net_core::{Bytes, Demand, Link, NoMemory};
+use report_comments::{put_demand, put_link_name};
 
 /// Puts the words on a link last whose failure separates the demand at a place.
 fn put_words(
@@ -45,9 +17,8 @@ fn put_words(
 ) -> Result<(), NoMemory>
     ensures { OnOk result (AddsSpaced text.old (left_out_items links.now demands.now fate k) text.new) }
 {
-    put_word(text, link_name(links, fate.link))?;
-    put_word(text, b"is left out: without it demand")?;
-    put_word(text, demand_name(demands, k))?;
+    put_link_name(text, links, fate.link)?;
+    put_demand(text, b"is left out: without it demand", demands, k)?;
     put_word(text, b"can't be carried")
 }
 

@@ -6,4 +6,4 @@ pub mod law;
 mod names;
 
 pub use evidence::put_evidence;
-pub use names::put_link;
+pub use names::{put_demand, put_link, put_link_name};

@@ -34,8 +34,8 @@ fn demand_name(demands: &[Demand], demand: u32) -> &[u8]
     }
 }
 
-/// Puts a link's name last.
-fn put_link_name(text: &mut Bytes, links: &[Link], link: LinkId) -> Result<(), NoMemory>
+/// Puts a link's name last, after a space, in the time and memory of `put_link`.
+pub fn put_link_name(text: &mut Bytes, links: &[Link], link: LinkId) -> Result<(), NoMemory>
     ensures { OnOk result (AddsSpaced text.old (Verbatim (link_name links.now link) ∷ []) text.new) }
 {
     put_word(text, link_name(links, link))
@@ -51,7 +51,7 @@ pub fn put_link(text: &mut Bytes, word: &[u8], links: &[Link], link: LinkId) -> 
     put_link_name(text, links, link)
 }
 
-/// Puts a word and the name of a demand last.
+/// Puts a word and the name of a demand last, as `put_link` does with a link's.
 pub fn put_demand(
     text: &mut Bytes,
     word: &[u8],
