@@ -1,8 +1,8 @@
 -- the bound of the best candidate is certified, and at least the own bound of each
 use Rattle.std.proofs.Common.{◌≡◌, ℕ, zero, suc, ◌-◌, ◌*◌, ◌^◌, ◌<◌, ◌≤◌, ⊎_elim, List, [], ◌∷◌, All, Some, get_or, length, slice_get, refl, sym, ap, subst, ◌∙◌, arith, mul-le-mul_left}
-use Rattle.net_core.proofs.Library.{◌∣◌, ∥∥₁_elim, ∥∥₁_map, props, All-nil, All-get_or, dvd-zero, get_or_from_slice_get, slice_get_within, dvd-mul_left, eq-one_of_dvd-one, le_of_mul-le-mul_left}
+use Rattle.net_core.proofs.Library.{◌∣◌, ∥∥₁_elim, ∥∥₁_map, props, All-nil, All-get_or, dvd-zero, get_or_from_slice_get, slice_get-get_or, slice_get_within, dvd-mul_left, eq-one_of_dvd-one, le_of_mul-le-mul_left}
 use Rattle.std.proofs.lemmas.Nat.Gcd.{le_of_dvd}
-use Rattle.plan_terms.specs.Terms.{Entry, Link, CutLine, Case, IsNetwork, IsBound, IsLowest, IsCertificate, fixed_along, IsOwnBound}
+use Rattle.plan_terms.specs.Terms.{Entry, Link, CutLine, Case, IsNetwork, IsBound, IsLowest, IsCertificate, fixed_along, IsBestOwn, IsOwnBound}
 use Rattle.plan_terms.proofs.Lemmas.{bound_same, lowest_positive, alone, certificate_alone, empty_certificate, empty_raw, own_bound_unique, product_below, raw_alone}
 use Rattle.plan_report.specs.Terms.{IsCertificateLineInForm, IsSpotInForm, CertLine, Spot, Pool, Local}
 use Rattle.cut_pool.specs.Terms.{cut_of_line, cuts_of}
@@ -16,6 +16,20 @@ use Rattle.net_core.proofs.Lists.{all_one}
 use Rattle.checked_fraction.proofs.Once.{divides_rest, shared_divisor}
 use Rattle.plan_rounds.proofs.Bounding.{has_bound}
 use Rattle.planner.proofs.Candidates.{AreCandidates, IsCandidate, IsCertifiedBound}
+
+-- the bound of a cut at its place, where that is the first of greatest own bound
+pub best_of_cut : (links : List Link) (w : Worked) (k : ℕ) (lines : List CutLine) (spots : List Spot) → lines ≡ w.lines → spots ≡ w.spots → length w.spots ≡ length w.lines
+    → (cut : CutLine) (other : Spot) (b : CertifiedBound) → cut ≡ get_or lines k cut → IsBestOwn links w.lines k → IsBoundOfCut links cut (get_or spots k other) b → IsBoundOfBest links w k b
+best_of_cut links w k lines spots one two same cut other b is best of =
+    let inside : k < length w.lines = slice_get_within w.lines k best.cut best.at in
+    record {
+      cut = cut;
+      at = slice_get-get_or w.lines k cut inside ∙ ap Some (sym (is ∙ ap (λ (xs : List CutLine). get_or xs k cut) one));
+      spot = get_or w.spots k other;
+      spot_at = slice_get-get_or w.spots k other (omega (arith, inside, same));
+      best = best;
+      of_cut = subst (λ (xs : List Spot). IsBoundOfCut links cut (get_or xs k other) b) two of;
+    }
 
 -- where the raw value is 0, so is the bound
 bound_zero : (links : List Link) (num den bound : ℕ) → IsBound links num den bound → num ≡ 0 → bound ≡ 0

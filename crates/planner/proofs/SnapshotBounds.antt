@@ -6,7 +6,6 @@ use Rattle.plan_terms.proofs.Lemmas.{bound_same}
 use Rattle.plan_types.specs.Terms.{lines_of_certificate}
 use Rattle.plan_report.specs.Terms.{CertLine, Spot, Pool, Local}
 use Rattle.cut_pool.specs.Terms.{cut_of_line, cuts_of}
-use Rattle.cut_pool.specs.declared.snapshot.Snapshot.{Snapshot}
 use Rattle.plan_rounds.specs.Terms.{Best, IsFullHistory, IsSpotIn}
 use Rattle.master_law.specs.Terms.{share_cost}
 use Rattle.master_law.proofs.Greatest.{greatest_raw}
@@ -15,7 +14,7 @@ use Rattle.plan_law.specs.WorkedLists.{HasCut, Round, after_rounds}
 use Rattle.plan_law.proofs.Rounds.{worked_cuts}
 use Rattle.plan_rounds.specs.WorkedRounds.{AreWorkedRounds, EndsBy, IsBestAt, IsBestOfLast}
 use Rattle.plan_rounds.specs.declared.rounds.Worked.{Worked}
-use Rattle.planner.specs.SnapshotPlans.{AreHeld, IsSnapshotIn}
+use Rattle.planner.specs.SnapshotPlans.{AreHeld}
 use Rattle.planner.specs.SoundPlans.{AreOpeningAtMost, IsAboveOwnBounds, IsOwnAtMost}
 use Rattle.planner.specs.declared.own_bound.CertifiedBound.{CertifiedBound}
 use Rattle.planner.specs.inner.Finishing.{AreMultipliersOf, IsBetterBound, IsBoundOfMaster, IsGreaterBound, IsShareFor, bound_made}
@@ -36,36 +35,35 @@ spot_held : (history : List Entry) (cut : ℕ × List ℕ) (spot : Spot) → (Is
 spot_held history cut (Pool i) room at = (i, slice_get_within (cuts_of history) i cut at, get_or_from_slice_get (cuts_of history) i cut cut at)
 spot_held history cut Local room at = absurd (room at.0)
 
--- The rounds of a snapshot of the first entries of a history, with what is known of the network, and of the history now.
-pub record IsWorkedFor (p : Case) (before history : List Entry) (s : Snapshot) (w : Worked) : Type 0 where
+-- The rounds on a pool's cuts, with what is known of the network, of these cuts, and of the history now.
+pub record IsWorkedFor (p : Case) (history : List Entry) (pool : List CutLine) (w : Worked) : Type 0 where
   pub net : IsNetwork p.nodes p.links
-  pub given : IsSnapshotIn p before s
-  pub low_position : s.position ≤ 65536
-  pub few_pool : length s.cuts ≤ 4096
+  pub cuts : All (IsCut p) pool
+  pub few_pool : length pool ≤ 4096
   pub few : length (cuts_of history) ≤ 4096
-  pub are : AreWorkedRounds p history s.cuts w
+  pub are : AreWorkedRounds p history pool w
 
-module _ {p : Case} {before history : List Entry} {s : Snapshot} {w : Worked} (f : IsWorkedFor p before history s w) where
-  abbrev are : AreWorkedRounds p history s.cuts w
+module _ {p : Case} {history : List Entry} {pool : List CutLine} {w : Worked} (f : IsWorkedFor p history pool w) where
+  abbrev are : AreWorkedRounds p history pool w
   are = f.are
 
   pub lines_are : All (IsCut p) w.lines
-  lines_are = worked_cuts p are.pairs s.cuts are.rounds w.lines f.given.cuts are.list
+  lines_are = worked_cuts p are.pairs pool are.rounds w.lines f.cuts are.list
 
   pub candidates_are : AreCandidates p history w
   candidates_are = record { cuts = λ k d lt. record { cut_is = lines_are k d lt; low = are.low k d lt }; stand = are.spots }
 
   abbrev pub EndsAs : Option Best → Type 0
-  EndsAs o = EndsBy p are.pairs w.lines (length w.lines ≡ length s.cuts + 4096) (IsBestOfLast p are.pairs are.list.start are.rounds) o w.quality
+  EndsAs o = EndsBy p are.pairs w.lines (length w.lines ≡ length pool + 4096) (IsBestOfLast p are.pairs are.list.start are.rounds) o w.quality
 
   pub has_best : (best : Best) → w.best ≡ Some best → HasBest p w.lines best
-  has_best best e = best_there p are.pairs s.cuts w.lines are.rounds are.list w.quality best (subst EndsAs e are.ends)
+  has_best best e = best_there p are.pairs pool w.lines are.rounds are.list w.quality best (subst EndsAs e are.ends)
 
   pub multipliers_are : IfSome w.best (AreMultipliersOf w)
   multipliers_are = if_some (AreMultipliersOf w) w.best (λ best e. let h = has_best best e in best_multipliers p history w candidates_are h.cuts h.more h.following best h.of)
 
   pub shares_are : IfSome w.best (IsShareFor p w.quality)
-  shares_are = if_some (IsShareFor p w.quality) w.best (λ best e. share_for p are.pairs s.cuts w.lines are.rounds are.list w.quality best (subst EndsAs e are.ends))
+  shares_are = if_some (IsShareFor p w.quality) w.best (λ best e. share_for p are.pairs pool w.lines are.rounds are.list w.quality best (subst EndsAs e are.ends))
 
   -- each cut is in the history, or that takes no further one
   pub lines_held : AreHeld history w.lines
@@ -151,11 +149,11 @@ module _ {p : Case} {before history : List Entry} {s : Snapshot} {w : Worked} (f
               subst (λ t. IsOwnAtMost p b.bound t ls) has.4.0 (subst (IsOwnAtMost p b.bound cut.state.0) has.4.1 (listed_at_most cut among))) h.lengths h.each;
         }
 
-    pub above_own : IsAboveOwnBounds p (map cut_of_line s.cuts) b.bound
+    pub above_own : IsAboveOwnBounds p (map cut_of_line pool) b.bound
     above_own = record {
-      known = All-map (λ (x : ℕ × List ℕ). IsOwnAtMost p b.bound x.0 x.1) cut_of_line s.cuts (λ k d lt.
-          let cut : CutLine = get_or s.cuts k d in
-          listed_at_most cut (subst (λ xs. Contains xs cut) (sym are.list.following) (Contains-append_left s.cuts are.list.added cut (Contains-get_or s.cuts k d lt))));
+      known = All-map (λ (x : ℕ × List ℕ). IsOwnAtMost p b.bound x.0 x.1) cut_of_line pool (λ k d lt.
+          let cut : CutLine = get_or pool k d in
+          listed_at_most cut (subst (λ xs. Contains xs cut) (sym are.list.following) (Contains-append_left pool are.list.added cut (Contains-get_or pool k d lt))));
       opening = opening_at_most;
     }
 

@@ -1,12 +1,11 @@
 -- what planning for a snapshot knows, from what it was given
 use Rattle.std.proofs.Common.{◌≡◌, ℕ, ◌≤◌, List, All, IfSome, get_or, length, take, drop, sym, ap, subst, ◌∙◌, arith, length-append, take-append-drop}
 use Rattle.net_core.proofs.Library.{∥∥₁_elim, ∥∥₁_map, take-length, props, length-map}
-use Rattle.plan_terms.specs.Terms.{Entry, Network, CutLine, States, Case, graph_in, AreDemands, IsNetwork, case, AreWithinLimits, IsCut, IsFallback, HasShortLengths}
+use Rattle.plan_terms.specs.Terms.{Entry, Network, CutLine, States, Case, graph_in, AreDemands, IsNetwork, case, IsCut, HasShortLengths}
 use Rattle.plan_types.specs.declared.plan.Plan.{Plan}
 use Rattle.cut_pool.specs.Terms.{cut_of_line, cuts_of, IsSnapshotOf, opening_case}
 use Rattle.cut_pool.specs.declared.board.Board.{Board}
 use Rattle.cut_pool.specs.declared.snapshot.Snapshot.{Snapshot}
-use Rattle.module_choice.specs.declared.fallback.Fallback.{Fallback}
 use Rattle.plan_rounds.specs.WorkedRounds.{AreWorkedRounds, IsPoolOf}
 use Rattle.plan_rounds.specs.declared.rounds.Worked.{Worked}
 use Rattle.plan_rounds.proofs.Rights.{right_low}
@@ -16,7 +15,7 @@ use Rattle.plan_rounds.specs.Terms.{IsSeenHistory}
 use Rattle.planner.specs.SnapshotPlans.{IsSnapshotIn, IsSnapshotPlan}
 use Rattle.planner.specs.declared.own_bound.CertifiedBound.{CertifiedBound}
 use Rattle.planner.specs.inner.Candidates.{HaveBounds}
-use Rattle.planner.specs.inner.Finishing.{AreMultipliersOf, IsBetterBound, IsChosenFor, IsShareFor, plan_made}
+use Rattle.planner.specs.inner.Finishing.{AreMultipliersOf, AreWorkedOut, IsShareFor, plan_made}
 use Rattle.planner.proofs.BestBounds.{have_bounds}
 use Rattle.planner.proofs.Histories.{cuts_both, version_few}
 use Rattle.planner.proofs.SnapshotBounds.{IsWorkedFor, candidates_are, multipliers_are, shares_are}
@@ -51,24 +50,23 @@ pool_known net states history s belong given short =
 
 -- ---- after the rounds
 
-pub worked_for : {p : Case} {net_before net_after : Network} {states_before states_after : States} {before now : Seen Entry} {s : Snapshot} {w : Worked}
-    → ∥ IsSnapshotIn p before.history s ∥₁ → ∥ AreWorkedRounds p now.history s.cuts w ∥₁ → ∥ IsNetwork p.nodes p.links ∥₁
-    → ∥ IsSeenHistory net_before states_before before ∥₁ → ∥ IsSeenHistory net_after states_after now ∥₁ → ∥ IsWorkedFor p before.history now.history s w ∥₁
-worked_for given worked checked seen_before seen =
-    ∥∥₁_elim given (hlevel props) (λ is. ∥∥₁_elim checked (hlevel props) (λ net. ∥∥₁_elim seen_before (hlevel props) (λ kept_before. ∥∥₁_elim seen (hlevel props) (λ kept. ∥∥₁_map worked (λ are. record {
+pub worked_for : {p : Case} {net : Network} {states : States} {before : List Entry} {now : Seen Entry} {pool : List CutLine} {w : Worked}
+    → ∥ IsPoolOf p before pool ∥₁ → length pool ≤ 4096 → ∥ AreWorkedRounds p now.history pool w ∥₁ → ∥ IsNetwork p.nodes p.links ∥₁
+    → ∥ IsSeenHistory net states now ∥₁ → ∥ IsWorkedFor p now.history pool w ∥₁
+worked_for given few worked checked seen =
+    ∥∥₁_elim given (hlevel props) (λ is. ∥∥₁_elim checked (hlevel props) (λ net. ∥∥₁_elim seen (hlevel props) (λ kept. ∥∥₁_map worked (λ are. record {
       net = net;
-      given = is;
-      low_position = let inside = is.position in omega (arith, inside, kept_before.few);
-      few_pool = pool_few given seen_before;
+      cuts = is.cuts;
+      few_pool = few;
       few = kept.few_cuts;
       are = are;
-    })))))
+    }))))
 
-module _ {p : Case} {before history : List Entry} {s : Snapshot} {w : Worked} (told : ∥ IsWorkedFor p before history s w ∥₁) where
+module _ {p : Case} {history : List Entry} {pool : List CutLine} {w : Worked} (told : ∥ IsWorkedFor p history pool w ∥₁) where
   pub bounds_known : HaveBounds p.links w
   bounds_known = have_bounds p history w (∥∥₁_map told (λ f. candidates_are f)) (∥∥₁_elim told (hlevel props) (λ f.
       let long = ap length f.are.list.following in
-      omega (arith, long, f.are.list.few, f.few_pool, length-append s.cuts f.are.list.added)))
+      omega (arith, long, f.are.list.few, f.few_pool, length-append pool f.are.list.added)))
 
   pub multipliers_known : ∥ IfSome w.best (AreMultipliersOf w) ∥₁
   multipliers_known = ∥∥₁_map told (λ f. multipliers_are f)
@@ -76,13 +74,19 @@ module _ {p : Case} {before history : List Entry} {s : Snapshot} {w : Worked} (t
   pub shares_known : ∥ IfSome w.best (IsShareFor p w.quality) ∥₁
   shares_known = ∥∥₁_map told (λ f. shares_are f)
 
-  -- the plan that is made is sound
-  pub made_sound : (fallback : Fallback) (b : CertifiedBound) (chosen : Chosen) (plan : Plan) → AreDemands (length p.nodes) p.demands
-      → IsFallback p fallback.counts fallback.routings fallback.cost → AreWithinLimits p.links fallback.counts → All HasShortLengths w.lines
-      → IsBetterBound p.links w b → IsChosenFor p w.best fallback w.quality chosen → All (λ d. length d.name ≤ 255) p.demands → p.demands ≡ s.demands
-      → plan ≡ plan_made (record { version = s.version; position = s.position }) p.demands chosen b → ∥ IsSnapshotPlan p s history plan ∥₁
-  made_sound fallback b chosen plan belong is_fallback limits short better is_chosen named demands same =
-      ∥∥₁_map told (λ f. subst (IsSnapshotPlan p s history) (sym same) (plan_sound p f.net belong fallback is_fallback limits f b chosen short better is_chosen named demands))
+-- the plan that is made is sound
+pub made_sound : {p : Case} {net_before net_after : Network} {states_before states_after : States} {before now : Seen Entry} {s : Snapshot}
+    → ∥ IsSnapshotIn p before.history s ∥₁ → ∥ IsPoolOf p before.history s.cuts ∥₁ → ∥ IsNetwork p.nodes p.links ∥₁ → ∥ IsSeenHistory net_before states_before before ∥₁
+    → ∥ IsSeenHistory net_after states_after now ∥₁ → (chosen : Chosen) (b : CertifiedBound) (plan : Plan) → AreDemands (length p.nodes) p.demands → ∥ AreWorkedOut p now.history s.cuts chosen b ∥₁
+    → All (λ d. length d.name ≤ 255) p.demands → p.demands ≡ s.demands → plan ≡ plan_made (record { version = s.version; position = s.position }) p.demands chosen b
+    → ∥ IsSnapshotPlan p s now.history plan ∥₁
+made_sound {p = p} {before = before} {now = now} {s = s} given pool checked seen_before seen chosen b plan belong worked named demands same =
+    ∥∥₁_elim given (hlevel props) (λ is. ∥∥₁_elim seen_before (hlevel props) (λ kept. ∥∥₁_elim worked (hlevel props) (λ out.
+    ∥∥₁_map (worked_for pool (pool_few given seen_before) ∣ out.rounds ∣₁ checked seen) (λ f.
+    let counts = out.after.counts in
+    let low : s.position ≤ 65536 = let inside = is.position in omega (arith, inside, kept.few) in
+    subst (IsSnapshotPlan p s now.history) (sym same)
+    (plan_sound p f.net belong counts.fallback counts.is_fallback counts.narrow s f b chosen out.after.short out.after.better counts.is_chosen is.version low named demands)))))
 
 -- ---- snapshots of a board
 

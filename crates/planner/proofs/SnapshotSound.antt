@@ -70,7 +70,7 @@ module _ (p : Case) (net : IsNetwork p.nodes p.links) (belong : AreDemands (leng
 
   -- ---- the whole
 
-  module _ {before history : List Entry} {s : Snapshot} {w : Worked} (f : IsWorkedFor p before history s w) (b : CertifiedBound) (chosen : Chosen) (short : All HasShortLengths w.lines)
+  module _ {history : List Entry} (s : Snapshot) {w : Worked} (f : IsWorkedFor p history s.cuts w) (b : CertifiedBound) (chosen : Chosen) (short : All HasShortLengths w.lines)
       (better : IsBetterBound p.links w b) (is : IsChosenFor p w.best fallback w.quality chosen) where
     abbrev are : AreWorkedRounds p history s.cuts w
     are = f.are
@@ -107,13 +107,13 @@ module _ (p : Case) (net : IsNetwork p.nodes p.links) (belong : AreDemands (leng
     raw_positive : 1 ≤ b.raw.den
     raw_positive = let made = certified in lowest_positive (raw_value p.links (lines_of_certificate b.certificate)) b.certificate.den b.raw.num b.raw.den made.certificate.positive made.raw
 
-    form : All (λ d. length d.name ≤ 255) p.demands → IsPlanInForm (known_to p) whole
-    form named =
+    form : s.version ≤ s.position → s.position ≤ 65536 → All (λ d. length d.name ≤ 255) p.demands → IsPlanInForm (known_to p) whole
+    form version position named =
         let counts = chosen_counts w.best w.quality chosen is in
         let made = certified in
         record {
-          version = let le = f.given.version in omega (arith, le, f.low_position);
-          position = f.low_position;
+          version = omega (arith, version, position);
+          position = position;
           demands = demands_in_form p.nodes p.demands belong named;
           counts = counts.shape;
           limits = counts.limits;
@@ -127,8 +127,8 @@ module _ (p : Case) (net : IsNetwork p.nodes p.links) (belong : AreDemands (leng
           quality = form_by w.best are.ends is;
         }
 
-    pub plan_sound : All (λ d. length d.name ≤ 255) p.demands → p.demands ≡ s.demands → IsSnapshotPlan p s history whole
-    plan_sound named same =
+    pub plan_sound : s.version ≤ s.position → s.position ≤ 65536 → All (λ d. length d.name ≤ 255) p.demands → p.demands ≡ s.demands → IsSnapshotPlan p s history whole
+    plan_sound version position named same =
         let counts = chosen_counts w.best w.quality chosen is in
         let made = certified in
         record {
@@ -140,7 +140,7 @@ module _ (p : Case) (net : IsNetwork p.nodes p.links) (belong : AreDemands (leng
           certified = record { certificate = made.certificate; raw = made.raw; rounded = made.rounded };
           above = above_own f short b better;
           below = record { counts = fallback.counts; routings = fallback.routings; fallback_cost = fallback.cost; fallback = is_fallback; at_most = counts.at_most };
-          form = form named;
+          form = form version position named;
           lowest = record { certificate = made.lowest; none = made.none; routings = counts.lowest };
           spots = made.spots;
           cuts = w.lines;

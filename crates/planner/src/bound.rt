@@ -6,7 +6,7 @@ use crate::own_bound::{CertifiedBound, best_bound};
 use checked_fraction::cmp;
 use metric_cut::RawValue;
 use module_prices::bound_of;
-use net_core::{Copied, List, Network, NoMemory};
+use net_core::{Copied, List, Network, NoMemory, discard};
 use plan_rounds::Worked;
 use plan_rounds::master_bound::{Best, Multiplier};
 use plan_types::{CertLine, Certificate};
@@ -91,6 +91,7 @@ pub fn better_bound(
     let own = best_bound(alloc, net, worked)?;
     if let Some(best) = &worked.best {
         if is_at_least(best, &own.raw) {
+            discard(own);
             return bound_of_master(alloc, net, best, worked);
         }
     }

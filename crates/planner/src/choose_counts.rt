@@ -1,16 +1,16 @@
 ghost use Rattle.std.specs.Prelude.{◌≡◌, IfOk, IfSome};
 ghost use Rattle.plan_terms.specs.Terms.{case_of, AreWithinLimits, IsFallback, IsSurvivable};
-ghost use Rattle.planner.specs.inner.Finishing.{IsChosenFor, IsShareFor};
+ghost use Rattle.planner.specs.inner.Finishing.{IsChosenAfter, IsChosenFor, IsShareFor};
 
-use module_choice::Fallback;
-use net_core::{Instance, NoMemory};
+use module_choice::{Fallback, fallback_plan};
+use net_core::{Instance, NoMemory, discard};
 use plan_rounds::master_bound::Best;
 use plan_types::Quality;
 use share_covers::{Chosen, choose};
 use std::alloc::Global;
 
-/// The counts that cover the share of a best certificate, or for a cause the fallback plan; the fallback plan where there is no certificate.
-pub fn choose_counts(
+/// The counts that cover the share of a best certificate, or for a cause this fallback plan; the fallback plan where there is no certificate.
+fn choose_beside(
     alloc: Global,
     instance: &Instance,
     fallback: Fallback,
@@ -31,5 +31,25 @@ pub fn choose_counts(
             cost: fallback.cost,
             quality,
         }),
+    }
+}
+
+/// The counts that cover the share of a best certificate, or for a cause the fallback plan; the fallback plan where there is no certificate.
+pub fn choose_counts(
+    alloc: Global,
+    instance: &Instance,
+    best: &Option<Best>,
+    quality: Quality,
+) -> Result<Chosen, NoMemory>
+    requires survivable { IsSurvivable (case_of instance.now) }
+    requires best { ∥ IfSome best.now (IsShareFor (case_of instance.now) quality) ∥₁ }
+    ensures { IfOk result (IsChosenAfter (case_of instance.now) best.now quality) }
+{
+    match fallback_plan(alloc, instance.net, instance.states, instance.demands) {
+        Ok(fallback) => choose_beside(alloc, instance, fallback, best, quality),
+        Err(no_memory) => {
+            discard(quality);
+            Err(no_memory)
+        }
     }
 }

@@ -2,6 +2,7 @@
 //! what such counts cost.
 #![tactic(auto)]
 
+mod after_rounds;
 pub mod answer;
 mod bound;
 mod choose_counts;

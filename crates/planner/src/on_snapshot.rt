@@ -1,21 +1,16 @@
-ghost use Rattle.std.specs.Prelude.{◌≡◌, IfOk, OnOk, length};
+ghost use Rattle.std.specs.Prelude.{◌≡◌, IfOk, length};
 ghost use Rattle.plan_terms.specs.Terms.{AreDemands, case, IsSurvivable};
-ghost use Rattle.plan_rounds.specs.WorkedRounds.{IsWorkedAlone};
 ghost use Rattle.plan_rounds.specs.Terms.{SeesMore};
-ghost use Rattle.planner.specs.SnapshotPlans.{IsSnapshotAnswer, IsSnapshotIn, IsSnapshotPlan, PoolsAlone};
+ghost use Rattle.planner.specs.SnapshotPlans.{IsSnapshotAnswer, IsSnapshotIn, PoolsAlone};
 
+use crate::after_rounds::work_out;
 use crate::answer::PlanAnswer;
-use crate::bound::better_bound;
-use crate::choose_counts::choose_counts;
 use crate::plan::{Standing, make_plan};
 use crate::ranges::are_short_cuts;
 use cut_pool::Snapshot;
 use failure_states::first_separated;
-use module_choice::fallback_plan;
-use net_core::{Instance, Network, NoMemory, States};
+use net_core::{Instance, Network, NoMemory, States, discard};
 use plan_rounds::separator::Separate;
-use plan_rounds::{Worked, work_rounds};
-use plan_types::Plan;
 use std::alloc::Global;
 
 /// The plan for a snapshot where no state separates a demand.
@@ -25,7 +20,7 @@ fn plan_survivable<S: Separate>(
     states: &States,
     snapshot: Snapshot,
     separator: &mut S,
-) -> Result<Plan, NoMemory>
+) -> Result<PlanAnswer, NoMemory>
     requires network { (S.frame separator.old).network ≡ net.now }
     requires states { (S.frame separator.old).states ≡ states.now }
     requires belong { AreDemands (length net.now.nodes) snapshot.demands }
@@ -33,8 +28,9 @@ fn plan_survivable<S: Separate>(
     requires survivable { IsSurvivable (case net.now states.now snapshot.demands) }
     ensures frame { S.frame separator.new ≡ S.frame separator.old }
     ensures more { SeesMore (S.seen_of separator.old) (S.seen_of separator.new) }
-    ensures plan { IfOk result (λ plan. ∥ IsSnapshotPlan (case net.now states.now snapshot.demands) snapshot (S.seen_of separator.new).history plan ∥₁) }
-    ensures alone { OnOk result (IsWorkedAlone (case net.now states.now snapshot.demands) (S.seen_of separator.old) (S.seen_of separator.new)) }
+    ensures answer { IfOk result (IsSnapshotAnswer (case net.now states.now snapshot.demands) snapshot
+        (S.seen_of separator.old).history (S.seen_of separator.new).history) }
+    ensures alone { IfOk result (PoolsAlone (case net.now states.now snapshot.demands) (S.seen_of separator.old) (S.seen_of separator.new)) }
 {
     are_short_cuts(snapshot.cuts.items());
     let Snapshot {
@@ -43,19 +39,21 @@ fn plan_survivable<S: Separate>(
         demands,
         cuts,
     } = snapshot;
-    let fallback = fallback_plan(alloc, net, states, &demands)?;
     let instance = Instance {
         net,
         states,
         demands: &demands,
     };
-    let worked = work_rounds(alloc, &instance, cuts, separator)?;
-    are_short_cuts(worked.lines.items());
-    let bound = better_bound(alloc, net, &worked)?;
-    let Worked { best, quality, .. } = worked;
-    let chosen = choose_counts(alloc, &instance, fallback, &best, quality)?;
-    let at = Standing { version, position };
-    Ok(make_plan(at, demands, chosen, bound))
+    match work_out(alloc, &instance, cuts, separator) {
+        Ok((chosen, bound)) => {
+            let at = Standing { version, position };
+            Ok(PlanAnswer::Planned(make_plan(at, demands, chosen, bound)))
+        }
+        Err(no_memory) => {
+            discard(demands);
+            Err(no_memory)
+        }
+    }
 }
 
 /// The plan for a snapshot, or the first demand that a state separates.
@@ -88,8 +86,16 @@ pub fn plan_snapshot<S: Separate>(
         (S.seen_of separator.old).history (S.seen_of separator.new).history) }
     ensures alone { IfOk result (PoolsAlone (case net.now states.now snapshot.demands) (S.seen_of separator.old) (S.seen_of separator.new)) }
 {
-    match first_separated(alloc, net, states, &snapshot.demands)? {
-        Some(separation) => Ok(PlanAnswer::NotSurvivable(separation, snapshot.demands)),
-        None => Ok(PlanAnswer::Planned(plan_survivable(alloc, net, states, snapshot, separator)?)),
+    match first_separated(alloc, net, states, &snapshot.demands) {
+        Ok(None) => plan_survivable(alloc, net, states, snapshot, separator),
+        Ok(Some(separation)) => {
+            let Snapshot { demands, cuts, .. } = snapshot;
+            discard(cuts);
+            Ok(PlanAnswer::NotSurvivable(separation, demands))
+        }
+        Err(no_memory) => {
+            discard(snapshot);
+            Err(no_memory)
+        }
     }
 }

@@ -1,11 +1,12 @@
 -- the parts that a plan of a snapshot is put together of: the greater bound, and the counts that are chosen
 use Rattle.std.specs.Prelude.{◌≡◌, ℕ, ◌*◌, ◌^◌, ◌<◌, ◌≤◌, ◌⊎◌, List, Option, None, Some, All, get_or, length, map}
-use Rattle.plan_terms.specs.Terms.{Demand, Link, Case, IsBound}
+use Rattle.plan_terms.specs.Terms.{CutLine, Demand, Entry, Link, Case, AreWithinLimits, HasShortLengths, IsBound, IsFallback}
 use Rattle.plan_report.specs.Terms.{CertLine, Local, Plan, Quality}
 use Rattle.module_choice.specs.declared.fallback.Fallback.{Fallback}
 use Rattle.plan_rounds.specs.Terms.{cut_at, Best, Multiplier}
 use Rattle.share_covers.specs.Choices.{IsChosen, IsQualityOfShare}
 use Rattle.share_covers.specs.declared.choice.Chosen.{Chosen}
+use Rattle.plan_rounds.specs.WorkedRounds.{AreWorkedRounds}
 use Rattle.plan_rounds.specs.declared.rounds.Worked.{Worked}
 use Rattle.planner.specs.declared.own_bound.CertifiedBound.{CertifiedBound}
 use Rattle.planner.specs.declared.plan.Standing.{Standing}
@@ -64,6 +65,27 @@ abbrev pub IsChosenFor : Case → Option Best → Fallback → Quality → Chose
 IsChosenFor p None fallback quality chosen =
     chosen ≡ record { counts = fallback.counts; routings = fallback.routings; cost = fallback.cost; quality = quality }
 IsChosenFor p (Some best) fallback quality chosen = IsChosen p best.share fallback quality chosen
+
+-- what is chosen beside the fallback plan
+pub record IsChosenAfter (p : Case) (best : Option Best) (quality : Quality) (chosen : Chosen) : Type 0 where
+  pub fallback : Fallback
+  pub is_fallback : IsFallback p fallback.counts fallback.routings fallback.cost
+  pub narrow : AreWithinLimits p.links fallback.counts
+  pub is_chosen : IsChosenFor p best fallback quality chosen
+
+-- ---- the whole
+
+-- the counts that are chosen after rounds, and the greater bound of their cuts
+pub record AreAfterRounds (p : Case) (w : Worked) (chosen : Chosen) (b : CertifiedBound) : Type 0 where
+  pub short : All HasShortLengths w.lines
+  pub better : IsBetterBound p.links w b
+  pub counts : IsChosenAfter p w.best w.quality chosen
+
+-- those after rounds on a pool's cuts
+pub record AreWorkedOut (p : Case) (history : List Entry) (pool : List CutLine) (chosen : Chosen) (b : CertifiedBound) : Type 0 where
+  pub worked : Worked
+  pub rounds : AreWorkedRounds p history pool worked
+  pub after : AreAfterRounds p worked chosen b
 
 -- the plan of counts that were chosen and a certified bound
 abbrev pub plan_made : Standing → List Demand → Chosen → CertifiedBound → Plan
