@@ -1,4 +1,4 @@
-ghost use Rattle.std.specs.Prelude.{◌≡◌, ◌≤◌, ◌<◌, ◌+◌};
+ghost use Rattle.std.specs.Prelude.{◌≡◌, ◌≤◌, ◌<◌, ◌+◌, Ok};
 ghost use Rattle.std.specs.List.{list_any};
 ghost use Rattle.std.specs.Thread.{IsSync};
 ghost use Rattle.board_desk.specs.Turns.{AreAtOneDesk, caller_seen, caller_units};
@@ -7,6 +7,7 @@ ghost use Rattle.session_run.specs.inner.Running.{AreBoth, CanRun, EndsRun, case
 use crate::one_caller::run_caller;
 use crate::setting::{Setting, Stop};
 use board_desk::Caller;
+use net_core::discard;
 use outside_io::Gate;
 use plan_types::Outcome;
 use session_script::Command;
@@ -28,6 +29,16 @@ fn names_any(commands: &[Command], low: u32, high: u32) -> bool
     commands.iter().any(|command| is_of(command, low, high))
 }
 
+/// The outcomes of one group, and then those of another.
+fn joined(one: Vec<Outcome>, two: Vec<Outcome>) -> Result<Vec<Outcome>, Stop>
+    ensures { AreBoth (Ok one) (Ok two) result }
+{
+    let mut all = one;
+    let mut more = two;
+    all.append(&mut more)?;
+    Ok(all)
+}
+
 /// The outcomes of two groups.
 fn both(
     one: Result<Vec<Outcome>, Stop>,
@@ -35,10 +46,19 @@ fn both(
 ) -> Result<Vec<Outcome>, Stop>
     ensures { AreBoth one two result }
 {
-    let mut all = one?;
-    let mut more = two?;
-    all.append(&mut more)?;
-    Ok(all)
+    match one {
+        Ok(first) => match two {
+            Ok(second) => joined(first, second),
+            Err(stop) => {
+                discard(first);
+                Err(stop)
+            }
+        },
+        Err(stop) => {
+            discard(two);
+            Err(stop)
+        }
+    }
 }
 
 /// Runs the commands of one caller, under its number. It may never return.

@@ -1,8 +1,9 @@
-ghost use Rattle.std.specs.Prelude.{IfOk, length};
+ghost use Rattle.std.specs.Prelude.{◌≡◌, IfOk, length};
 ghost use Rattle.plan_terms.specs.Terms.{AreDemands, case};
 ghost use Rattle.board_desk.specs.Turns.{IsSameCaller, caller_seen};
 ghost use Rattle.separation_workers.specs.Terms.{SeesMore};
 ghost use Rattle.separation_workers.specs.Callers.{HasSeenHistory};
+ghost use Rattle.plan_types.specs.declared.report.Outcome.TheVariants as outcomes;
 ghost use Rattle.planner.specs.SnapshotPlans.{IsSnapshotAnswer, IsSnapshotIn, PoolsAlone};
 ghost use Rattle.session_run.specs.inner.Running.{IsOfSetting, case_made};
 ghost use Rattle.session_run.specs.inner.Turns.{IsOutcomeFor, IsSnapshotHere, NamesDemand, PlansAt, PlansSince};
@@ -10,9 +11,9 @@ ghost use Rattle.session_run.specs.inner.Turns.{IsOutcomeFor, IsSnapshotHere, Na
 use crate::setting::Setting;
 use board_desk::Caller;
 use cut_pool::Snapshot;
-use net_core::{Copied, NoMemory, discard};
+use net_core::{Copied, Demand, NoMemory, StateId, discard};
 use outside_io::Gate;
-use plan_types::Outcome;
+use plan_types::{Outcome, Plan};
 use planner::{PlanAnswer, plan_snapshot};
 use separation_workers::{Hold, Workers};
 use std::mem;
@@ -53,6 +54,37 @@ fn plan_beside<R: Threads + Wait, G: Gate>(
     answer
 }
 
+/// The outcome of a plan command that this plan was made for.
+fn planned(asked: Asked, plan: Plan) -> Outcome
+    ensures { result ≡ outcomes.Planned asked.caller asked.serial plan }
+{
+    Outcome::Planned {
+        caller: asked.caller,
+        serial: asked.serial,
+        plan,
+    }
+}
+
+/// The outcome of a plan command where the state separates the ends of the demand, for a snapshot of this version and position.
+fn unsurvivable(
+    asked: Asked,
+    version: u64,
+    position: u64,
+    state: StateId,
+    demand: &Demand,
+) -> Result<Outcome, NoMemory>
+    ensures { IfOk result (λ o. o ≡ outcomes.Unsurvivable asked.caller asked.serial version position state demand.now.name) }
+{
+    Ok(Outcome::Unsurvivable {
+        caller: asked.caller,
+        serial: asked.serial,
+        version,
+        position,
+        state,
+        demand: demand.name.copy()?,
+    })
+}
+
 /// The outcome of a plan command that was answered so, for a snapshot of this version and position.
 fn outcome_for(
     asked: Asked,
@@ -63,21 +95,15 @@ fn outcome_for(
     requires { NamesDemand answer }
     ensures { IfOk result (IsOutcomeFor asked version position answer) }
 {
-    Ok(match answer {
-        PlanAnswer::Planned(plan) => Outcome::Planned {
-            caller: asked.caller,
-            serial: asked.serial,
-            plan,
-        },
-        PlanAnswer::NotSurvivable(separation, demands) => Outcome::Unsurvivable {
-            caller: asked.caller,
-            serial: asked.serial,
-            version,
-            position,
-            state: separation.state,
-            demand: demands.items()[separation.demand as usize].name.copy()?,
-        },
-    })
+    match answer {
+        PlanAnswer::Planned(plan) => Ok(planned(asked, plan)),
+        PlanAnswer::NotSurvivable(separation, demands) => {
+            let demand = &demands.items()[separation.demand as usize];
+            let outcome = unsurvivable(asked, version, position, separation.state, demand);
+            discard(demands);
+            outcome
+        }
+    }
 }
 
 /// Plans for a caller that has taken this snapshot of all that it has seen.

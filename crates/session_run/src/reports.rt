@@ -1,5 +1,6 @@
-ghost use Rattle.std.specs.Prelude.{◌≡◌, ◌≤◌, ℕ, AllPairs, IfOk, length};
-ghost use Rattle.plan_terms.specs.Terms.{AreDemands};
+ghost use Rattle.std.specs.Prelude.{◌≡◌, ◌≤◌, ℕ, All, AllPairs, IfOk, length};
+ghost use Rattle.plan_terms.specs.Terms.{AreDemands, HasShortLengths};
+ghost use Rattle.cut_pool.specs.Boards.{AreLinesNow};
 ghost use Rattle.cut_pool.specs.Terms.{opening_case};
 ghost use Rattle.session_script.specs.Terms.{IsScript};
 ghost use Rattle.session_run.specs.Transcripts.{IsTranscript, outcome_caller, outcomes_of};
@@ -7,7 +8,7 @@ ghost use Rattle.session_run.specs.inner.Running.{HaveRun, all_own};
 
 use crate::ranges::{are_short_named, have_short_lengths};
 use cut_pool::Board;
-use net_core::{List, Network, NoMemory};
+use net_core::{CutLine, Entry, List, Network, NoMemory, discard};
 use plan_types::{Outcome, Report};
 use session_script::Command;
 use std::alloc::Global;
@@ -34,6 +35,29 @@ fn by_caller(alloc: Global, outcomes: List<Outcome>) -> Result<List<Outcome>, No
     Ok(sorted)
 }
 
+/// The journal of a board, and its pool, with right sides that are summed anew.
+fn journal_and_pool<R: Threads + Sync>(
+    rt: &R,
+    alloc: Global,
+    board: &Board,
+) -> Result<(List<Entry>, List<CutLine>), NoMemory>
+    ensures entries { IfOk result (λ both. both.0 ≡ board.now.entries) }
+    ensures pool { IfOk result (λ both. AreLinesNow board.now both.1) }
+    ensures short { IfOk result (λ both. All HasShortLengths both.1) }
+{
+    let entries = List::from_slice(alloc, board.entries())?;
+    match board.audited_lines(rt) {
+        Ok(pool) => {
+            have_short_lengths(pool.items());
+            Ok((entries, pool))
+        }
+        Err(no_memory) => {
+            discard(entries);
+            Err(no_memory)
+        }
+    }
+}
+
 /// The report of a board and the outcomes of its plans. The right sides of the pool are summed anew.
 pub fn report<R: Threads + Sync>(
     rt: &R,
@@ -48,13 +72,18 @@ pub fn report<R: Threads + Sync>(
     requires run { HaveRun (opening_case board.now) (all_own board.now.entries) commands.now outcomes }
     ensures { IfOk result (IsTranscript (opening_case board.now) net.now.notes commands.now) }
 {
-    let pool = board.audited_lines(rt)?;
-    have_short_lengths(pool.items());
     are_short_named(outcomes.items());
-    Ok(Report {
-        notes: net.notes(),
-        entries: List::from_slice(alloc, board.entries())?,
-        pool,
-        outcomes: by_caller(alloc, outcomes)?,
-    })
+    let sorted = by_caller(alloc, outcomes)?;
+    match journal_and_pool(rt, alloc, board) {
+        Ok((entries, pool)) => Ok(Report {
+            notes: net.notes(),
+            entries,
+            pool,
+            outcomes: sorted,
+        }),
+        Err(no_memory) => {
+            discard(sorted);
+            Err(no_memory)
+        }
+    }
 }

@@ -1,5 +1,5 @@
 -- what the types of a session's values say of them
-use Rattle.std.specs.Prelude.{◌≤◌, ◌<◌, ◌^◌, length}
+use Rattle.std.specs.Prelude.{◌≤◌, length}
 use Rattle.plan_report.specs.Terms.{Outcome, Planned, Unsurvivable}
 
 -- the demand that an outcome names has at most 255 bytes in its name
