@@ -10,6 +10,9 @@ pub struct Global;
 #[derive(Clone, Copy, Debug, PartialEq, Eq)]
 pub struct NoMemory;
 
+/// Lets a value go.
+pub fn discard<T>(_value: T) {}
+
 /// A vector whose calls take an allocator and may fail.
 pub struct Vec<T> {
     items: std::vec::Vec<T>,
@@ -33,6 +36,10 @@ impl<T> Vec<T> {
 
     pub fn truncate(&mut self, len: usize) {
         self.items.truncate(len)
+    }
+
+    pub fn retain(&mut self, keep: impl FnMut(&T) -> bool) {
+        self.items.retain(keep)
     }
 
     pub fn pop(&mut self) -> Option<T> {
