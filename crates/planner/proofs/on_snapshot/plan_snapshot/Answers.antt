@@ -1,4 +1,3 @@
-use Rattle.std.proofs.Common.{refl}
 use Rattle.plan_rounds.proofs.Lemmas.{sees_none}
 use Rattle.planner.proofs.on_snapshot.plan_snapshot.Goals as goal
 

@@ -1,7 +1,7 @@
 use Rattle.std.proofs.Common.{◌^◌, ◌<◌, ◌∙◌, List, [], ◌∷◌, All, ap, arith, inl, inr, refl, subst, sym}
 use Rattle.plan_terms.specs.Terms.{CutLine}
 use Rattle.plan_report.specs.Terms.{CertLine}
-use Rattle.planner.specs.inner.Candidates.{IsBoundOfCut, IsOwnCertificate}
+use Rattle.planner.specs.inner.Candidates.{IsBoundOfCut}
 use Rattle.planner.proofs.own_bound.bound_of_cut.Goals as goal
 
 pub returns-then-own-eq0 : goal.returns-then-own-eq0
