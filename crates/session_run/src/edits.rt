@@ -24,7 +24,7 @@ fn done_by(answer: EditAnswer) -> Result<(), Stop>
 }
 
 /// Makes a caller's edit in a turn. The gate hears of its beginning and its end. It may never return.
-pub fn make_edit<R: Wait, G: Gate>(
+pub fn run_edit<R: Wait, G: Gate>(
     rt: &R,
     gate: &G,
     edit: Edit,

@@ -4,8 +4,8 @@ ghost use Rattle.session_script.specs.Terms.{IsCommandInForm};
 ghost use Rattle.session_run.specs.inner.Running.{CanRun, EndsRun, IsOfSetting, case_made, commands_of};
 ghost use Rattle.session_run.specs.inner.Turns.{EndsAct, KeepsOutcome, progress_of};
 
-use crate::edits::make_edit;
-use crate::plans::{Asked, make_plan};
+use crate::edits::run_edit;
+use crate::plans::{Asked, run_plan};
 use crate::setting::{Setting, Stop};
 use board_desk::Caller;
 use net_core::Copied;
@@ -40,13 +40,13 @@ fn run_command<R: Threads + Wait, G: Gate>(
     ensures act { EndsAct (case_made caller.old) command.now (progress_of caller.old outcomes.old.items) (progress_of caller.new outcomes.new.items) result }
 {
     match &command.act {
-        Act::Change(edit) => make_edit(rt, gate, edit.copy()?, caller),
+        Act::Change(edit) => run_edit(rt, gate, edit.copy()?, caller),
         Act::Plan => {
             let asked = Asked {
                 caller: command.caller,
                 serial: outcomes.len() as u32 + 1,
             };
-            let outcome = make_plan(rt, gate, setting, asked, caller)?;
+            let outcome = run_plan(rt, gate, setting, asked, caller)?;
             keep(outcome, outcomes)
         }
     }

@@ -127,7 +127,7 @@ fn plan_at<R: Threads + Wait, G: Gate>(
 }
 
 /// Takes a snapshot for a caller in a turn that commits nothing, and plans for it outside the desk. It may never return.
-pub fn make_plan<R: Threads + Wait, G: Gate>(
+pub fn run_plan<R: Threads + Wait, G: Gate>(
     rt: &R,
     gate: &G,
     setting: &Setting,

@@ -4,7 +4,7 @@ use Rattle.board_desk.specs.Turns.{caller_seen}
 use Rattle.separation_workers.proofs.Seen.{seen_after_turn}
 use Rattle.session_run.proofs.Planning.{plan_since, snapshot_at_desk, stopped_since}
 use Rattle.session_run.proofs.Turns.{same_both, still_of}
-use Rattle.session_run.proofs.plans.make_plan.Goals as goal
+use Rattle.session_run.proofs.plans.run_plan.Goals as goal
 
 pub plan_at-requires-clause-of : goal.plan_at-requires-clause-of
 plan_at-requires-clause-of g c = still_of c.args.setting.now c.args.caller.now c.snapshot.new.self c.requires c.snapshot.ensures.same

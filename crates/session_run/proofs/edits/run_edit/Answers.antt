@@ -1,5 +1,5 @@
 use Rattle.session_run.proofs.Turns.{edit_ends}
-use Rattle.session_run.proofs.edits.make_edit.Goals as goal
+use Rattle.session_run.proofs.edits.run_edit.Goals as goal
 
 pub returns-clause-edit : goal.returns-clause-edit
 returns-clause-edit g c =
