@@ -8,8 +8,8 @@ ghost use Rattle.separator.specs.Findings.{IsFoundCutOf};
 use crate::depths::depth;
 use crate::round::Round;
 use hint_board::HintBoard;
-use metric_cut::{Cut, CutFault, violated_by};
-use net_core::{Copied, Instance, Lengths, List, NoMemory, StateId, Surviving, discard};
+use metric_cut::{Cut, violated_by};
+use net_core::{Copied, Lengths, List, NoMemory, StateId, Surviving, discard};
 use route_law::law::zeros_and_ones_are_priced;
 use separator::{are_narrow, line_of};
 use std::sync::Wait;
@@ -53,9 +53,8 @@ fn deepest_in(round: &Round, state: StateId) -> Result<Option<Lengths>, NoMemory
     requires { state.0 < length round.now.instance.states.now.listed + 1 }
     ensures { IfOk result (λ o. IfSome o (AreHintLengths (hint_links round.now.hints.now))) }
 {
-    let Instance { net, states, .. } = round.instance;
-    let graph = Surviving { net, states, state };
-    let mut parts = List::filled(round.alloc, 0, net.nodes().len())?;
+    let graph = round.instance.in_state(state);
+    let mut parts = List::filled(round.alloc, 0, graph.net.nodes().len())?;
     match deepest(round, &graph, parts.items_mut()) {
         Some(lengths) => Ok(Some(lengths.copy()?)),
         None => Ok(None),
@@ -70,10 +69,9 @@ fn if_violated(round: &Round, state: StateId, lengths: Lengths) -> Result<Option
     ensures { IfOk result (λ o. IfSome o (IsFoundCutOf (graph_in (case_of round.now.instance) state.0) round.now.instance.demands.now round.now.caps.now)) }
 {
     let instance = &round.instance;
-    let cut = match Cut::new(round.alloc, instance.net, instance.states, state, lengths) {
-        Ok(cut) => cut,
-        Err(CutFault::NoMemory) => return Err(NoMemory),
-        Err(_) => return Ok(None),
+    let found = Cut::in_graph(round.alloc, &instance.in_state(state), lengths)?;
+    let Some(cut) = found else {
+        return Ok(None);
     };
     let line = line_of(&cut, instance.demands)?;
     let is_violated = violated_by(&line, round.caps);

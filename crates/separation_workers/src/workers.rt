@@ -298,11 +298,7 @@ impl<'r, 'd, 'a, R: Threads + Wait, G: Gate> Separate for Workers<'r, 'd, 'a, R,
         self.level = 0;
         let round = Round {
             alloc: self.alloc,
-            instance: Instance {
-                net: instance.net,
-                states: instance.states,
-                demands: instance.demands,
-            },
+            instance: *instance,
             caps,
             caller: self.caller.number(),
             hints: self.hints,
@@ -320,11 +316,7 @@ impl<'r, 'd, 'a, R: Threads + Wait, G: Gate> Separate for Workers<'r, 'd, 'a, R,
         reach(self.alloc, &mut self.kept, instance.states.count())?;
         let round = Round {
             alloc: self.alloc,
-            instance: Instance {
-                net: instance.net,
-                states: instance.states,
-                demands: instance.demands,
-            },
+            instance: *instance,
             caps,
             caller: self.caller.number(),
             hints: self.hints,
