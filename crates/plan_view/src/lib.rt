@@ -13,6 +13,7 @@ mod states;
 mod summary;
 
 pub use links::link_rows;
+pub use loads::load_of;
 pub use parts::gap_of;
 pub use rerouting::goes_again;
 pub use rows::{LinkRow, LoadRow, PlanSummary, StateRow};

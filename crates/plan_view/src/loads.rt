@@ -11,8 +11,8 @@ fn names_link(link: LinkId, path: &[LinkId]) -> bool
     path.iter().any(|x| x.0 == link.0)
 }
 
-/// What flows bring onto a link, over their denominator.
-pub(crate) fn load_of(flows: &[Flow], link: LinkId) -> u128
+/// What flows bring onto a link, over their denominator. It takes time in the links of their paths, and no memory.
+pub fn load_of(flows: &[Flow], link: LinkId) -> u128
     requires { load flows.now link.0 < 2 ^ 128 }
     ensures { result ≡ load flows.now link.0 }
 {

@@ -1,10 +1,10 @@
 ghost use Rattle.std.specs.Prelude.{◌≡◌, ℕ, ◌*◌, ◌^◌, ◌<◌, ◌≤◌, ◌++◌, ◌∷◌, [], IfOk, OnOk};
-ghost use Rattle.plan_terms.specs.Terms.{load, names_link};
+ghost use Rattle.plan_terms.specs.Terms.{load};
 ghost use Rattle.plan_view.specs.Terms.{IsCeiling};
 ghost use Rattle.view_svg.specs.Changes.{AreRoundedLoads, changed_flows};
 
 use net_core::{Copied, Flow, LinkId, List, NoMemory};
-use plan_view::goes_again;
+use plan_view::{goes_again, load_of};
 use std::alloc::Global;
 
 /// Puts a flow last, if no flow of the same demand takes its path where nothing fails.
@@ -27,26 +27,6 @@ fn changed_flows(alloc: Global, normal: &[Flow], flows: &[Flow]) -> Result<List<
         push_changed(&mut changed, normal, f)?;
     }
     Ok(changed)
-}
-
-fn names_link(link: LinkId, path: &[LinkId]) -> bool
-    ensures { result ≡ names_link link.0 path.now }
-{
-    path.iter().any(|x| x.0 == link.0)
-}
-
-/// What flows bring onto a link, over their denominator.
-fn load_of(flows: &[Flow], link: LinkId) -> u128
-    requires { load flows.now link.0 < 2 ^ 128 }
-    ensures { result ≡ load flows.now link.0 }
-{
-    let mut load = 0;
-    for f in flows {
-        if names_link(link, f.path.items()) {
-            load += f.num;
-        }
-    }
-    load
 }
 
 /// What flows bring onto a link, rounded up to a unit of the network; nothing over a denominator of 0.
