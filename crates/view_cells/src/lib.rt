@@ -3,4 +3,5 @@
 
 pub mod cells;
 pub mod modules;
+pub mod names;
 pub mod tables;

@@ -1,12 +1,11 @@
-ghost use Rattle.std.specs.Prelude.{◌≡◌, ◌++◌, ◌∷◌, [], IfOk, OnOk, map};
-ghost use Rattle.plan_report.specs.Terms.{node_name, link_name};
+ghost use Rattle.std.specs.Prelude.{◌≡◌, ◌++◌, ◌∷◌, [], OnOk};
 ghost use Rattle.view_csv.specs.Fields.{link_names, names_field, node_names};
 
-use net_core::{Bytes, Link, LinkId, List, Name, NoMemory, NodeId};
-use part_names::{link_name, node_name};
+use net_core::{Bytes, Link, LinkId, Name, NoMemory, NodeId};
 use std::alloc::Global;
 use text_table::Row;
 use view_cells::cells::{push_joined, push_words};
+use view_cells::names::{names_of_links, names_of_nodes};
 
 /// Puts a field of names last, with a space between each two; an empty one where there are none.
 fn push_names(fields: &mut Row, alloc: Global, names: &[Bytes]) -> Result<(), NoMemory>
@@ -16,28 +15,6 @@ fn push_names(fields: &mut Row, alloc: Global, names: &[Bytes]) -> Result<(), No
         [] => push_words(fields, alloc, b""),
         [_, ..] => push_joined(fields, alloc, b" ", names),
     }
-}
-
-/// The names of links.
-fn names_of_links(alloc: Global, links: &[Link], ids: &[LinkId]) -> Result<Row, NoMemory>
-    ensures { IfOk result (λ names. names ≡ map (link_name links.now) ids.now) }
-{
-    let mut names = List::new(alloc);
-    for id in ids {
-        push_words(&mut names, alloc, link_name(links, *id))?;
-    }
-    Ok(names)
-}
-
-/// The names of nodes.
-fn names_of_nodes(alloc: Global, nodes: &[Name], ids: &[NodeId]) -> Result<Row, NoMemory>
-    ensures { IfOk result (λ names. names ≡ map (node_name nodes.now) ids.now) }
-{
-    let mut names = List::new(alloc);
-    for id in ids {
-        push_words(&mut names, alloc, node_name(nodes, *id))?;
-    }
-    Ok(names)
 }
 
 /// Puts a field of the names of links last.

@@ -1,15 +1,15 @@
 ghost use Rattle.std.specs.Prelude.{◌≡◌, ◌≤◌, ◌++◌, ◌∷◌, [], All, IfOk, length, map};
 ghost use Rattle.std.specs.List.{AllByRecursion};
-ghost use Rattle.plan_report.specs.Terms.{demand_name, node_name};
 ghost use Rattle.view_cells.specs.Terms.{HasRows, IsApart};
 ghost use Rattle.view_state.specs.StateTables.{path_cells, path_heads};
 
 use flow_rows::FlowRow;
-use net_core::{Bytes, Demand, List, Name, Network, NoMemory, NodeId};
-use part_names::{demand_name, node_name};
+use net_core::{Bytes, Demand, List, Network, NoMemory};
+use part_names::demand_name;
 use std::alloc::Global;
 use text_table::{Column, Row};
 use view_cells::cells::{push_joined, push_money, push_three, push_words};
+use view_cells::names::names_of_nodes;
 use view_cells::tables::{fitting, left, right, table};
 
 /// The columns of the paths of demands: name, amount, and nodes.
@@ -31,17 +31,6 @@ const COLUMNS: [Column; 3] = [
     },
 ];
 
-/// The names of nodes.
-fn names_of(alloc: Global, nodes: &[Name], ids: &[NodeId]) -> Result<Row, NoMemory>
-    ensures { IfOk result (λ names. names ≡ map (node_name nodes.now) ids.now) }
-{
-    let mut names = List::new(alloc);
-    for id in ids {
-        push_words(&mut names, alloc, node_name(nodes, *id))?;
-    }
-    Ok(names)
-}
-
 /// The cells of a path.
 fn path_row(
     alloc: Global,
@@ -51,7 +40,7 @@ fn path_row(
 ) -> Result<Row, NoMemory>
     ensures { IfOk result (λ cells. cells ≡ path_cells net.now.places net.now.nodes demands.now row.now) }
 {
-    let names = names_of(alloc, net.nodes().items(), row.nodes.items())?;
+    let names = names_of_nodes(alloc, net.nodes().items(), row.nodes.items())?;
     let mut cells = List::new(alloc);
     push_words(&mut cells, alloc, demand_name(demands, row.demand))?;
     push_money(&mut cells, alloc, net.places(), row.amount)?;

@@ -1,6 +1,6 @@
 ghost use Rattle.std.specs.Prelude.{◌≡◌, ◌≤◌, ◌/◌, ◌++◌, ◌∷◌, [], All, IfOk, OnOk, length, map};
 ghost use Rattle.std.specs.List.{AllByRecursion};
-ghost use Rattle.plan_report.specs.Terms.{known_of, state_name, link_name};
+ghost use Rattle.plan_report.specs.Terms.{known_of, state_name};
 ghost use Rattle.text_table.specs.Cells.{right_cell};
 ghost use Rattle.view_cells.specs.Terms.{tenths_per_cent};
 ghost use Rattle.view_text.specs.StateCells.{bar_text, fullest_name, fullest_use, names_text, part_text, rerouted_text, state_cells, state_heads};
@@ -15,6 +15,7 @@ use view_cells::cells::{
     push_cell, push_joined, push_money, push_pair, push_per_cent, push_three, push_words,
     put_tenths,
 };
+use view_cells::names::names_of_links;
 use view_cells::tables::{above, fitting, left, right, table};
 
 /// The columns of the table of states: name, links out, rerouted amount, fullest link and its use, and part of the bound.
@@ -57,17 +58,6 @@ const MARK: u32 = 50;
 /// A mark of a bar.
 const MARK_SIGN: u8 = b'#';
 
-/// The names of links.
-fn names_of(alloc: Global, links: &[Link], failed: &[LinkId]) -> Result<Row, NoMemory>
-    ensures { IfOk result (λ names. names ≡ map (link_name links.now) failed.now) }
-{
-    let mut names = List::new(alloc);
-    for e in failed {
-        push_words(&mut names, alloc, link_name(links, *e))?;
-    }
-    Ok(names)
-}
-
 /// Puts a cell of the names of links last.
 fn push_names(
     row: &mut Row,
@@ -77,7 +67,7 @@ fn push_names(
 ) -> Result<(), NoMemory>
     ensures { OnOk result (row.new ≡ row.old ++ names_text links.now failed.now ∷ []) }
 {
-    let names = names_of(alloc, links, failed)?;
+    let names = names_of_links(alloc, links, failed)?;
     push_joined(row, alloc, b", ", names.items())
 }
 

@@ -1,6 +1,6 @@
 use Rattle.std.proofs.Common.{◌≡◌, map, take}
 use Rattle.plan_terms.specs.Terms.{link_name}
-use Rattle.view_csv.proofs.names.names_of_links.Given as goal
+use Rattle.view_cells.proofs.names.names_of_links.Given as goal
 
 -- the names so far
 abbrev pub invariant-loop-id : goal.invariant-loop-id

@@ -1,6 +1,6 @@
 use Rattle.std.proofs.Common.{◌≡◌, map, take}
 use Rattle.plan_report.specs.Terms.{node_name}
-use Rattle.view_state.proofs.paths.names_of.Given as goal
+use Rattle.view_cells.proofs.names.names_of_nodes.Given as goal
 
 -- the names so far
 abbrev pub invariant-loop-id : goal.invariant-loop-id
