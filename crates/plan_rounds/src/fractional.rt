@@ -10,7 +10,7 @@ use crate::shares::ShareCaps;
 use crate::undivided::undivided_all;
 use net_core::{
     Caps, Copied, Demand, Evidence, Instance, LinkId, List, NoMemory, RouteColumn, Routing,
-    StateId, WideKind,
+    StateId, WideKind, discard,
 };
 use plan_types::{Cause, Fractional, Quality, Share};
 use std::alloc::Global;
@@ -107,13 +107,21 @@ fn carried(
     requires routed { ∥ AreRoutedStates (case_of instance.now) caps.divided (length instance.now.states.now.listed + 1) routings ∥₁ }
     ensures { IfOk result (λ quality. ∥ IsQualityAt (case_of instance.now) caps.whole share.now quality ∥₁) }
 {
-    if let Some(k) = wide_demand(instance.demands.items(), caps.whole.scale) {
-        let evidence = need_evidence(alloc, instance, k, caps.whole)?;
+    let ShareCaps {
+        whole,
+        divided,
+        divisor,
+    } = caps;
+    discard(divided);
+    if let Some(k) = wide_demand(instance.demands.items(), whole.scale) {
+        discard(routings);
+        let evidence = need_evidence(alloc, instance, k, whole)?;
         return Ok(Quality::Loose(Cause::Wide(evidence)));
     }
+    discard(whole);
     Ok(Quality::Tight(Fractional {
         share: share.copy()?,
-        routings: undivided_all(alloc, routings, caps.divisor)?,
+        routings: undivided_all(alloc, routings, divisor)?,
     }))
 }
 

@@ -311,6 +311,7 @@ fn turns<S: Separate>(
     pairs: &List<UnitPair>,
     most: usize,
     candidates: Candidates,
+    kept: &mut KeptMaster,
     separator: &mut S,
 ) -> Result<Worked, NoMemory>
     requires network { instance.now.net.now ≡ (S.frame separator.old).network }
@@ -327,7 +328,6 @@ fn turns<S: Separate>(
     let mut candidates = candidates;
     let mut before = None;
     let mut round = 0u32;
-    let mut kept = KeptMaster::new();
     loop {
         let room = most - candidates.lines.len();
         round = round.saturating_add(1);
@@ -338,7 +338,7 @@ fn turns<S: Separate>(
             room,
             round,
             before,
-            &mut kept,
+            kept,
             separator,
             &mut candidates,
         )? {
@@ -387,5 +387,10 @@ pub fn work_rounds<S: Separate>(
     let most = pool.len() + MOST_ADDED;
     let pairs = unit_pairs(alloc, instance.net)?;
     let candidates = open_states(alloc, instance, pool, separator)?;
-    turns(alloc, instance, &pairs, most, candidates, separator)
+    let mut kept = KeptMaster::new();
+    let worked = turns(
+        alloc, instance, &pairs, most, candidates, &mut kept, separator,
+    );
+    discard(kept);
+    worked
 }

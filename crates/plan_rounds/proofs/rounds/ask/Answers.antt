@@ -1,13 +1,14 @@
 use Rattle.std.proofs.Common.{◌+◌, ◌≤◌, None, arith, length}
 use Rattle.net_core.proofs.Library.{∥∥₁_elim, ∥∥₁_map, props}
 use Rattle.plan_terms.specs.Terms.{case_of}
+use Rattle.master_law.specs.Terms.{share_caps}
 use Rattle.plan_rounds.proofs.Listing.{listed_later}
 use Rattle.separator.specs.Separators.{cuts_answered}
 use Rattle.plan_rounds.proofs.OwnTurns.{after_told, judged_pool}
 use Rattle.plan_rounds.proofs.Results.{if_ok, on_if}
 use Rattle.plan_rounds.proofs.Seeing.{goes_none}
-use Rattle.plan_rounds.proofs.Sharing.{divided_count}
-use Rattle.plan_rounds.proofs.Turning.{judged_listed, judged_turn, share_gives}
+use Rattle.plan_rounds.proofs.Sharing.{divided_count, divided_scale}
+use Rattle.plan_rounds.proofs.Turning.{judged_listed, judged_turn, proper, share_gives}
 use Rattle.plan_rounds.proofs.rounds.ask.Goals as goal
 
 pub judge-requires-clause-positive : goal.judge-requires-clause-positive
@@ -27,6 +28,19 @@ returns-clause-on g c = record { same = c.answers_at.ensures.frame; more = c.ans
 
 pub returns-in_err-caps-clause-on : goal.returns-in_err-caps-clause-on
 returns-in_err-caps-clause-on g c = goes_none _ _
+
+pub share_caps-requires-clause-scale : goal.share_caps-requires-clause-scale
+share_caps-requires-clause-scale g c =
+    (proper (case_of c.args.instance.now) c.args.pairs.now c.args.candidates.now.lines c.args.best.share c.requires.best.least).positive
+
+pub share_caps-requires-clause-count : goal.share_caps-requires-clause-count
+share_caps-requires-clause-count g c = c.requires.best.least.count
+
+pub answers_at-requires-clause-scale : goal.answers_at-requires-clause-scale
+answers_at-requires-clause-scale g c =
+    let p = case_of c.args.instance.now in
+    divided_scale (share_caps p.links c.args.pairs.now c.args.best.share) c.in_ok-caps.caps
+    (proper p c.args.pairs.now c.args.candidates.now.lines c.args.best.share c.requires.best.least).positive c.in_ok-caps.ensures
 
 pub answers_at-requires-clause-caps : goal.answers_at-requires-clause-caps
 answers_at-requires-clause-caps g c = divided_count c.args.instance.now.net.now.links c.args.pairs.now c.args.best.share c.in_ok-caps.caps c.requires.pairs.count c.requires.best.least.count c.in_ok-caps.ensures

@@ -8,12 +8,12 @@ use Rattle.plan_rounds.proofs.Turning.{IsWorking}
 use Rattle.plan_rounds.proofs.rounds.turns.Given as goal
 
 -- the room that is left
-abbrev pub decreases-loop-kept : goal.decreases-loop-kept
-decreases-loop-kept g l = l.most - length l.candidates.lines
+abbrev pub decreases-loop-candidates : goal.decreases-loop-candidates
+decreases-loop-candidates g l = l.most - length l.candidates.lines
 
 -- the cuts so far are a worked list of each pool that the list begins, listed with their spots
-abbrev pub invariant-loop-kept : goal.invariant-loop-kept
-invariant-loop-kept g l =
+abbrev pub invariant-loop-candidates : goal.invariant-loop-candidates
+invariant-loop-candidates g l =
     let before = l.fn.separator in
     let now = l.separator in
     let p = case_of l.instance in
