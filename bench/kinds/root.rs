@@ -158,7 +158,7 @@ fn main() {
     let instance = Instance { net: &net, states: &states, demands: &demands };
     let (plan, handed) = planned(&instance);
     let (first, bound) = (plan.cost, plan.bound);
-    let better = swap(Global, &net, &states, plan).unwrap();
+    let better = swap(Global, &instance, plan).unwrap();
     println!("{out} links {} modules {} plan {first} bound {bound} cost {}", net.links.len(), modules_of(&net).len(), better.cost);
     let mut all = handed.clone();
     for cut in set_cuts(Global, &instance, handed.items()).unwrap().items() {

@@ -226,7 +226,7 @@ fn main() {
         let trimmed = trim(Global, &net, &states, plan).unwrap();
         times.push(clock());
         let (trimming, second, blocks) = (taken(), trimmed.plan.cost, trimmed.blocks.len());
-        let swapped = swap(Global, &net, &states, trimmed.plan).unwrap();
+        let swapped = swap(Global, &instance, trimmed.plan).unwrap();
         times.push(clock());
         let swapping = taken();
         let ms: std::vec::Vec<String> = times.windows(2).map(|t| format!("{:.3}", (t[1] - t[0]) as f64 / 1e3)).collect();

@@ -1,6 +1,6 @@
 //! Plans that the tests begin with.
-ghost use Rattle.std.specs.Prelude.{IfSome, length};
-ghost use Rattle.plan_terms.specs.Terms.{AreDemands, case, case_of, IsSurvivable};
+ghost use Rattle.std.specs.Prelude.{◌≡◌, IfSome};
+ghost use Rattle.plan_terms.specs.Terms.{case_of, IsSurvivable};
 ghost use Rattle.proof_report.specs.Terms.{IsTranscript, plan_commands, whole_report};
 ghost use Rattle.trim_plan.specs.Trimmed.{IsRoutedPlan};
 
@@ -15,18 +15,18 @@ use std::thread::Threads;
 /// The plan of a report.
 fn plan_of(instance: &Instance, planned: PlannedReport) -> Plan
     requires { IsTranscript (case_of instance.now) instance.now.net.now.notes plan_commands (whole_report planned) }
-    ensures belong { AreDemands (length instance.now.net.now.nodes) result.demands }
-    ensures survivable { IsSurvivable (case instance.now.net.now instance.now.states.now result.demands) }
-    ensures routed { IsRoutedPlan (case instance.now.net.now instance.now.states.now result.demands) result }
+    ensures survivable { IsSurvivable (case_of instance.now) }
+    ensures demands { result.demands ≡ instance.now.demands.now }
+    ensures routed { IsRoutedPlan (case_of instance.now) result }
 {
     planned.plan
 }
 
 /// The plan of an instance, where no state separates a demand.
 pub fn planned<R: Threads + Wait + Sync>(rt: &R, alloc: Global, instance: &Instance) -> Option<Plan>
-    ensures belong { IfSome result (λ plan. AreDemands (length instance.now.net.now.nodes) plan.demands) }
-    ensures survivable { IfSome result (λ plan. IsSurvivable (case instance.now.net.now instance.now.states.now plan.demands)) }
-    ensures routed { IfSome result (λ plan. IsRoutedPlan (case instance.now.net.now instance.now.states.now plan.demands) plan) }
+    ensures survivable { IfSome result (λ _. IsSurvivable (case_of instance.now)) }
+    ensures demands { IfSome result (λ plan. plan.demands ≡ instance.now.demands.now) }
+    ensures routed { IfSome result (IsRoutedPlan (case_of instance.now)) }
 {
     match plan_once(rt, alloc, instance, &OpenGate) {
         Ok(LonePlan::Planned(planned)) => Some(plan_of(instance, planned)),

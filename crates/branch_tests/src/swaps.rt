@@ -1,6 +1,6 @@
 //! Tests of exchanged modules, against costs that were worked out by hand.
-ghost use Rattle.std.specs.Prelude.{length};
-ghost use Rattle.plan_terms.specs.Terms.{AreDemands, case, IsSurvivable};
+ghost use Rattle.std.specs.Prelude.{◌≡◌};
+ghost use Rattle.plan_terms.specs.Terms.{case_of, IsSurvivable};
 ghost use Rattle.trim_plan.specs.Trimmed.{IsRoutedPlan};
 
 use crate::planned::planned;
@@ -14,11 +14,11 @@ use std::thread::Threads;
 
 /// What a plan costs after modules are exchanged.
 fn swapped_cost(alloc: Global, instance: &Instance, plan: Plan) -> Option<u128>
-    requires belong { AreDemands (length instance.now.net.now.nodes) plan.demands }
-    requires survivable { IsSurvivable (case instance.now.net.now instance.now.states.now plan.demands) }
-    requires routed { IsRoutedPlan (case instance.now.net.now instance.now.states.now plan.demands) plan }
+    requires survivable { IsSurvivable (case_of instance.now) }
+    requires demands { plan.demands ≡ instance.now.demands.now }
+    requires routed { IsRoutedPlan (case_of instance.now) plan }
 {
-    match swap(alloc, instance.net, instance.states, plan) {
+    match swap(alloc, instance, plan) {
         Ok(swapped) => Some(swapped.cost),
         Err(NoMemory) => None,
     }

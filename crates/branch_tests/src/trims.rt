@@ -1,6 +1,6 @@
 //! Tests of trimmed plans, against least costs that another solver found, or that were worked out by hand.
-ghost use Rattle.std.specs.Prelude.{length};
-ghost use Rattle.plan_terms.specs.Terms.{AreDemands, case, IsSurvivable};
+ghost use Rattle.std.specs.Prelude.{◌≡◌};
+ghost use Rattle.plan_terms.specs.Terms.{case_of, IsSurvivable};
 ghost use Rattle.trim_plan.specs.Trimmed.{IsRoutedPlan};
 
 use crate::blocked::are_blocked;
@@ -16,9 +16,9 @@ use worked_networks::{DemandRow, LinkRow, PARALLEL, TEN, network, problem};
 
 /// The trimmed plan.
 pub fn trimmed_plan(alloc: Global, instance: &Instance, plan: Plan) -> Option<Trimmed>
-    requires belong { AreDemands (length instance.now.net.now.nodes) plan.demands }
-    requires survivable { IsSurvivable (case instance.now.net.now instance.now.states.now plan.demands) }
-    requires routed { IsRoutedPlan (case instance.now.net.now instance.now.states.now plan.demands) plan }
+    requires survivable { IsSurvivable (case_of instance.now) }
+    requires demands { plan.demands ≡ instance.now.demands.now }
+    requires routed { IsRoutedPlan (case_of instance.now) plan }
 {
     trim(alloc, instance.net, instance.states, plan).ok()
 }
@@ -34,9 +34,9 @@ fn judged(net: &Network, trimmed: &Trimmed) -> Option<(u128, usize)> {
 
 /// What `judged` says of a plan once it is trimmed.
 fn judged_plan(alloc: Global, instance: &Instance, plan: Plan) -> Option<(u128, usize)>
-    requires belong { AreDemands (length instance.now.net.now.nodes) plan.demands }
-    requires survivable { IsSurvivable (case instance.now.net.now instance.now.states.now plan.demands) }
-    requires routed { IsRoutedPlan (case instance.now.net.now instance.now.states.now plan.demands) plan }
+    requires survivable { IsSurvivable (case_of instance.now) }
+    requires demands { plan.demands ≡ instance.now.demands.now }
+    requires routed { IsRoutedPlan (case_of instance.now) plan }
 {
     match trimmed_plan(alloc, instance, plan) {
         Some(trimmed) => judged(instance.net, &trimmed),

@@ -3,8 +3,8 @@
 //! Three pairs of demands fill a chain of stages, or take a short way over one link of which they need a module. Two further demands get in
 //! each other's way where the one of 0.003 takes its shortest path. All that is installed without modules carries the demands, so no cut is
 //! violated; but without the module no greedy routing is found, and the numbers of the routing program grow too wide.
-ghost use Rattle.std.specs.Prelude.{length};
-ghost use Rattle.plan_terms.specs.Terms.{AreDemands, case, IsSurvivable};
+ghost use Rattle.std.specs.Prelude.{◌≡◌};
+ghost use Rattle.plan_terms.specs.Terms.{case_of, IsSurvivable};
 ghost use Rattle.trim_plan.specs.Trimmed.{IsRoutedPlan};
 
 use crate::planned::planned;
@@ -114,9 +114,9 @@ fn is_wide(block: &Block) -> bool {
 
 /// What the trimmed plan costs, how many blocks it has, and how many of these are evidence.
 fn trimmed_wide(alloc: Global, instance: &Instance, plan: Plan) -> Option<(u128, usize, usize)>
-    requires belong { AreDemands (length instance.now.net.now.nodes) plan.demands }
-    requires survivable { IsSurvivable (case instance.now.net.now instance.now.states.now plan.demands) }
-    requires routed { IsRoutedPlan (case instance.now.net.now instance.now.states.now plan.demands) plan }
+    requires survivable { IsSurvivable (case_of instance.now) }
+    requires demands { plan.demands ≡ instance.now.demands.now }
+    requires routed { IsRoutedPlan (case_of instance.now) plan }
 {
     let trimmed = trimmed_plan(alloc, instance, plan)?;
     let blocks = trimmed.blocks.items();

@@ -1,4 +1,3 @@
 pub mod Lemmas
 pub mod Shapes
-pub mod Starting
 pub mod Swapped

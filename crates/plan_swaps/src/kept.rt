@@ -1,5 +1,5 @@
 ghost use Rattle.std.specs.Prelude.{◌≡◌, ◌≤◌, IfOk};
-ghost use Rattle.plan_terms.specs.Terms.{Case, case_of, AreCounts, AreWithinLimits, IsSurvivable, capacities, total_cost};
+ghost use Rattle.plan_terms.specs.Terms.{case_of, AreCounts, AreWithinLimits, IsSurvivable, capacities, total_cost};
 ghost use Rattle.trim_plan.specs.Terms.{AreRoutingsWithin, IsTestOf};
 ghost use Rattle.plan_swaps.specs.inner.Searching.{AreAskedCounts, AreCarryingCounts};
 
@@ -16,11 +16,7 @@ pub struct Kept {
 }
 
 /// Copies of counts and of the routings within them, with what the counts cost.
-pub(crate) fn kept_of(
-    instance: &Instance,
-    counts: &Counts,
-    routings: &List<Routing>,
-) -> Result<Kept, NoMemory>
+fn kept_of(instance: &Instance, counts: &Counts, routings: &List<Routing>) -> Result<Kept, NoMemory>
     requires shape { AreCounts instance.now.net.now.links counts.now }
     requires limits { AreWithinLimits instance.now.net.now.links counts.now }
     requires routings { AreRoutingsWithin (case_of instance.now) (capacities instance.now.net.now.links counts.now) routings.now }
@@ -56,15 +52,4 @@ pub(crate) fn keep_cheaper(
     }
     *kept = kept_of(instance, counts, search.test.routings())?;
     Ok(true)
-}
-
-/// Keeps other counts that carry the demands, where they cost less.
-pub(crate) fn keep_lower(kept: &mut Kept, other: Kept)
-    ensures kept { (p : Case) → AreCarryingCounts p kept.old → AreCarryingCounts p other → AreCarryingCounts p kept.new }
-    ensures cheaper { kept.new.cost ≤ kept.old.cost }
-    ensures cheapest { kept.new.cost ≤ other.cost }
-{
-    if other.cost < kept.cost {
-        *kept = other;
-    }
 }

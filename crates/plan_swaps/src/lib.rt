@@ -8,10 +8,9 @@ mod raised;
 mod refusals;
 mod search;
 mod sparing;
-mod starts;
 mod swapping;
 mod swaps;
 
-pub use swapping::{swap, swap_from};
+pub use swapping::swap;
 pub use trim_plan;
 pub use trim_plan::able_counts;

@@ -1,16 +1,15 @@
-ghost use Rattle.std.specs.Prelude.{◌≡◌, ◌≤◌, All, IfOk, OnOk, length};
-ghost use Rattle.plan_terms.specs.Terms.{AreCounts, AreDemands, AreWithinLimits, case, case_of, IsSurvivable};
+ghost use Rattle.std.specs.Prelude.{◌≡◌, ◌≤◌, IfOk, OnOk};
+ghost use Rattle.plan_terms.specs.Terms.{case_of, IsSurvivable};
 ghost use Rattle.trim_plan.specs.Terms.{IsTestOf};
 ghost use Rattle.trim_plan.specs.Trimmed.{IsRoutedPlan};
-ghost use Rattle.plan_swaps.specs.Swaps.{AreNoCheaper, IsCheaperPlan, IsCheaperThanStarts};
+ghost use Rattle.plan_swaps.specs.Swaps.{IsCheaperPlan};
 ghost use Rattle.plan_swaps.specs.inner.Searching.{AreCarryingCounts};
 
 use crate::kept::Kept;
 use crate::refusals::Refusals;
 use crate::search::Search;
-use crate::starts::try_starts;
 use crate::swaps::make_cheaper;
-use net_core::{Copied, Counts, Instance, List, Network, NoMemory, Routing, States, discard};
+use net_core::{Copied, Counts, Instance, List, NoMemory, Routing, discard};
 use plan_types::{Certificate, Plan};
 use std::alloc::Global;
 use std::mem;
@@ -45,68 +44,40 @@ fn search_from(
     })
 }
 
-/// Makes the kept counts as cheap as those to which exchanges of modules lead from them and from others.
-fn make_cheapest(
-    alloc: Global,
-    instance: &Instance,
-    search: &mut Search,
-    dearest: &[Priced],
-    kept: &mut Kept,
-    starts: &[Counts],
-) -> Result<(), NoMemory>
-    requires survivable { IsSurvivable (case_of instance.now) }
-    requires sound { IsTestOf (case_of instance.now) search.old.test }
-    requires kept { AreCarryingCounts (case_of instance.now) kept.old }
-    requires starts { All (λ counts. AreCounts instance.now.net.now.links counts × AreWithinLimits instance.now.net.now.links counts) starts.now }
-    ensures kept { AreCarryingCounts (case_of instance.now) kept.new }
-    ensures cheaper { kept.new.cost ≤ kept.old.cost }
-    ensures starts { OnOk result (All (AreNoCheaper (case_of instance.now) kept.new.cost) starts.now) }
-{
-    make_cheaper(alloc, instance, search, dearest, kept)?;
-    try_starts(alloc, instance, search, dearest, kept, starts)
-}
-
-/// Makes counts that carry the demands as cheap as those to which exchanges of modules lead from them and from others, of modules that are
-/// given the dearest first. The cuts of a certificate are met at the start.
+/// Makes counts that carry the demands as cheap as those to which exchanges of modules lead, of modules that are given the dearest first.
+/// The cuts of a certificate are met at the start.
 fn swap_in_order(
     alloc: Global,
     instance: &Instance,
     certificate: &Certificate,
     dearest: &[Priced],
     kept: &mut Kept,
-    starts: &[Counts],
 ) -> Result<(), NoMemory>
     requires survivable { IsSurvivable (case_of instance.now) }
     requires kept { AreCarryingCounts (case_of instance.now) kept.old }
-    requires starts { All (λ counts. AreCounts instance.now.net.now.links counts × AreWithinLimits instance.now.net.now.links counts) starts.now }
     ensures kept { AreCarryingCounts (case_of instance.now) kept.new }
     ensures cheaper { kept.new.cost ≤ kept.old.cost }
-    ensures starts { OnOk result (All (AreNoCheaper (case_of instance.now) kept.new.cost) starts.now) }
 {
     let mut search = search_from(alloc, instance, certificate, kept)?;
-    let done = make_cheapest(alloc, instance, &mut search, dearest, kept, starts);
+    let done = make_cheaper(alloc, instance, &mut search, dearest, kept);
     discard(search);
     done
 }
 
-/// Makes counts that carry the demands as cheap as those to which exchanges of modules lead from them and from others. The cuts of a
-/// certificate are met at the start.
+/// Makes counts that carry the demands as cheap as those to which exchanges of modules lead. The cuts of a certificate are met at the start.
 fn swap_counts(
     alloc: Global,
     instance: &Instance,
     certificate: &Certificate,
     kept: &mut Kept,
-    starts: &[Counts],
 ) -> Result<(), NoMemory>
     requires survivable { IsSurvivable (case_of instance.now) }
     requires kept { AreCarryingCounts (case_of instance.now) kept.old }
-    requires starts { All (λ counts. AreCounts instance.now.net.now.links counts × AreWithinLimits instance.now.net.now.links counts) starts.now }
     ensures kept { AreCarryingCounts (case_of instance.now) kept.new }
     ensures cheaper { kept.new.cost ≤ kept.old.cost }
-    ensures starts { OnOk result (All (AreNoCheaper (case_of instance.now) kept.new.cost) starts.now) }
 {
     let dearest = dearest_first(alloc, instance.net)?;
-    swap_in_order(alloc, instance, certificate, dearest.items(), kept, starts)
+    swap_in_order(alloc, instance, certificate, dearest.items(), kept)
 }
 
 /// Counts with their cost and routings, of which nothing is left where they stood.
@@ -130,79 +101,42 @@ fn set_counts(plan: &mut Plan, kept: Kept)
     plan.routings = routings;
 }
 
-/// Makes a plan cheaper by exchanging modules, also from other counts. Where memory runs out, the plan is left without counts and routings.
-fn swap_within(
-    alloc: Global,
-    net: &Network,
-    states: &States,
-    plan: &mut Plan,
-    starts: &[Counts],
-) -> Result<(), NoMemory>
-    requires belong { AreDemands (length net.now.nodes) plan.old.demands }
-    requires survivable { IsSurvivable (case net.now states.now plan.old.demands) }
-    requires routed { IsRoutedPlan (case net.now states.now plan.old.demands) plan.old }
-    requires starts { All (λ counts. AreCounts net.now.links counts × AreWithinLimits net.now.links counts) starts.now }
-    ensures { OnOk result (IsCheaperThanStarts (case net.now states.now plan.old.demands) plan.old starts.now plan.new) }
+/// Makes a plan cheaper by exchanging modules. Where memory runs out, the plan is left without counts and routings.
+fn swap_within(alloc: Global, instance: &Instance, plan: &mut Plan) -> Result<(), NoMemory>
+    requires survivable { IsSurvivable (case_of instance.now) }
+    requires demands { plan.old.demands ≡ instance.now.demands.now }
+    requires routed { IsRoutedPlan (case_of instance.now) plan.old }
+    ensures { OnOk result (IsCheaperPlan (case_of instance.now) plan.old plan.new) }
 {
     let mut kept = taken(alloc, &mut plan.counts, plan.cost, &mut plan.routings);
-    let instance = Instance {
-        net,
-        states,
-        demands: &plan.demands,
-    };
-    swap_counts(alloc, &instance, &plan.certificate, &mut kept, starts)?;
+    swap_counts(alloc, instance, &plan.certificate, &mut kept)?;
     set_counts(plan, kept);
     Ok(())
 }
 
-/// Makes a plan cheaper by exchanging modules, also from other counts, the cheapest of which are kept.
+/// Makes a plan of an instance cheaper by exchanging modules.
 ///
-/// The plan carries its demands, has the cost of its counts, and is in form and in lowest terms; its demands belong to the network, and no
-/// state separates one. The starts are one count for each module of each link, within the limits of plans. The new plan is the given one but
-/// for its counts, cost and routings; it carries the demands, and costs at most what the given one does, and what any start does that is
-/// known to carry them. Of one that isn't known to, a cut is known that it violates, or a number of a state's routing program is too wide.
-///
-/// Each start takes as much time as `swap`. It takes the memory of the routings three times, and of the cuts that it finds.
-pub fn swap_from(
-    alloc: Global,
-    net: &Network,
-    states: &States,
-    plan: Plan,
-    starts: &[Counts],
-) -> Result<Plan, NoMemory>
-    requires belong { AreDemands (length net.now.nodes) plan.demands }
-    requires survivable { IsSurvivable (case net.now states.now plan.demands) }
-    requires routed { IsRoutedPlan (case net.now states.now plan.demands) plan }
-    requires starts { All (λ counts. AreCounts net.now.links counts × AreWithinLimits net.now.links counts) starts.now }
-    ensures { IfOk result (IsCheaperThanStarts (case net.now states.now plan.demands) plan starts.now) }
-{
-    let mut plan = plan;
-    match swap_within(alloc, net, states, &mut plan, starts) {
-        Ok(()) => Ok(plan),
-        Err(error) => {
-            discard(plan);
-            Err(error)
-        }
-    }
-}
-
-/// Makes a plan cheaper by exchanging modules.
-///
-/// The plan carries its demands, has the cost of its counts, and is in form and in lowest terms; its demands belong to the network, and no
-/// state separates one. The new plan is the given one but for its counts, cost and routings; it carries the demands too, and costs no more.
+/// The plan's demands are the instance's, and no state separates one; it carries them, has the cost of its counts, and is in form and in
+/// lowest terms. The new plan is the given one but for its counts, cost and routings; it carries the demands too, and costs no more.
 /// What can be spared is taken off first. Then one module is taken off and a cheaper one put on, the exchange that saves most first, or one
 /// is put on and what can be spared of the others is taken off, the dearest first: where that carries the demands and costs less, it begins
 /// anew, until nothing helps or 20,000 asks are spent, of which a look at the known cuts is a tenth.
 ///
 /// On four parallel links of modules of 1.00 for 1.00 that fail alone, a plan for a demand of 10.00 with four modules on each costs 16.00,
 /// and becomes one of 14.00. Most asks are refused by a cut that is known. It takes the memory of the routings three times, and of the cuts
-/// that it finds. It is `swap_from` without other counts.
-pub fn swap(alloc: Global, net: &Network, states: &States, plan: Plan) -> Result<Plan, NoMemory>
-    requires belong { AreDemands (length net.now.nodes) plan.demands }
-    requires survivable { IsSurvivable (case net.now states.now plan.demands) }
-    requires routed { IsRoutedPlan (case net.now states.now plan.demands) plan }
-    ensures { IfOk result (IsCheaperPlan (case net.now states.now plan.demands) plan) }
+/// that it finds.
+pub fn swap(alloc: Global, instance: &Instance, plan: Plan) -> Result<Plan, NoMemory>
+    requires survivable { IsSurvivable (case_of instance.now) }
+    requires demands { plan.demands ≡ instance.now.demands.now }
+    requires routed { IsRoutedPlan (case_of instance.now) plan }
+    ensures { IfOk result (IsCheaperPlan (case_of instance.now) plan) }
 {
-    let swapped = swap_from(alloc, net, states, plan, &[])?;
-    Ok(swapped)
+    let mut plan = plan;
+    match swap_within(alloc, instance, &mut plan) {
+        Ok(()) => Ok(plan),
+        Err(error) => {
+            discard(plan);
+            Err(error)
+        }
+    }
 }
