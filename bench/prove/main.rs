@@ -93,7 +93,7 @@ use module_choice::{Fallback, fallback_plan};
 use module_prices::unit_pair;
 use net_core::{Caps, Copied, CutLine, Demand, Demands, Global, Instance, Link, List, Module, Network, NodeId, StateId, States};
 use outside_io::OpenGate;
-use branch_tree::{prove, prove_by_lines};
+use branch_tree::prove_instance;
 use plan_types::{CertLine, Cause, Certificate, Plan, Quality, Spot};
 use separator::{line_of, separate_state};
 use share_covers::{Chosen, choose};
@@ -294,8 +294,7 @@ fn main() {
         let (plan, cuts) = planned(&instance);
         let (first, bound, handed) = (plan.cost, plan.bound, cuts.len());
         let start = clock();
-        let search = if by_lines { prove_by_lines::<OpenGate> } else { prove::<OpenGate> };
-        let proof = search(Global, &net, &states, plan, cuts, limit, &OpenGate).unwrap();
+        let proof = prove_instance(Global, &instance, plan, cuts, limit, by_lines, &OpenGate).unwrap();
         let middle = clock();
         let answer = check_tree(Global, &net, &states, &demands, &proof);
         let end = clock();

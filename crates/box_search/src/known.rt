@@ -41,8 +41,8 @@ pub(crate) struct Mark {
     cuts_end: usize,
 }
 
-/// The first items of a list.
-fn first_items<T: Drop>(items: List<T>, count: usize) -> List<T>
+/// The first items of a list. It takes time in the items that go, and no memory.
+pub fn first_items<T: Drop>(items: List<T>, count: usize) -> List<T>
     ensures { result ≡ take count items }
 {
     let mut all = items.into_vec();

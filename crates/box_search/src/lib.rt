@@ -27,7 +27,7 @@ pub use aim::Aim;
 pub use certs::{Valued, copied, empty_cert};
 pub use evaluation::look;
 pub use found::{Cheaper, Found};
-pub use known::{Known, index_of};
+pub use known::{Known, first_items, index_of};
 pub use line_maker::box_program;
 pub use lines::make_first_lines;
 pub use plan_swaps;

@@ -1,11 +1,11 @@
 -- the outcome of a search for a branch tree: a proof, and the cause of each of its nodes
 use Rattle.std.specs.Prelude.{◌≡◌, ℕ, ◌+◌, ◌*◌, ◌^◌, ◌≤◌, ◌<◌, ◌↔◌, List, All, Contains, length, take}
-use Rattle.plan_terms.specs.Terms.{Case, CutLine, IsCut, capacities}
+use Rattle.plan_terms.specs.Terms.{Case, CutLine, IsAble, IsCut, capacities, total_cost}
 use Rattle.plan_types.specs.declared.plan.Plan.{Plan}
 use Rattle.box_search.specs.Terms.{IsWideSomewhere, whole_caps, IsCheaperPlan, BoxCert, Node, Split, Spent, Stuck, Proof, IsUnsettled, lines_of_plan}
 use Rattle.tree_check.specs.Terms.{IsFixedBox, least_counts, IsNodeOf, TreeBox, IsBoxCertificate, module_costs, IsAcceptedProof, IsOpenAt}
 use Rattle.line_check.specs.Inequalities.{entry}
-use Rattle.tree_check.specs.declared.proof.Verdict.TheVariants.{Above}
+use Rattle.tree_check.specs.declared.proof.Verdict.TheVariants.{Above, Cheapest}
 use Rattle.branch_tree.specs.FewSplits.{AreCharged, split_number, split_room}
 
 -- ---- causes
@@ -52,6 +52,16 @@ pub record IsProofOf (p : Case) (given : Plan) (handed : List CutLine) (limit : 
   pub below : (i value : ℕ) → IsOpenAt p proof i value → value < proof.plan.cost
   pub told : ((least : ℕ) × (proof.verdict ≡ Above least)) ↔ HasOpenLeaf p proof
   pub bounded : (least : ℕ) → proof.verdict ≡ Above least → IsCertificateOfLeaves p proof → proof.plan.bound ≤ least
+
+-- ---- what it shows
+
+-- Where a proof says that its plan is cheapest, no able counts cost less.
+abbrev pub ShowsCheapest : Case → Proof → Type 0
+ShowsCheapest p proof = proof.verdict ≡ Cheapest → (counts : List (List ℕ)) → IsAble p counts → proof.plan.cost ≤ total_cost p.links counts
+
+-- Where it tells a value, no able counts cost less than that.
+abbrev pub ShowsBound : Case → Proof → Type 0
+ShowsBound p proof = (least : ℕ) → proof.verdict ≡ Above least → (counts : List (List ℕ)) → IsAble p counts → least ≤ total_cost p.links counts
 
 -- ---- what is handed in
 

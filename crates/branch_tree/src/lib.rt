@@ -12,12 +12,12 @@
 mod choice;
 mod growth;
 pub mod law;
-mod own;
+mod own_cert;
 mod proving;
 mod tree;
 
 pub use box_search::index_of;
 pub use line_check;
-pub use proving::{prove, prove_by_lines};
+pub use proving::{prove, prove_instance};
 pub use tree_check;
 pub use tree_check::{BoxCert, Node, Proof, Verdict};

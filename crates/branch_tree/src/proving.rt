@@ -1,24 +1,26 @@
-ghost use Rattle.std.specs.Prelude.{◌≡◌, ℕ, List, [], ◌+◌, ◌^◌, ◌≤◌, ◌<◌, All, IfOk, OnOk, false, length, map, take};
-ghost use Rattle.plan_terms.specs.Terms.{AreDemands, IsAble, IsSurvivable, case, case_of, total_cost};
+ghost use Rattle.std.specs.Prelude.{◌≡◌, [], ◌+◌, ◌^◌, ◌≤◌, ◌<◌, All, IfOk, OnOk, false, length, map, take};
+ghost use Rattle.plan_terms.specs.Terms.{AreDemands, IsSurvivable, case, case_of};
 ghost use Rattle.plan_types.specs.Terms.{IsCertifiedPlan};
 ghost use Rattle.box_search.specs.Terms.{IsRoutedPlan, IsCheaperPlan, AreCheaperCounts, IsKnown, IsOwnCert, IsSearch, IsSoundEntry, IsTestOf, cuts_among, handed_in};
 ghost use Rattle.branch_tree.specs.FewSplits.{AreCharged};
-ghost use Rattle.branch_tree.specs.Proving.{AreHandedCuts, IsProofOf};
+ghost use Rattle.branch_tree.specs.Proving.{AreHandedCuts, IsProofOf, ShowsBound, ShowsCheapest};
 ghost use Rattle.branch_tree.specs.inner.Making.{AreFirstOf, IsProofMade, IsProofWith};
 
 use crate::growth::{Growth, grown};
-use crate::own::own_cert;
+use crate::own_cert::own_cert;
 use crate::tree::{Tree, finished};
 use box_search::able_counts::AbleTest;
 use box_search::plan_swaps::swap;
 use box_search::proof_order::{Entry, Ordered, in_order};
-use box_search::{Aim, Cheaper, Known, MOST_FURTHER, MOST_SET_CUTS, Search, empty_cert};
+use box_search::{
+    Aim, Cheaper, Known, MOST_FURTHER, MOST_SET_CUTS, Search, empty_cert, first_items,
+};
 use net_core::{Copied, CutLine, Instance, List, Network, NoMemory, States, discard};
 use outside_io::Gate;
 use plan_types::Plan;
 use std::alloc::Global;
 use std::mem;
-use tree_check::{BoxCert, Proof, Verdict};
+use tree_check::{BoxCert, Proof};
 
 /// The plan with cheaper counts.
 fn with_cheaper(plan: Plan, cheaper: Cheaper) -> Plan
@@ -46,21 +48,7 @@ fn cheaper_plan(
     ensures plan { IfOk result (IsCheaperPlan (case_of instance.now) plan) }
     ensures less { IfOk result (λ r. r.cost < plan.cost) }
 {
-    swap(
-        alloc,
-        instance.net,
-        instance.states,
-        with_cheaper(plan, cheaper),
-    )
-}
-
-/// The first cuts.
-fn first_cuts(cuts: List<CutLine>, most: usize) -> List<CutLine>
-    ensures { result ≡ take most cuts }
-{
-    let mut all = cuts.into_vec();
-    all.truncate(most);
-    List::from_vec(all)
+    swap(alloc, instance, with_cheaper(plan, cheaper))
 }
 
 /// What is known of this number of the first cuts of entries alone.
@@ -80,7 +68,7 @@ fn first_known(
 {
     let none = List::new(alloc);
     let Ordered { cuts, .. } = in_order(alloc, entries, none)?;
-    Known::new(alloc, instance, first_cuts(cuts, most), divides)
+    Known::new(alloc, instance, first_items(cuts, most), divides)
 }
 
 /// Takes off what is known but this number of the first cuts, where there are more entries than that.
@@ -285,41 +273,6 @@ fn searched<G: Gate>(
     }
 }
 
-/// Exchanges modules, and then searches for the proof.
-fn prove_with<G: Gate>(
-    alloc: Global,
-    net: &Network,
-    states: &States,
-    plan: Plan,
-    cuts: List<CutLine>,
-    limit: u32,
-    divides: bool,
-    gate: &G,
-) -> Result<Proof, NoMemory>
-    requires limit { limit ≤ 9999 }
-    requires charged { AreCharged net.now.links }
-    requires belong { AreDemands (length net.now.nodes) plan.demands }
-    requires survivable { IsSurvivable (case net.now states.now plan.demands) }
-    requires routed { IsRoutedPlan (case net.now states.now plan.demands) plan }
-    requires certified { IsCertifiedPlan (case net.now states.now plan.demands) plan }
-    requires cuts { AreHandedCuts (case net.now states.now plan.demands) plan cuts }
-    ensures proof { IfOk result (IsProofOf (case net.now states.now plan.demands) plan cuts limit) }
-    ensures lines { divides ≡ false → IfOk result (λ r. r.lines ≡ []) }
-    ensures cheapest { IfOk result (λ r. r.verdict ≡ Verdict.Cheapest → (counts : List (List ℕ)) → IsAble (case net.now states.now plan.demands) counts
-        → r.plan.cost ≤ total_cost net.now.links counts) }
-    ensures above { IfOk result (λ r. (least : ℕ) → r.verdict ≡ Verdict.Above least → (counts : List (List ℕ))
-        → IsAble (case net.now states.now plan.demands) counts → least ≤ total_cost net.now.links counts) }
-{
-    let demands = plan.demands.copy()?;
-    let instance = Instance {
-        net,
-        states,
-        demands: &demands,
-    };
-    let better = swap(alloc, net, states, plan)?;
-    searched(alloc, &instance, better, cuts, limit, divides, gate)
-}
-
 /// Searches for a branch tree that shows a plan to be cheapest, with at most `limit` splits.
 ///
 /// The limit is at most 9,999. All modules cost something. The plan carries its demands, has the cost of its counts and a certified bound,
@@ -358,17 +311,21 @@ pub fn prove<G: Gate>(
     requires cuts { AreHandedCuts (case net.now states.now plan.demands) plan cuts }
     ensures proof { IfOk result (IsProofOf (case net.now states.now plan.demands) plan cuts limit) }
     ensures lines { IfOk result (λ r. r.lines ≡ []) }
-    ensures cheapest { IfOk result (λ r. r.verdict ≡ Verdict.Cheapest → (counts : List (List ℕ)) → IsAble (case net.now states.now plan.demands) counts
-        → r.plan.cost ≤ total_cost net.now.links counts) }
-    ensures above { IfOk result (λ r. (least : ℕ) → r.verdict ≡ Verdict.Above least → (counts : List (List ℕ))
-        → IsAble (case net.now states.now plan.demands) counts → least ≤ total_cost net.now.links counts) }
+    ensures cheapest { IfOk result (ShowsCheapest (case net.now states.now plan.demands)) }
+    ensures above { IfOk result (ShowsBound (case net.now states.now plan.demands)) }
 {
-    prove_with(alloc, net, states, plan, cuts, limit, false, gate)
+    let demands = plan.demands.copy()?;
+    let instance = Instance {
+        net,
+        states,
+        demands: &demands,
+    };
+    prove_instance(alloc, &instance, plan, cuts, limit, false, gate)
 }
 
-/// As `prove`, but the tree's leaves may also name lines that are made of the cuts, and come with the proof: sums of cuts that are divided
-/// and rounded up know that modules are whole. With them a tree has few splits, and where links have two kinds of modules the value without
-/// any split is mostly within a tenth of the least cost.
+/// As `prove`, of a plan of an instance. Where it `divides`, the tree's leaves may also name lines that are made of the cuts, and come with
+/// the proof: sums of cuts that are divided and rounded up know that modules are whole. With them a tree has few splits, and where links
+/// have two kinds of modules the value without any split is mostly within a tenth of the least cost.
 ///
 /// Before the tree grows, each cut gets a line whose right side is at most 64, and programs take these in place of the given cuts. Then
 /// lines are made that the point of the program of all counts misses, up to 40 in each of up to 20 rounds, and up to 10 at each other box
@@ -381,27 +338,26 @@ pub fn prove<G: Gate>(
 /// But for cuts of boxes of one choice of counts, the cuts and lines of the answer are at most 6,144 more than three times the given cuts. A
 /// round takes a program, and time in the cuts and lines times the modules times the square of the kinds of modules; one of table lines
 /// takes, for each line, up to 4,096 times the kinds.
-pub fn prove_by_lines<G: Gate>(
+pub fn prove_instance<G: Gate>(
     alloc: Global,
-    net: &Network,
-    states: &States,
+    instance: &Instance,
     plan: Plan,
     cuts: List<CutLine>,
     limit: u32,
+    divides: bool,
     gate: &G,
 ) -> Result<Proof, NoMemory>
     requires limit { limit ≤ 9999 }
-    requires charged { AreCharged net.now.links }
-    requires belong { AreDemands (length net.now.nodes) plan.demands }
-    requires survivable { IsSurvivable (case net.now states.now plan.demands) }
-    requires routed { IsRoutedPlan (case net.now states.now plan.demands) plan }
-    requires certified { IsCertifiedPlan (case net.now states.now plan.demands) plan }
-    requires cuts { AreHandedCuts (case net.now states.now plan.demands) plan cuts }
-    ensures proof { IfOk result (IsProofOf (case net.now states.now plan.demands) plan cuts limit) }
-    ensures cheapest { IfOk result (λ r. r.verdict ≡ Verdict.Cheapest → (counts : List (List ℕ)) → IsAble (case net.now states.now plan.demands) counts
-        → r.plan.cost ≤ total_cost net.now.links counts) }
-    ensures above { IfOk result (λ r. (least : ℕ) → r.verdict ≡ Verdict.Above least → (counts : List (List ℕ))
-        → IsAble (case net.now states.now plan.demands) counts → least ≤ total_cost net.now.links counts) }
+    requires survivable { IsSurvivable (case_of instance.now) }
+    requires demands { plan.demands ≡ instance.now.demands.now }
+    requires routed { IsRoutedPlan (case_of instance.now) plan }
+    requires certified { IsCertifiedPlan (case_of instance.now) plan }
+    requires cuts { AreHandedCuts (case_of instance.now) plan cuts }
+    ensures proof { IfOk result (IsProofOf (case_of instance.now) plan cuts limit) }
+    ensures lines { divides ≡ false → IfOk result (λ r. r.lines ≡ []) }
+    ensures cheapest { IfOk result (ShowsCheapest (case_of instance.now)) }
+    ensures above { IfOk result (ShowsBound (case_of instance.now)) }
 {
-    prove_with(alloc, net, states, plan, cuts, limit, true, gate)
+    let better = swap(alloc, instance, plan)?;
+    searched(alloc, instance, better, cuts, limit, divides, gate)
 }

@@ -9,7 +9,7 @@ pub new-requires-clause-few : goal.new-requires-clause-few
 new-requires-clause-few c =
     omega (
       arith,
-      ap (λ (cs : List CutLine). length cs) c.first_cuts.ensures,
+      ap (λ (cs : List CutLine). length cs) c.first_items.ensures,
       length-take c.args.most c.in_ok-cuts.field-0.cuts,
       c.requires.few,
       c.requires.most,
@@ -18,5 +18,5 @@ new-requires-clause-few c =
 pub new-requires-clause-sound : goal.new-requires-clause-sound
 new-requires-clause-sound c =
     let p = case_of c.args.instance.now in
-    subst (All (IsCut p)) (sym c.first_cuts.ensures)
+    subst (All (IsCut p)) (sym c.first_items.ensures)
     (All-take (IsCut p) c.args.most c.in_ok-cuts.field-0.cuts (subst (All (IsCut p)) (sym c.in_ok-cuts.ensures.cuts) (cuts_sound p c.args.entries c.requires.sound)))

@@ -4,7 +4,7 @@ use Rattle.master_bound.specs.declared.answer.Multiplier.{Multiplier}
 use Rattle.plan_types.specs.declared.certificate.CertLine.{CertLine}
 use Rattle.box_search.specs.Terms.entry
 use Rattle.box_search.proofs.OwnValues.{IsOwnLine, own_more}
-use Rattle.branch_tree.proofs.own.own_cert.Goals as goal
+use Rattle.branch_tree.proofs.own_cert.own_cert.Goals as goal
 
 pub unreachable-requires : goal.unreachable-requires
 unreachable-requires c =
