@@ -9,7 +9,7 @@ use crate::plan::separated;
 use check_answers::{Answer, Status};
 use net_core::{Instance, List, Name, NoMemory, Problem, StateId};
 use outside_io::Gate;
-use proof_report::{ProofEnding, ProvedReport, are_charged, prove_once, write_proved};
+use proof_report::{ProofEnding, ProvedReport, are_charged, prove_once, write_lined};
 use std::alloc::Global;
 use std::sync::Wait;
 use std::thread::Threads;
@@ -36,7 +36,7 @@ fn answer_proved(
 {
     Ok(Answer {
         status: Status::Done,
-        text: write_proved(alloc, instance, report, limit)?,
+        text: write_lined(alloc, instance, report, limit)?,
     })
 }
 

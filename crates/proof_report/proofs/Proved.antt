@@ -1,11 +1,11 @@
 -- the report of a plan with its branch tree
-use Rattle.std.proofs.Common.{◌≡◌, ℕ, ◌≤◌, List, arith, subst, sym}
-use Rattle.plan_terms.specs.Terms.{Case, CutLine, Demand, IsAble, Notes, total_cost}
+use Rattle.std.proofs.Common.{ℕ, List, arith, subst, sym}
+use Rattle.plan_terms.specs.Terms.{Case, CutLine, Demand, Notes}
 use Rattle.plan_report.specs.Terms.{AreRoutingsInForm, known_to, Plan}
 use Rattle.trimmed_report.specs.Terms.{IsTranscript, IsRoutedPlan, PlannedReport, IsSoundDesign, plan_commands, redesigned_plan, whole_report}
 use Rattle.trimmed_report.proofs.Lemmas.{lone_plans_are_accepted, cheaper_redesigns_are_plans, lone_plans_carry}
-use Rattle.branch_tree.specs.Terms.{Proof, Cheapest, Above}
-use Rattle.branch_tree.specs.Proving.{IsProofOf}
+use Rattle.branch_tree.specs.Terms.{Proof}
+use Rattle.branch_tree.specs.Proving.{IsProofOf, ShowsBound, ShowsCheapest}
 use Rattle.proof_report.proofs.Roots.{root_alone}
 use Rattle.proof_report.specs.ProvedReports.{AreHandedIn, IsLinedReport, IsTrimmedOnce, certificate_cuts}
 use Rattle.proof_report.specs.declared.ending.ProvedReport.{ProvedReport}
@@ -47,9 +47,7 @@ module _ (p : Case) (notes : Notes) (limit : ℕ) (r : PlannedReport) (is : IsTr
     new_transcript = subst (λ (plan : Plan). IsTranscript p notes plan_commands (whole_report (with_plan plan))) (sym proved.plan.same)
         (cheaper_redesigns_are_plans p notes r proof.plan.counts proof.plan.cost proof.plan.routings t design new_routed.lowest proved.plan.cheaper)
 
-    pub lined_report_made : (proof.verdict ≡ Cheapest → (counts : List (List ℕ)) → IsAble p counts → proof.plan.cost ≤ total_cost p.links counts)
-        → ((least : ℕ) → proof.verdict ≡ Above least → (counts : List (List ℕ)) → IsAble p counts → least ≤ total_cost p.links counts)
-        → IsLinedReport p notes limit made
+    pub lined_report_made : ShowsCheapest p proof → ShowsBound p proof → IsLinedReport p notes limit made
     lined_report_made cheapest above = record {
       transcript = new_transcript;
       acceptable = lone_plans_are_accepted p notes (with_plan proof.plan) new_transcript;

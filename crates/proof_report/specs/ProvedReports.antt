@@ -1,13 +1,13 @@
 -- the outcome of a proof: the report of a plan with its branch tree, or the first separation
 use Rattle.std.specs.Prelude.{◌≡◌, ◌≢◌, ℕ, ◌≤◌, ◌++◌, List, [], All, AllPairs, Contains, flat_map, length, map}
-use Rattle.plan_terms.specs.Terms.{Case, CutLine, IsAble, Notes, total_cost}
+use Rattle.plan_terms.specs.Terms.{Case, CutLine, Notes}
 use Rattle.plan_report.specs.Terms.{Certificate, Plan}
 use Rattle.comment_lines.specs.Comments.{comment_line}
 use Rattle.trimmed_report.specs.Terms.{IsTranscript, PlannedReport, IsAcceptable, IsSeparationOf, plan_commands, whole_report, Block}
 use Rattle.trimmed_report.specs.TrimmedReports.{IsTrimmedReport}
-use Rattle.branch_tree.specs.Terms.{Proof, Cheapest, Above}
+use Rattle.branch_tree.specs.Terms.{Proof}
 use Rattle.tree_lines.specs.TreeLines.{proof_lines}
-use Rattle.branch_tree.specs.Proving.{IsProofOf}
+use Rattle.branch_tree.specs.Proving.{IsProofOf, ShowsBound, ShowsCheapest}
 use Rattle.proof_report.specs.declared.ending.ProofEnding.{ProofEnding}
 use Rattle.proof_report.specs.declared.ending.ProofEnding.TheVariants as ending
 use Rattle.proof_report.specs.declared.ending.ProvedReport.{ProvedReport}
@@ -60,8 +60,8 @@ pub record IsLinedReport (p : Case) (notes : Notes) (limit : ℕ) (r : ProvedRep
   pub begun : AreHandedIn r.pool (certificate_cuts given.certificate) handed
   pub proved : IsProofOf p given handed limit r.proof
   pub rooted : limit ≡ 0 → length r.proof.tree ≡ 1
-  pub cheapest : r.proof.verdict ≡ Cheapest → (counts : List (List ℕ)) → IsAble p counts → r.proof.plan.cost ≤ total_cost p.links counts
-  pub above : (least : ℕ) → r.proof.verdict ≡ Above least → (counts : List (List ℕ)) → IsAble p counts → least ≤ total_cost p.links counts
+  pub cheapest : ShowsCheapest p r.proof
+  pub above : ShowsBound p r.proof
 
 -- such a report whose proof is over cuts alone
 pub record IsProvedReport (p : Case) (notes : Notes) (limit : ℕ) (r : ProvedReport) : Type 0 where

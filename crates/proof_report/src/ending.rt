@@ -1,17 +1,14 @@
-ghost use Rattle.std.specs.Prelude.{◌≡◌, ℕ, List, [], ◌≤◌, IfOk, false, length};
-ghost use Rattle.plan_terms.specs.Terms.{AreDemands, IsAble, IsSurvivable, case, case_of, total_cost};
-ghost use Rattle.plan_types.specs.Terms.{IsCertifiedPlan};
-ghost use Rattle.trimmed_report.specs.Terms.{IsRoutedPlan};
+ghost use Rattle.std.specs.Prelude.{◌≡◌, [], ◌≤◌, IfOk, false};
+ghost use Rattle.plan_terms.specs.Terms.{case_of};
+ghost use Rattle.trimmed_report.specs.TrimmedReports.{IsTrimEnding};
 ghost use Rattle.branch_tree.specs.FewSplits.{AreCharged};
-ghost use Rattle.branch_tree.specs.Proving.{AreHandedCuts, IsProofOf};
 ghost use Rattle.proof_report.specs.ProvedReports.{IsLinedEnding, IsLinedReport, IsProofEnding, IsTrimmedOnce};
 
 use crate::handed::{handed_cuts, work_out};
-use branch_tree::tree_check::{Proof, Verdict};
-use branch_tree::{prove, prove_by_lines};
-use net_core::{CutLine, Entry, Instance, List, Name, Network, NoMemory, Notes, StateId, States};
+use branch_tree::prove_instance;
+use branch_tree::tree_check::Proof;
+use net_core::{CutLine, Entry, Instance, List, Name, NoMemory, Notes, StateId};
 use outside_io::Gate;
-use plan_types::Plan;
 use std::alloc::Global;
 use std::sync::Wait;
 use std::thread::Threads;
@@ -37,39 +34,7 @@ pub enum ProofEnding {
     Separated { state: StateId, demand: Name },
 }
 
-/// Searches for a branch tree, over divided lines or over cuts alone.
-fn searched<G: Gate>(
-    alloc: Global,
-    net: &Network,
-    states: &States,
-    plan: Plan,
-    cuts: List<CutLine>,
-    limit: u32,
-    divides: bool,
-    gate: &G,
-) -> Result<Proof, NoMemory>
-    requires limit { limit ≤ 9999 }
-    requires charged { AreCharged net.now.links }
-    requires belong { AreDemands (length net.now.nodes) plan.demands }
-    requires survivable { IsSurvivable (case net.now states.now plan.demands) }
-    requires routed { IsRoutedPlan (case net.now states.now plan.demands) plan }
-    requires certified { IsCertifiedPlan (case net.now states.now plan.demands) plan }
-    requires cuts { AreHandedCuts (case net.now states.now plan.demands) plan cuts }
-    ensures proof { IfOk result (IsProofOf (case net.now states.now plan.demands) plan cuts limit) }
-    ensures lines { divides ≡ false → IfOk result (λ r. r.lines ≡ []) }
-    ensures cheapest { IfOk result (λ r. r.verdict ≡ Verdict.Cheapest → (counts : List (List ℕ)) → IsAble (case net.now states.now plan.demands) counts
-        → r.plan.cost ≤ total_cost net.now.links counts) }
-    ensures above { IfOk result (λ r. (least : ℕ) → r.verdict ≡ Verdict.Above least → (counts : List (List ℕ))
-        → IsAble (case net.now states.now plan.demands) counts → least ≤ total_cost net.now.links counts) }
-{
-    if divides {
-        prove_by_lines(alloc, net, states, plan, cuts, limit, gate)
-    } else {
-        prove(alloc, net, states, plan, cuts, limit, gate)
-    }
-}
-
-/// Searches for a branch tree of a report's plan, with at most `limit` splits.
+/// Searches for a branch tree of a report's plan, with at most `limit` splits, over cuts alone or over divided lines too.
 fn prove_planned<G: Gate>(
     alloc: Global,
     instance: &Instance,
@@ -79,23 +44,13 @@ fn prove_planned<G: Gate>(
     gate: &G,
 ) -> Result<ProvedReport, NoMemory>
     requires limit { limit ≤ 9999 }
-    requires charged { AreCharged instance.now.net.now.links }
     requires trimmed { IsTrimmedOnce (case_of instance.now) instance.now.net.now.notes planned }
     ensures lined { IfOk result (IsLinedReport (case_of instance.now) instance.now.net.now.notes limit) }
     ensures plain { divides ≡ false → IfOk result (λ r. r.proof.lines ≡ []) }
 {
     let cuts = handed_cuts(&planned.pool, &planned.plan.certificate)?;
     work_out(alloc, instance, cuts.items())?;
-    let proof = searched(
-        alloc,
-        instance.net,
-        instance.states,
-        planned.plan,
-        cuts,
-        limit,
-        divides,
-        gate,
-    )?;
+    let proof = prove_instance(alloc, instance, planned.plan, cuts, limit, divides, gate)?;
     Ok(ProvedReport {
         notes: planned.notes,
         entries: planned.entries,
@@ -104,38 +59,27 @@ fn prove_planned<G: Gate>(
     })
 }
 
-/// Searches for a branch tree of a report's plan over cuts alone.
-fn prove_by_cuts<G: Gate>(
+/// Searches for a branch tree of a trimmed plan, where there is one.
+fn prove_trimmed<G: Gate>(
     alloc: Global,
     instance: &Instance,
-    planned: PlannedReport,
+    ending: TrimEnding,
     limit: u32,
+    divides: bool,
     gate: &G,
 ) -> Result<ProofEnding, NoMemory>
     requires limit { limit ≤ 9999 }
-    requires charged { AreCharged instance.now.net.now.links }
-    requires trimmed { IsTrimmedOnce (case_of instance.now) instance.now.net.now.notes planned }
-    ensures { IfOk result (IsProofEnding (case_of instance.now) instance.now.net.now.notes limit) }
+    requires trimmed { IsTrimEnding (case_of instance.now) instance.now.net.now.notes ending }
+    ensures lined { IfOk result (IsLinedEnding (case_of instance.now) instance.now.net.now.notes limit) }
+    ensures plain { divides ≡ false → IfOk result (IsProofEnding (case_of instance.now) instance.now.net.now.notes limit) }
 {
-    let report = prove_planned(alloc, instance, planned, limit, false, gate)?;
-    Ok(ProofEnding::Proved(report))
-}
-
-/// Searches for a branch tree of a report's plan over divided lines.
-fn prove_with_lines<G: Gate>(
-    alloc: Global,
-    instance: &Instance,
-    planned: PlannedReport,
-    limit: u32,
-    gate: &G,
-) -> Result<ProofEnding, NoMemory>
-    requires limit { limit ≤ 9999 }
-    requires charged { AreCharged instance.now.net.now.links }
-    requires trimmed { IsTrimmedOnce (case_of instance.now) instance.now.net.now.notes planned }
-    ensures { IfOk result (IsLinedEnding (case_of instance.now) instance.now.net.now.notes limit) }
-{
-    let report = prove_planned(alloc, instance, planned, limit, true, gate)?;
-    Ok(ProofEnding::Proved(report))
+    match ending {
+        TrimEnding::Trimmed { report, .. } => {
+            let proved = prove_planned(alloc, instance, report, limit, divides, gate)?;
+            Ok(ProofEnding::Proved(proved))
+        }
+        TrimEnding::Separated { state, demand } => Ok(ProofEnding::Separated { state, demand }),
+    }
 }
 
 /// Plans an instance as `plan_once` does, takes off modules that can be spared, and searches for a branch tree with at most `limit` splits.
@@ -153,19 +97,14 @@ pub fn prove_once<R: Threads + Wait + Sync, G: Gate + Sync>(
     requires charged { AreCharged instance.now.net.now.links }
     ensures { IfOk result (IsProofEnding (case_of instance.now) instance.now.net.now.notes limit) }
 {
-    match trim_once(rt, alloc, instance, gate) {
-        Ok(TrimEnding::Trimmed { report, .. }) => prove_by_cuts(
-            alloc, instance, report, limit, gate,
-        ),
-        Ok(TrimEnding::Separated { state, demand }) => Ok(ProofEnding::Separated { state, demand }),
-        Err(NoMemory) => Err(NoMemory),
-    }
+    let ending = trim_once(rt, alloc, instance, gate)?;
+    prove_trimmed(alloc, instance, ending, limit, false, gate)
 }
 
-/// As `prove_once`, but the tree may name lines besides the cuts, as that of `prove_by_lines` does; they come with the proof. With a limit
-/// of 0 there are no splits: the tree is its root alone, with the best certificate for all counts. It may never return.
+/// As `prove_once`, but the tree may name lines besides the cuts, as that of `prove_instance` does where it divides; they come with the
+/// proof. With a limit of 0 there are no splits: the tree is its root alone, with the best certificate for all counts. It may never return.
 ///
-/// All modules cost something. It takes the time and the memory of `trim_once` and then of `prove_by_lines`.
+/// All modules cost something. It takes the time and the memory of `trim_once` and then of `prove_instance`.
 pub fn prove_once_by_lines<R: Threads + Wait + Sync, G: Gate + Sync>(
     rt: &R,
     alloc: Global,
@@ -177,11 +116,6 @@ pub fn prove_once_by_lines<R: Threads + Wait + Sync, G: Gate + Sync>(
     requires charged { AreCharged instance.now.net.now.links }
     ensures { IfOk result (IsLinedEnding (case_of instance.now) instance.now.net.now.notes limit) }
 {
-    match trim_once(rt, alloc, instance, gate) {
-        Ok(TrimEnding::Trimmed { report, .. }) => prove_with_lines(
-            alloc, instance, report, limit, gate,
-        ),
-        Ok(TrimEnding::Separated { state, demand }) => Ok(ProofEnding::Separated { state, demand }),
-        Err(NoMemory) => Err(NoMemory),
-    }
+    let ending = trim_once(rt, alloc, instance, gate)?;
+    prove_trimmed(alloc, instance, ending, limit, true, gate)
 }

@@ -4,7 +4,7 @@ ghost use Rattle.plan_report.specs.Terms.{known_of, report_text, SpellsReport};
 ghost use Rattle.comment_lines.specs.Comments.{AddsLines};
 ghost use Rattle.trimmed_report.specs.Terms.{whole_report};
 ghost use Rattle.tree_lines.specs.TreeLines.{IsToldProof, proof_lines};
-ghost use Rattle.proof_report.specs.ProvedReports.{IsLinedReport, IsProvedReport, proved_report, proof_text};
+ghost use Rattle.proof_report.specs.ProvedReports.{IsLinedReport, proved_report, proof_text};
 
 use crate::ending::ProvedReport;
 use branch_tree::tree_check::Proof;
@@ -64,20 +64,4 @@ pub fn write_lined(
     let mut text = write_report(alloc, instance.net, instance.states, &whole)?;
     put_lines(&mut text, instance, &proof)?;
     Ok(text)
-}
-
-/// As `write_lined`, of a report whose tree is over cuts alone, with the same time and memory.
-pub fn write_proved(
-    alloc: Global,
-    instance: &Instance,
-    report: ProvedReport,
-    limit: u32,
-) -> Result<Bytes, NoMemory>
-    requires { IsProvedReport (case_of instance.now) instance.now.net.now.notes limit report }
-    ensures text { IfOk result (λ text. text
-        ≡ report_text (known_of instance.now.net.now instance.now.states.now) (whole_report (proved_report report))
-        ++ proof_text (case_of instance.now) report.proof) }
-    ensures spelled { IfOk result (λ text. SpellsReport (known_of instance.now.net.now instance.now.states.now) text (whole_report (proved_report report))) }
-{
-    write_lined(alloc, instance, report, limit)
 }
