@@ -1,2 +1,3 @@
 pub mod AbleTests
 pub mod Terms
+pub mod inner

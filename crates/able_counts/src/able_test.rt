@@ -5,11 +5,12 @@ ghost use Rattle.able_counts.specs.AbleTests.{AreKeptOrWithin, AreRoutingsWithin
 use crate::cuts::{known_cut, last_violated};
 use crate::nodes::short_state;
 use crate::quick::{quick_stop, set_stop};
-use crate::routed::state_stop;
+use crate::state_stop::state_stop;
 use crate::stop::{Stop, is_cut, later};
 use module_choice::capacities;
 use net_core::{
-    Caps, Copied, Counts, CutLine, Instance, List, NoMemory, Routing, StateId, discard,
+    Caps, Copied, Counts, CutLine, Instance, List, NoMemory, RouteTask, Routing, StateId,
+    Surviving, discard,
 };
 use separator::warm_routing::WarmRouter;
 use std::alloc::Global;
@@ -129,11 +130,11 @@ impl AbleTest {
     }
 
     /// Why capacities don't carry the demands in a state; where they do, the state's routing is within them.
-    fn stop_in(
+    fn stop_in<'a>(
         &mut self,
-        instance: &Instance,
+        instance: &Instance<'a>,
         state: StateId,
-        caps: &Caps,
+        caps: &'a Caps,
     ) -> Result<Option<Stop>, NoMemory>
         requires sound { IsTestOf (case_of instance.now) self.old }
         requires state { state.0 < length instance.now.states.now.listed + 1 }
@@ -148,11 +149,18 @@ impl AbleTest {
         ensures stop { IfOk result (λ o. IfSome o (IsStopAt (case_of instance.now) caps.now)) }
     {
         let at = state.0 as usize;
+        let task = RouteTask {
+            graph: Surviving {
+                net: instance.net,
+                states: instance.states,
+                state,
+            },
+            demands: instance.demands,
+            caps,
+        };
         let found = state_stop(
             self.alloc,
-            instance,
-            state,
-            caps,
+            &task,
             &mut self.warm,
             &mut self.routings.items_mut()[at],
         )?;
@@ -161,11 +169,11 @@ impl AbleTest {
     }
 
     /// A cut that capacities violate in a state, where it is soon found.
-    fn quick_stop_in(
+    fn quick_stop_in<'a>(
         &mut self,
-        instance: &Instance,
+        instance: &Instance<'a>,
         state: StateId,
-        caps: &Caps,
+        caps: &'a Caps,
     ) -> Result<Option<Stop>, NoMemory>
         requires sound { IsTestOf (case_of instance.now) self.old }
         requires state { state.0 < length instance.now.states.now.listed + 1 }
@@ -177,19 +185,26 @@ impl AbleTest {
         ensures stop { IfOk result (λ o. IfSome o (IsStopAt (case_of instance.now) caps.now)) }
     {
         let at = state.0 as usize;
-        let found = quick_stop(
-            self.alloc,
-            instance,
-            state,
+        let task = RouteTask {
+            graph: Surviving {
+                net: instance.net,
+                states: instance.states,
+                state,
+            },
+            demands: instance.demands,
             caps,
-            &mut self.routings.items_mut()[at],
-        )?;
+        };
+        let found = quick_stop(self.alloc, &task, &mut self.routings.items_mut()[at])?;
         self.keep(instance, state, caps, &found)?;
         Ok(found)
     }
 
     /// A cut of a set of nodes that capacities violate in a state in which the links of some node have too little.
-    fn short_stop(&mut self, instance: &Instance, caps: &Caps) -> Result<Option<Stop>, NoMemory>
+    fn short_stop<'a>(
+        &mut self,
+        instance: &Instance<'a>,
+        caps: &'a Caps,
+    ) -> Result<Option<Stop>, NoMemory>
         requires sound { IsTestOf (case_of instance.now) self.old }
         requires scale { caps.now.scale ≡ 1 }
         requires count { length caps.now.nums ≡ length instance.now.net.now.links }
@@ -199,7 +214,16 @@ impl AbleTest {
     {
         match short_state(self.alloc, instance, caps)? {
             Some(state) => {
-                let found = set_stop(self.alloc, instance, state, caps)?;
+                let task = RouteTask {
+                    graph: Surviving {
+                        net: instance.net,
+                        states: instance.states,
+                        state,
+                    },
+                    demands: instance.demands,
+                    caps,
+                };
+                let found = set_stop(self.alloc, &task)?;
                 self.keep(instance, state, caps, &found)?;
                 Ok(found)
             }
@@ -220,7 +244,7 @@ impl AbleTest {
         let (first, count) = (self.refused, instance.states.count());
         for places in 0..count {
             let state = state_after(first, places, count);
-            if let Some(stop) = self.quick_stop_in(instance, state, caps)? {
+            if let Some(stop) = self.quick_stop_in(&*instance, state, caps)? {
                 return Ok(Some(stop));
             }
         }
@@ -241,7 +265,7 @@ impl AbleTest {
     {
         let mut wide = None;
         for s in 0..instance.states.count() {
-            let found = self.stop_in(instance, StateId(s), caps)?;
+            let found = self.stop_in(&*instance, StateId(s), caps)?;
             if is_cut(&found) {
                 discard(wide);
                 return Ok(found);

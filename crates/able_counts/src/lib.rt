@@ -14,7 +14,7 @@ mod able_test;
 mod cuts;
 mod nodes;
 mod quick;
-mod routed;
+mod state_stop;
 mod stop;
 
 pub use able_test::AbleTest;

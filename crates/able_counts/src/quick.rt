@@ -1,59 +1,22 @@
-ghost use Rattle.std.specs.Prelude.{◌≡◌, ◌⊎◌, ◌^◌, ◌+◌, ◌<◌, All, IfOk, IfSome, length};
-ghost use Rattle.plan_terms.specs.Terms.{case_of};
+ghost use Rattle.std.specs.Prelude.{◌≡◌, ◌⊎◌, ◌^◌, ◌<◌, All, IfOk, IfSome};
 ghost use Rattle.able_counts.specs.AbleTests.{IsRoutingOf, IsRoutingWithin, IsStopAt};
+ghost use Rattle.able_counts.specs.inner.Tasks.{task_case};
 
 use crate::stop::Stop;
-use net_core::{Caps, Instance, NoMemory, RouteTask, Routing, StateId};
+use net_core::{NoMemory, RouteTask, Routing};
 use node_sets::grown_set;
 use separator::flow_mending::{is_within, mended};
 use separator::line_of;
 use std::alloc::Global;
 
-/// A routing within capacities in a state that keeps most flows of an earlier one, where what no longer fits finds its way.
-/// It takes time in the links of the flows, and a search for each demand of which some doesn't fit.
-fn mended_in(
-    alloc: Global,
-    instance: &Instance,
-    state: StateId,
-    caps: &Caps,
-    earlier: &Routing,
-) -> Result<Option<Routing>, NoMemory>
-    requires state { state.0 < length instance.now.states.now.listed + 1 }
-    requires scale { caps.now.scale ≡ 1 }
-    requires count { length caps.now.nums ≡ length instance.now.net.now.links }
-    ensures { IfOk result (λ o. IfSome o (IsRoutingWithin (case_of instance.now) state.0 caps.now.nums)) }
-{
-    let task = RouteTask {
-        graph: instance.in_state(state),
-        demands: instance.demands,
-        caps,
-    };
-    match mended(alloc, &task, earlier)? {
-        Some(found) => Ok(Some(found)),
-        None => Ok(None),
-    }
-}
-
 /// A cut of a set of nodes that capacities violate in a state, where one is found.
 /// It takes time in the cube of the nodes.
-pub(crate) fn set_stop(
-    alloc: Global,
-    instance: &Instance,
-    state: StateId,
-    caps: &Caps,
-) -> Result<Option<Stop>, NoMemory>
-    requires state { state.0 < length instance.now.states.now.listed + 1 }
-    requires scale { caps.now.scale ≡ 1 }
-    requires count { length caps.now.nums ≡ length instance.now.net.now.links }
-    ensures { IfOk result (λ o. IfSome o (IsStopAt (case_of instance.now) caps.now)) }
+pub(crate) fn set_stop(alloc: Global, task: &RouteTask) -> Result<Option<Stop>, NoMemory>
+    requires { task.now.caps.now.scale ≡ 1 }
+    ensures { IfOk result (λ o. IfSome o (IsStopAt (task_case task.now) task.now.caps.now)) }
 {
-    let task = RouteTask {
-        graph: instance.in_state(state),
-        demands: instance.demands,
-        caps,
-    };
-    match grown_set(alloc, &task)? {
-        Some(cut) => Ok(Some(Stop::Cut(line_of(&cut, instance.demands)?))),
+    match grown_set(alloc, task)? {
+        Some(cut) => Ok(Some(Stop::Cut(line_of(&cut, task.demands)?))),
         None => Ok(None),
     }
 }
@@ -62,27 +25,23 @@ pub(crate) fn set_stop(
 /// within them. It solves no program.
 pub(crate) fn quick_stop(
     alloc: Global,
-    instance: &Instance,
-    state: StateId,
-    caps: &Caps,
+    task: &RouteTask,
     routing: &mut Routing,
 ) -> Result<Option<Stop>, NoMemory>
-    requires state { state.0 < length instance.now.states.now.listed + 1 }
-    requires scale { caps.now.scale ≡ 1 }
-    requires count { length caps.now.nums ≡ length instance.now.net.now.links }
-    requires narrow { All (λ n. n < 2 ^ 62) caps.now.nums }
-    requires routing { IsRoutingOf (case_of instance.now) state.0 routing.old }
-    ensures kept { (routing.new ≡ routing.old) ⊎ IsRoutingWithin (case_of instance.now) state.0 caps.now.nums routing.new }
-    ensures stop { IfOk result (λ o. IfSome o (IsStopAt (case_of instance.now) caps.now)) }
+    requires scale { task.now.caps.now.scale ≡ 1 }
+    requires narrow { All (λ n. n < 2 ^ 62) task.now.caps.now.nums }
+    requires routing { IsRoutingOf (task_case task.now) task.now.graph.state.0 routing.old }
+    ensures kept { (routing.new ≡ routing.old) ⊎ IsRoutingWithin (task_case task.now) task.now.graph.state.0 task.now.caps.now.nums routing.new }
+    ensures stop { IfOk result (λ o. IfSome o (IsStopAt (task_case task.now) task.now.caps.now)) }
 {
-    if is_within(alloc, routing, caps)? {
+    if is_within(alloc, routing, task.caps)? {
         return Ok(None);
     }
-    match mended_in(alloc, instance, state, caps, routing)? {
+    match mended(alloc, task, routing)? {
         Some(found) => {
             *routing = found;
             Ok(None)
         }
-        None => set_stop(alloc, instance, state, caps),
+        None => set_stop(alloc, task),
     }
 }

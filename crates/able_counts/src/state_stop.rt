@@ -1,0 +1,101 @@
+ghost use Rattle.std.specs.Prelude.{◌≡◌, ◌⊎◌, ◌^◌, ◌<◌, All, IfOk, IfSome, List as Seq, None};
+ghost use Rattle.plan_terms.specs.Terms.{graph_of, Caps as CapsOf, Demand, Graph, IsSurvivable};
+ghost use Rattle.route_law.specs.Terms.{AreJoined};
+ghost use Rattle.separator.specs.Findings.{IsFinding};
+ghost use Rattle.separator.specs.Terms.{IsWarmAnswer};
+ghost use Rattle.able_counts.specs.AbleTests.{IsRoutingOf, IsRoutingWithin, IsStopAt};
+ghost use Rattle.able_counts.specs.inner.Tasks.{task_case};
+
+use crate::stop::Stop;
+use net_core::{Copied, Flow, Instance, List, NoMemory, RouteColumn, RouteTask, Routing};
+use separator::flow_mending::is_within;
+use separator::flow_router::RouteAnswer;
+use separator::warm_routing::{WarmAnswer, WarmRouter};
+use separator::{line_of, separate_state};
+use std::alloc::Global;
+
+/// The number of turns that a kept basis is given.
+const TURNS: u32 = 1_000;
+
+/// The columns of a routing's flows.
+fn columns_of(alloc: Global, flows: &[Flow]) -> Result<List<RouteColumn>, NoMemory> {
+    let mut columns = List::new(alloc);
+    for f in flows {
+        columns.push(RouteColumn::Carry(f.demand, f.path.copy()?))?;
+    }
+    Ok(columns)
+}
+
+/// What a kept basis finds, as an answer.
+fn answer_of(found: WarmAnswer) -> RouteAnswer
+    ensures { (g : Graph) (demands : Seq Demand) (caps : CapsOf) → IsWarmAnswer g demands caps found → IsFinding g demands caps result }
+{
+    match found {
+        WarmAnswer::Routed(routing) => RouteAnswer::Routed(routing),
+        WarmAnswer::Violated(cut) => RouteAnswer::Violated(cut),
+    }
+}
+
+/// What a kept basis finds of a task.
+fn route_warm(task: &RouteTask, warm: &mut WarmRouter) -> Result<Option<RouteAnswer>, NoMemory>
+    requires { 0 < task.now.caps.now.scale }
+    ensures { IfOk result (λ o. IfSome o (IsFinding (graph_of task.now.graph) task.now.demands.now task.now.caps.now)) }
+{
+    match warm.ask(task, TURNS)? {
+        Some(found) => Ok(Some(answer_of(found))),
+        None => Ok(None),
+    }
+}
+
+/// Whether capacities carry the demands in a state, where a routing program begins with the paths of earlier flows.
+fn route_anew(
+    alloc: Global,
+    task: &RouteTask,
+    earlier: &[Flow],
+    warm: &mut WarmRouter,
+) -> Result<RouteAnswer, NoMemory>
+    requires scale { 0 < task.now.caps.now.scale }
+    requires joined { AreJoined (graph_of task.now.graph) task.now.demands.now }
+    ensures { IfOk result (IsFinding (graph_of task.now.graph) task.now.demands.now task.now.caps.now) }
+{
+    if let Some(answer) = route_warm(task, warm)? {
+        return Ok(answer);
+    }
+    let mut known = columns_of(alloc, earlier)?;
+    let instance = Instance {
+        net: task.graph.net,
+        states: task.graph.states,
+        demands: task.demands,
+    };
+    separate_state(alloc, &instance, task.graph.state, task.caps, &mut known)
+}
+
+/// Why capacities don't carry the demands in a state; where they do, the routing becomes one within them.
+///
+/// It stays as it is where it is within them, and no program is solved then. Else a program begins with the paths of the routing.
+pub(crate) fn state_stop(
+    alloc: Global,
+    task: &RouteTask,
+    warm: &mut WarmRouter,
+    routing: &mut Routing,
+) -> Result<Option<Stop>, NoMemory>
+    requires survivable { IsSurvivable (task_case task.now) }
+    requires scale { task.now.caps.now.scale ≡ 1 }
+    requires narrow { All (λ n. n < 2 ^ 62) task.now.caps.now.nums }
+    requires routing { IsRoutingOf (task_case task.now) task.now.graph.state.0 routing.old }
+    ensures kept { (routing.new ≡ routing.old) ⊎ IsRoutingWithin (task_case task.now) task.now.graph.state.0 task.now.caps.now.nums routing.new }
+    ensures carried { IfOk result (λ o. o ≡ None → IsRoutingWithin (task_case task.now) task.now.graph.state.0 task.now.caps.now.nums routing.new) }
+    ensures stop { IfOk result (λ o. IfSome o (IsStopAt (task_case task.now) task.now.caps.now)) }
+{
+    if is_within(alloc, routing, task.caps)? {
+        return Ok(None);
+    }
+    match route_anew(alloc, task, routing.flows.items(), warm)? {
+        RouteAnswer::Routed(found) => {
+            *routing = found;
+            Ok(None)
+        }
+        RouteAnswer::Violated(cut) => Ok(Some(Stop::Cut(line_of(&cut, task.demands)?))),
+        RouteAnswer::Wide(evidence) => Ok(Some(Stop::Wide(evidence))),
+    }
+}
