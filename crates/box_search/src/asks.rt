@@ -1,7 +1,7 @@
-ghost use Rattle.std.specs.Prelude.{◌≡◌, IfOk, OnOk};
+ghost use Rattle.std.specs.Prelude.{IfOk, OnOk};
 ghost use Rattle.plan_terms.specs.Terms.{AreCounts, AreWithinLimits, IsSurvivable};
 ghost use Rattle.plan_swaps.specs.Terms.{IsTestOf};
-ghost use Rattle.box_search.specs.inner.Asking.{IsAnswerTo, asked_of};
+ghost use Rattle.box_search.specs.inner.Asking.{IsAnswerTo};
 ghost use Rattle.box_search.specs.Searches.{aimed};
 
 use crate::aim::Aim;
@@ -9,34 +9,17 @@ use crate::found::Cheaper;
 use crate::large::stop_anywhere;
 use crate::lowered::lowered_counts;
 use module_choice::cost;
-use net_core::{Copied, Counts, CutLine, Evidence, NoMemory};
+use net_core::{Copied, Counts, NoMemory};
 use plan_swaps::able_counts::{AbleTest, Stop};
 use plan_swaps::limits::are_within_limits;
 use std::alloc::Global;
 
-/// What is known of counts that are asked about.
-#[derive(Drop)]
-pub(crate) enum Asked {
-    /// They carry the demands; or lesser ones within the limits of plans do.
-    Carried(Cheaper),
-    /// Their capacities violate this cut.
-    Cut(CutLine),
-    /// A number of a state's routing program is too wide at their capacities.
-    Wide(Evidence),
-}
-
-/// What stops counts.
-fn stopped(stop: Stop) -> Asked
-    ensures { result ≡ asked_of stop }
-{
-    match stop {
-        Stop::Cut(line) => Asked::Cut(line),
-        Stop::Wide(evidence) => Asked::Wide(evidence),
-    }
-}
-
-/// Asks about counts within the limits of plans.
-pub(crate) fn ask_within(aim: &Aim, test: &mut AbleTest, counts: Counts) -> Result<Asked, NoMemory>
+/// Asks about counts within the limits of plans: they carry the demands, or something stops them.
+pub(crate) fn ask_within(
+    aim: &Aim,
+    test: &mut AbleTest,
+    counts: Counts,
+) -> Result<Result<Cheaper, Stop>, NoMemory>
     requires survivable { IsSurvivable (aimed aim.now) }
     requires sound { IsTestOf (aimed aim.now) test.old }
     requires shape { AreCounts (aimed aim.now).links counts }
@@ -46,8 +29,8 @@ pub(crate) fn ask_within(aim: &Aim, test: &mut AbleTest, counts: Counts) -> Resu
 {
     let found = test.stop(aim.instance, &counts)?;
     match found {
-        Some(stop) => Ok(stopped(stop)),
-        None => Ok(Asked::Carried(Cheaper {
+        Some(stop) => Ok(Err(stop)),
+        None => Ok(Ok(Cheaper {
             cost: cost(aim.instance.net, &counts),
             counts,
             routings: test.routings().copy()?,
@@ -55,13 +38,13 @@ pub(crate) fn ask_within(aim: &Aim, test: &mut AbleTest, counts: Counts) -> Resu
     }
 }
 
-/// Asks about any counts.
+/// Asks about any counts: they carry the demands, or lesser ones within the limits of plans do; or something stops them.
 pub(crate) fn ask(
     alloc: Global,
     aim: &Aim,
     test: &mut AbleTest,
     counts: Counts,
-) -> Result<Asked, NoMemory>
+) -> Result<Result<Cheaper, Stop>, NoMemory>
     requires survivable { IsSurvivable (aimed aim.now) }
     requires sound { IsTestOf (aimed aim.now) test.old }
     requires shape { AreCounts (aimed aim.now).links counts }
@@ -74,12 +57,12 @@ pub(crate) fn ask(
     match stop_anywhere(alloc, aim.instance, &counts)? {
         Ok(routings) => {
             let counts = lowered_counts(alloc, aim.instance, &counts)?;
-            Ok(Asked::Carried(Cheaper {
+            Ok(Ok(Cheaper {
                 cost: cost(aim.instance.net, &counts),
                 counts,
                 routings,
             }))
         }
-        Err(stop) => Ok(stopped(stop)),
+        Err(stop) => Ok(Err(stop)),
     }
 }

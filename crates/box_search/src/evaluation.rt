@@ -8,7 +8,7 @@ ghost use Rattle.box_search.specs.Searches.{IsUnsettledIn};
 ghost use Rattle.box_search.specs.inner.Asking.{IsTriedTo};
 
 use crate::aim::Aim;
-use crate::asks::{Asked, ask, ask_within};
+use crate::asks::{ask, ask_within};
 use crate::certs::{Valued, greater, greatest};
 use crate::found::{Cheaper, Found};
 use crate::known::has_cut;
@@ -18,6 +18,7 @@ use crate::twigs::{OpenBox, Twig};
 use crate::whole::whole_counts;
 use module_choice::cost;
 use net_core::{Counts, NoMemory};
+use plan_swaps::able_counts::Stop;
 use plan_swaps::limits::are_within_limits;
 use std::alloc::Global;
 use tree_check::fixed::fixed_counts;
@@ -49,13 +50,13 @@ fn look_fixed(
     ensures found { IfOk result (IsFoundAt (aimed aim.now) aim.now.plan.now (handed_in search.old) search.new.known.tested depth boxed.now) }
 {
     match ask(alloc, aim, &mut search.test, counts)? {
-        Asked::Carried(cheaper) => Ok(Found::Cheaper(cheaper)),
-        Asked::Cut(line) => {
+        Ok(cheaper) => Ok(Found::Cheaper(cheaper)),
+        Err(Stop::Cut(line)) => {
             let cut = search.known.entries.len() as u32;
             search.known.push(alloc, aim.instance, line)?;
             Ok(Found::Twig(Twig::Settled(Node::Empty { cut })))
         }
-        Asked::Wide(evidence) => Ok(Found::Twig(Twig::Stuck(best, evidence))),
+        Err(Stop::Wide(evidence)) => Ok(Found::Twig(Twig::Stuck(best, evidence))),
     }
 }
 
@@ -89,8 +90,8 @@ fn try_whole(
         return Ok(Tried::Nothing);
     }
     match ask_within(aim, &mut search.test, counts)? {
-        Asked::Carried(cheaper) => Ok(Tried::Cheaper(cheaper)),
-        Asked::Cut(line) => {
+        Ok(cheaper) => Ok(Tried::Cheaper(cheaper)),
+        Err(Stop::Cut(line)) => {
             let full = search.known.entries.len() >= search.room;
             if full || has_cut(search.known.entries.items(), &line) {
                 return Ok(Tried::Nothing);
@@ -98,7 +99,7 @@ fn try_whole(
             search.known.push(alloc, aim.instance, line)?;
             Ok(Tried::More)
         }
-        Asked::Wide(_) => Ok(Tried::Nothing),
+        Err(Stop::Wide(_)) => Ok(Tried::Nothing),
     }
 }
 
