@@ -1,11 +1,13 @@
 ghost use Rattle.lone_plan.specs.Laws.{LonePlansAreAccepted, RedesignsAreAccepted};
 
 /// The report of a plan has no finding, and no counts that can carry the plan's demands cost less than its bound.
+/// The call does nothing, and takes no time.
 pub fn lone_plans_are_accepted()
     ensures { LonePlansAreAccepted }
 {}
 
 /// The report of a plan in which a sound design replaces the plan's own is in form and has no finding, and no able counts cost less than its bound.
+/// The call does nothing, and takes no time.
 pub fn redesigns_are_accepted()
     ensures { RedesignsAreAccepted }
 {}
