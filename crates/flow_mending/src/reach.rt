@@ -258,18 +258,20 @@ fn reach_over(alloc: Global, graph: &Surviving, survives: &[bool]) -> Result<Rea
 }
 
 impl Reach {
-    /// Lists the arcs, each of length 1.
+    /// Lists the arcs, each of length 1. It takes time in the nodes, and in the links times those that the state fails; memory in the nodes
+    /// and links.
     pub fn new(alloc: Global, graph: &Surviving) -> Result<Reach, NoMemory> {
         let survives = surviving(alloc, graph)?;
         reach_over(alloc, graph, survives.items())
     }
 
-    /// The arcs, whose lengths may be changed.
+    /// The arcs, whose lengths may be changed, without a copy. It takes constant time.
     pub fn arcs_mut(&mut self) -> &mut [Arc] {
         self.arcs.items_mut()
     }
 
-    /// Searches from a root, no farther than to a node where one is given (Dijkstra's algorithm).
+    /// Searches from a root, no farther than to a node where one is given (Dijkstra's algorithm). It takes time in the square of the nodes
+    /// and in the links, and no memory.
     pub fn search(&mut self, root: NodeId, last: Option<NodeId>) {
         let places = self.places.items_mut();
         places.fill(unreached());
@@ -295,7 +297,7 @@ impl Reach {
         );
     }
 
-    /// How far a node is from the root, `FAR` where it isn't reached.
+    /// How far a node is from the root, `FAR` where it isn't reached. It takes constant time.
     pub fn far(&self, node: NodeId) -> u64 {
         let at = node.0 as usize;
         let places = self.places.items();
@@ -306,12 +308,12 @@ impl Reach {
         }
     }
 
-    /// The path from a node to the root, if it was reached.
+    /// The path from a node to the root, if it was reached. It takes time in the path's length, and memory for the path.
     pub fn path(&self, alloc: Global, from: NodeId) -> Result<Option<Path>, NoMemory> {
         way_from(alloc, self.places.items(), from.0 as usize)
     }
 
-    /// The path from the root to a node, if it was reached.
+    /// The path from the root to a node, if it was reached. It takes time in the path's length, and memory for the path.
     pub fn path_back(&self, alloc: Global, to: NodeId) -> Result<Option<Path>, NoMemory> {
         let mut path = self.path(alloc, to)?;
         if let Some(path) = &mut path {
