@@ -42,7 +42,8 @@ impl Sheet {
 
 ghost use Rattle.turn_lock.specs.Passes.{IsPassOf, opening_of, seen_by, own_units};
 
-/// One turn, which notes a number where there is room.
+/// One turn, which notes a number where there is room. It may wait for its turn; beside that it takes constant time on average, and asks
+/// for memory only where the sheet has no room left.
 pub fn note<R: Wait>(rt: &R, desk: &Desk<Sheet>, pass: Pass<Sheet>, number: u64) -> Pass<Sheet>
     requires { IsPassOf desk.now pass }
     ensures own { IsPassOf desk.now result }
@@ -57,7 +58,7 @@ pub fn note<R: Wait>(rt: &R, desk: &Desk<Sheet>, pass: Pass<Sheet>, number: u64)
     }
 }
 
-/// Many turns, each of which notes the number.
+/// Many turns, each of which notes the number. It takes time in the number of turns, beside waiting for them, and memory for the notes.
 pub fn note_often<R: Wait>(
     rt: &R,
     desk: &Desk<Sheet>,
@@ -76,7 +77,8 @@ pub fn note_often<R: Wait>(
     pass
 }
 
-/// Two threads note 1 and 2 in turns of their own. The sheet comes back with the notes of both.
+/// Two threads note 1 and 2 in turns of their own. The sheet comes back with the notes of both. It takes time in the number
+/// of turns, and memory for the notes and the threads.
 pub fn note_by_two<R: Threads + Wait + Sync>(
     rt: &R,
     desk: Desk<Sheet>,
