@@ -47,7 +47,7 @@ impl Row {
         Ok(Row { nums, den: 1 })
     }
 
-    /// The numbers over the denominator, lent at no cost.
+    /// The numbers over the denominator, without a copy. It takes constant time.
     pub fn nums(&self) -> &[i64]
         ensures { result.now ≡ self.now.nums }
     {

@@ -33,7 +33,7 @@ fn put_network_notes(
 }
 
 /// What is known of a refused network besides its first fault's sentence, as a line or nothing: what a file with another header seems to be,
-/// and for a name that nothing has the nearest word before it. It costs what `put_near_note` does.
+/// and for a name that nothing has the nearest word before it. It takes time in the text's length times that of a name, and memory in the text's.
 pub fn network_notes(
     alloc: Global,
     bytes: &[u8],

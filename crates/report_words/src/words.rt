@@ -30,7 +30,8 @@ fn within(least: u128, limit: u128, number: Result<u128, WholeFault>) -> Result<
 }
 
 /// The whole number that a word writes, from `least`, below `limit`. One that is out of this range is
-/// `limit`, one of 2^126 or more `number-large`, and any other word `number-not`.
+/// `limit`, one of 2^126 or more `number-large`, and any other word `number-not`. It goes over the word at most three times, and asks
+/// for no memory.
 pub fn whole_within(least: u128, limit: u128, word: &[u8]) -> Result<u128, ReportKind>
     ensures value { result ≡ whole_within least limit word.now }
     ensures least { IfOk result (λ n. least ≤ n) }

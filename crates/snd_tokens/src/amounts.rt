@@ -100,7 +100,7 @@ pub fn amount(word: &[u8], places: Places) -> Result<u64, NumberFault>
     Ok(number as u64)
 }
 
-/// The value of money in units of a network with these places. It costs what `amount` does.
+/// The value of money in units of a network with these places. It goes over the word at most four times, and asks for no memory.
 #[tactic(auto, unfolding(crate::specs::Amounts::money_of))]
 pub fn money(word: &[u8], places: Places) -> Result<u128, NumberFault>
     ensures value { result ≡ money_of places word.now }
@@ -120,8 +120,8 @@ fn whole_units(whole: &[u8], places: Places) -> Option<u128>
     number_below(0, whole, AMOUNT_LIMIT)
 }
 
-/// The whole number that the word of a demand's unit writes, which is below 2^40 units of a network with these places. It costs
-/// what `amount` does.
+/// The whole number that the word of a demand's unit writes, which is below 2^40 units of a network with these places. It goes over
+/// the word at most four times, and asks for no memory.
 ///
 /// `1.0` is 1, and the largest is 1,099,511,627 with three places and 1,099,511 with six.
 #[tactic(auto, unfolding(crate::specs::Amounts::units_of))]

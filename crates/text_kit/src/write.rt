@@ -87,7 +87,7 @@ pub fn put_open(text: &mut Bytes) -> Result<(), NoMemory>
     text.append(b"( ")
 }
 
-/// Puts a closing parenthesis last, and ends the line. It costs as much as an opening one.
+/// Puts a closing parenthesis last, and ends the line, in constant time but for the move of a text that has no room left.
 pub fn put_close(text: &mut Bytes) -> Result<(), NoMemory>
     ensures { OnOk result (text.new ≡ text.old ++ written (Closing ∷ [])) }
 {
