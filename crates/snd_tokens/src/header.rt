@@ -22,6 +22,11 @@ fn trimmed(line: &[u8]) -> &[u8]
 
 /// The place after the first line, where that line is the header. The header is given without its
 /// line feed and without blanks at its end. It goes over the first line alone, and asks for no memory.
+///
+/// ```text
+/// after_header(b"?planner flows; version: 1 \nMODULES ( )", b"?planner flows; version: 1");    // Some(28)
+/// after_header(b"?planner flows; version: 2\nMODULES ( )", b"?planner flows; version: 1");     // None
+/// ```
 pub fn after_header(bytes: &[u8], line: &[u8]) -> Option<u64>
     ensures value { MatchOption result (HasHeader bytes.now line.now → ⊥)
         (λ at. HasHeader bytes.now line.now × (at ≡ second_line bytes.now)) }

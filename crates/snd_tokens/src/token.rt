@@ -89,6 +89,12 @@ fn token_between(kind: TokenKind, at: usize, end: usize) -> Token
 
 /// The first token of what is left from a place on, read as if the text began there. It goes over the bytes from
 /// there to the end of the token, and asks for no memory.
+///
+/// ```text
+/// next_token(b"  NODES ( A )", 0);    // Some(Token { kind: TokenKind::Word, at: 2, len: 5 })
+/// next_token(b"  NODES ( A )", 7);    // Some(Token { kind: TokenKind::Open, at: 8, len: 1 })
+/// next_token(b"A # a comment", 1);    // None
+/// ```
 pub fn next_token(bytes: &[u8], from: u64) -> Option<Token>
     requires { from ≤ length bytes.now }
     ensures first { MatchOption result (tokens_from from bytes.now ≡ [])

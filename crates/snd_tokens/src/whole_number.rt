@@ -41,6 +41,11 @@ fn is_whole(word: &[u8]) -> bool
 }
 
 /// The value of a whole number. It goes over the word at most three times, and asks for no memory.
+///
+/// ```text
+/// whole(b"42");     // Ok(42)
+/// whole(b"042");    // Err(WholeFault::NotANumber)
+/// ```
 #[tactic(auto, unfolding(crate::specs::Wholes::whole_of))]
 pub fn whole(word: &[u8]) -> Result<u128, WholeFault>
     ensures value { result ≡ whole_of word.now }
