@@ -25,6 +25,10 @@ fn is_word(a: u128) -> bool
 }
 
 /// The greatest common divisor. That of 0 and 0 is 0. It takes no memory, and fewer than 200 divisions.
+///
+/// ```text
+/// gcd(12, 18);    // 6
+/// ```
 pub fn gcd(a: u128, b: u128) -> u128
     ensures { IsGcd a b result }
 {
@@ -42,6 +46,11 @@ pub fn gcd(a: u128, b: u128) -> u128
 }
 
 /// How `a / b` compares with `c / d`. It is exact, takes no memory, and fewer than 200 rounds of a few divisions each.
+///
+/// ```text
+/// cmp(2, 3, 3, 4);    // Ordering::Less
+/// cmp(1, 3, 2, 6);    // Ordering::Equal
+/// ```
 pub fn cmp(a: u128, b: u128, c: u128, d: u128) -> Ordering
     requires first { 0 < b }
     requires second { 0 < d }
@@ -64,6 +73,10 @@ pub fn cmp(a: u128, b: u128, c: u128, d: u128) -> Ordering
 }
 
 /// `a * b / c`, rounded down, by one product and one division of 128 bits.
+///
+/// ```text
+/// mul_div(12_345, 3, 10);    // 3703, since 37,035 tenths are 3,703.5
+/// ```
 pub fn mul_div(a: u64, b: u64, c: u128) -> u128
     requires { 0 < c }
     ensures { result ≡ a * b / c }

@@ -50,6 +50,10 @@ fn divide_list(nums: &mut List<i64>, g: u64)
 
 /// Makes `row` the row `nums / q` in lowest terms, whatever its denominator was. It takes no memory, and a number of steps
 /// that grows with the row.
+///
+/// ```text
+/// rescale(&mut row, 8);    // of the numbers 4, 0 and -6: 2, 0 and -3 over 4
+/// ```
 pub fn rescale(row: &mut Row, q: i64)
     requires narrow { IsNarrow q }
     requires positive { pos 0 <ℤ q }
