@@ -77,6 +77,10 @@ impl HintBoard {
     }
 
     /// The lengths that were posted with a hint of this board, in constant time and without waiting.
+    ///
+    /// ```text
+    /// board.seen(&hint);    // 1, 0 and 1, where these were posted for `hint`
+    /// ```
     pub fn seen(&self, hint: &Hint) -> &Lengths
         requires { IsHintOf self.now hint.now }
         ensures { result.now ≡ posted_lengths hint.now }
@@ -86,6 +90,11 @@ impl HintBoard {
 
     /// The lengths at an index: priced, and one for each link. `None` where no vector is shown there. It takes constant time and
     /// never waits.
+    ///
+    /// ```text
+    /// board.get(0);            // None, on a new board
+    /// board.get(hint.at());    // Some: 1, 0 and 1, where these were posted for `hint`
+    /// ```
     pub fn get(&self, at: u64) -> Option<&Lengths>
         ensures { IfSome result (λ lengths. AreHintLengths (hint_links self.now) lengths.now) }
     {

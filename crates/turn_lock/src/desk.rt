@@ -167,6 +167,11 @@ impl<'a, T: Chronicle> Turn<'a, T> {
     ghost use Rattle.turn_lock.specs.Passes.{AreOfOneDesk, own_places, seen_by, turn_history, turn_origin, turn_places, turn_units, own_units};
 
     /// Ends the turn with the history as it was. It takes constant time and no memory.
+    ///
+    /// ```text
+    /// let (sheet, turn) = desk.enter(&rt, pass);    // a sheet with the notes 5 and 7
+    /// let pass = turn.leave(sheet);                 // the pass has seen 5 and 7, and has the items that it had
+    /// ```
     pub fn leave(self, value: T) -> Pass<T>
         requires origin { turn_origin self ≡ Some (T.origin value) }
         requires stands { T.history value ≡ turn_history self }
@@ -183,6 +188,11 @@ impl<'a, T: Chronicle> Turn<'a, T> {
     }
 
     /// Ends the turn with one item more, which becomes the pass's own. It takes constant time and no memory.
+    ///
+    /// ```text
+    /// let (mut sheet, turn) = desk.enter(&rt, pass);    // a sheet with the notes 5 and 7, to which 9 is added
+    /// let pass = turn.leave_with(sheet);                // the pass has seen 5, 7 and 9, and the item at place 2 is its own, too
+    /// ```
     pub fn leave_with(self, value: T) -> Pass<T>
         requires origin { turn_origin self ≡ Some (T.origin value) }
         requires more { (item : T.Item) × (T.history value ≡ turn_history self ++ item ∷ []) }
