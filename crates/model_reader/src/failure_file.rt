@@ -94,6 +94,11 @@ fn file(alloc: Global, net: &Network, bytes: &[u8]) -> Result<States, FailuresRe
 /// The states of the network that a file spells. It takes memory for the states and their names, and time in
 /// proportion to the bytes, with one pass over the network's links at each link that a state names and one over the
 /// earlier states at each new state.
+///
+/// ```text
+/// let states = read_failures(alloc, &net, bytes)?;    // of the triangle, and FAILURES ( AB ( AB ) west ( BC AC ) ) after the header:
+/// // state 1, named AB, fails link 0, and state 2, named west, fails links 1 and 2
+/// ```
 pub fn read_failures(alloc: Global, net: &Network, bytes: &[u8]) -> Result<States, FailuresRefusal>
     // What is read is spelled.
     ensures found { IfOk result (λ s. SpellsFailures net.now.links bytes.now s.listed) }

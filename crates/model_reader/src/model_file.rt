@@ -273,6 +273,11 @@ fn file(alloc: Global, bytes: &[u8]) -> Result<Model, ModelRefusal>
 
 /// The model that a file spells. It takes memory for its settings, eight at most, and time in proportion
 /// to the bytes.
+///
+/// ```text
+/// let model = read_model(alloc, bytes)?;    // with FIXED_CHARGE_MODEL = YES and SURVIVABILITY_MODEL = NO_SURVIVABILITY `charge` alone is true
+/// // of a header and the line HOP_LIMIT_MODEL = INDIVIDUAL: Bad { at: 67, kind: ModelKind::Unsupported(ModelKey::HopLimit) }
+/// ```
 pub fn read_model(alloc: Global, bytes: &[u8]) -> Result<Model, ModelRefusal>
     // What is read is spelled.
     ensures found { IfOk result (λ m. SpellsModel bytes.now m) }

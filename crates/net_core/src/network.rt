@@ -250,6 +250,11 @@ fn settled_notes(charge: bool, mut notes: Notes) -> Notes
 impl Network {
     /// The network of these parts, which are dropped at a refusal; `places` says what a unit of its amounts is. It compares each
     /// name with all before it, so it takes time in the squares of the numbers of nodes and links. It asks for no memory.
+    ///
+    /// ```text
+    /// let net = Network::check(nodes, links, notes, Places::Three)?;    // of A, B and C, and of AB, BC and AC between them: the triangle
+    /// // NetFault::SelfLink(1) where BC has both ends at B, and NetFault::DoubleLink(2) where AC is named AB, too
+    /// ```
     pub fn check(
         nodes: List<Name>,
         links: List<Link>,
