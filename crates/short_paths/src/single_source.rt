@@ -57,6 +57,11 @@ pub fn distances_in(
 /// There is one length for each link, in any unit, and one answer for each node, in their order: 0 for the node itself, and
 /// `None` if no path leads there. It takes time in the square of the nodes, and in the links times those that the state fails;
 /// memory in the nodes and links, of which 16 bytes for each node stay.
+///
+/// ```text
+/// // the triangle, where each link fails alone, with the lengths 2, 3 and 4 of AB, BC and AC: from A in state 3, which fails AC
+/// distances(alloc, &net, &states, StateId(3), &lengths, NodeId(0))?;    // Some(0), Some(2) and Some(5)
+/// ```
 pub fn distances(
     alloc: Global,
     net: &Network,
