@@ -206,6 +206,12 @@ fn file(
 /// The counts and flows that a file spells, for a network, its states and its demands. Amounts are in units of the network.
 ///
 /// It takes time in proportion to the bytes, and memory for the counts, the flows, and the places of the names.
+///
+/// ```text
+/// // the triangle without failures: MODULES ( AB ( 0 ) BC ( 0 ) AC ( 2 ) ) and FLOWS ( none ( D1 AC A 12 ) ) after the header
+/// let file = read_flows(alloc, &net, &states, &demands, bytes)?;
+/// // counts 0, 0 and 2; in state 0 one flow, of demand 0 on link 2 from node 0, of 12,000 units
+/// ```
 pub fn read_flows(
     alloc: Global,
     net: &Network,

@@ -103,6 +103,12 @@ pub fn import_instance(
 /// capacity of the counts. Flows that go round in a circle are dropped, once their loads were tested.
 ///
 /// For each state it takes time in its flows times the demands, and in what `split_flow` takes; and memory for the flows.
+///
+/// ```text
+/// // the triangle without failures: two modules on AC, and a flow of 12.000 of D1 on AC from A
+/// let imported = import(alloc, &net, &states, &demands, file)?;    // cost 10,000; in state 0, over 1, a flow of 12,000 along AC
+/// // with one module on AC: ImportFault::Overloaded(StateId(0), LinkId(2))
+/// ```
 pub fn import(
     alloc: Global,
     net: &Network,
