@@ -37,7 +37,7 @@ spaced_more before f xs k d {a} {b} {c} lt p q =
     let both = append_assoc before (flat_map f (take k xs)) (f (get_or xs k d)) ∙ ap (λ (is : List Item). before ++ is) (sym (flat_more f xs k d lt)) in
     subst (λ (is : List Item). AddsSpaced a is c) both (spaced_then p q)
 
--- the same of an element that stands there
+-- the items of a further element that is the one at its place, after those of the elements before it
 pub spaced_next : {X : Type 0} (before : List Item) (f : X → List Item) (xs : List X) (k : ℕ) (x : X) {a b c : List ℕ} → k < length xs → x ≡ get_or xs k x
     → AddsSpaced a (before ++ flat_map f (take k xs)) b → AddsSpaced b (f x) c → AddsSpaced a (before ++ flat_map f (take (k + 1) xs)) c
 spaced_next before f xs k x {a} {b} {c} lt e p q = spaced_more before f xs k x lt p (subst (λ y. AddsSpaced b (f y) c) e q)

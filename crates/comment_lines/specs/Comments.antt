@@ -25,12 +25,12 @@ IsOneLine bytes = list_all (λ b. not (b == 10)) bytes ≡ true
 abbrev pub HasOneLine : Item → Type 0
 HasOneLine i = IsOneLine (word_of i)
 
--- these items were put after what stood there, each after one space, and none ends a line
+-- these items were put after what was there, each after one space, and none ends a line
 pub record AddsSpaced (old : List ℕ) (items : List Item) (new : List ℕ) : Type 0 where
   pub text : new ≡ old ++ spaced_items items
   pub each : AllByRecursion HasOneLine items
 
--- a comment line for each of these lists of items was put after what stood there
+-- a comment line for each of these lists of items was put after what was there
 pub record AddsLines (old : List ℕ) (lines : List (List Item)) (new : List ℕ) : Type 0 where
   pub text : new ≡ old ++ flat_map comment_line lines
   pub each : All (λ items. IsOneLine (spaced_items items)) lines

@@ -21,7 +21,7 @@ pub front_put : (old word dots a b c whole : List ℕ) → a ≡ old ++ codes "`
     → whole ≡ old ++ (codes "`" ++ word ++ dots ++ codes "`")
 front_put old word dots a b c whole p q r s = simp (s, r, q, p, append_assoc) refl
 
--- a line that says what stands here
+-- a line that says which word is here
 pub here_put : (old quote a b whole : List ℕ) → a ≡ old ++ codes "  here stands " → b ≡ a ++ quote → whole ≡ b ++ codes "\n"
     → whole ≡ old ++ note_text (codes "here stands " ++ quote)
 here_put old quote a b whole p q r = simp (r, q, p, append_assoc) refl

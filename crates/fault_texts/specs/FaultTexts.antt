@@ -16,12 +16,12 @@ abbrev pub excerpt_text : List ℕ → ℕ → ℕ → ℕ → List ℕ
 excerpt_text bytes at from to =
     spaces 4 ++ shown (bytes_between from to bytes) ++ codes "\n" ++ spaces (4 + characters (bytes_between from at bytes)) ++ codes "^\n"
 
--- what is said of a byte of a file: where it is and what is wrong there, its line with a caret under the byte, what stands there, and what helps
+-- what is said of a byte of a file: where it is and what is wrong there, its line with a caret under the byte, what is there, and what helps
 abbrev pub fault_text : List ℕ → List ℕ → ℕ → List ℕ → List ℕ → ℕ → ℕ → ℕ → ℕ → List ℕ → List ℕ
 fault_text name bytes at wrong help line column from to here =
     place_text name line column ++ wrong ++ codes "\n" ++ excerpt_text bytes at from to ++ here ++ note_text help
 
--- The text is what is said of a byte of a file, by its line, its column, its window and what stands there.
+-- The text is what is said of a byte of a file, by its line, its column, its window and what is there.
 pub record IsFaultText (name bytes : List ℕ) (at : ℕ) (wrong help text : List ℕ) : Type 0 where
   pub line : ℕ
   pub column : ℕ

@@ -1,4 +1,4 @@
--- words in quotes, and what stands at a byte of a text
+-- words in quotes, and what is at a byte of a text
 use Rattle.std.specs.Prelude.{◌≡◌, ◌⊎◌, ℕ, zero, suc, ◌+◌, ◌/◌, ◌%◌, ◌==◌, ◌≤◌, ◌<◌, Bool, true, not, ◌||◌, ◌&&◌, cond, List, [], ◌∷◌, ◌++◌, codes, length, nat_le, nat_lt, slice_index, take}
 use Rattle.std.specs.Str.{is_utf8}
 use Rattle.snd_tokens.specs.declared.token.Token.{Token}
@@ -6,7 +6,7 @@ use Rattle.snd_tokens.specs.Tokens.{token_bytes, tokens_from}
 use Rattle.text_places.specs.Places.{begins_character, characters}
 use Rattle.fault_texts.specs.Controls.{is_control}
 
--- a line that stands in by two spaces
+-- a line that is indented by two spaces
 abbrev pub note_text : List ℕ → List ℕ
 note_text note = codes "  " ++ note ++ codes "\n"
 
@@ -46,7 +46,7 @@ quote_text word n = codes "`" ++ quoted (take n word) ++ cond (n == length word)
 abbrev pub IsQuote : List ℕ → List ℕ → Type 0
 IsQuote word quote = (n : ℕ) × IsQuoteEnd word n × (quote ≡ quote_text word n)
 
--- The token that begins at this byte has these bytes; what stands before it doesn't count.
+-- The token that begins at this byte has these bytes; what is before it doesn't count.
 abbrev pub BeginsToken : List ℕ → ℕ → List ℕ → Type 0
 BeginsToken text at word = (t : Token) × (rest : List Token) × (tokens_from at text ≡ t ∷ rest) × (t.at ≡ at) × (word ≡ token_bytes text t)
 
@@ -54,7 +54,7 @@ BeginsToken text at word = (t : Token) × (rest : List Token) × (tokens_from at
 abbrev pub end_text : Bool → List ℕ
 end_text ended = cond ended (note_text (codes "the file ends here")) []
 
--- What is said to stand at a byte: the token that begins there; where none does, the end of the file, or nothing.
+-- What is said to be at a byte: the token that begins there; where none does, the end of the file, or nothing.
 abbrev pub IsHere : List ℕ → ℕ → List ℕ → Type 0
 IsHere text at here =
     ((word quote : List ℕ) × BeginsToken text at word × IsQuote word quote × (here ≡ note_text (codes "here stands " ++ quote)))

@@ -20,7 +20,7 @@ pub fn token_here(text: &[u8], at: usize) -> Option<&[u8]>
     Some(&text[at..(token.at + token.len) as usize])
 }
 
-/// Puts a line last that says which word stands here.
+/// Puts a line last that says which word is here.
 fn put_word_here(text: &mut Bytes, word: &[u8]) -> Result<(), NoMemory>
     ensures { OnOk result ((quote : List ℕ) × IsQuote word.now quote × (text.new ≡ text.old ++ note_text (codes "here stands " ++ quote))) }
 {
@@ -40,7 +40,7 @@ fn put_end(text: &mut Bytes, ended: bool) -> Result<(), NoMemory>
     }
 }
 
-/// Puts a line last that says what stands at a byte of a text, or that the text ends there; nothing where no word begins there.
+/// Puts a line last that says which word begins at a byte of a text, or that the text ends there; nothing where neither is so.
 pub(crate) fn put_here(text: &mut Bytes, bytes: &[u8], at: usize) -> Result<(), NoMemory>
     requires { at ≤ length bytes.now }
     ensures { OnOk result ((here : List ℕ) × IsHere bytes.now at here × (text.new ≡ text.old ++ here)) }

@@ -1,4 +1,4 @@
-//! What is said of a fault of a file, as text: where it stands, what is wrong, the line with a caret, what stands there, and what helps.
+//! What is said of a fault of a file, as text: where it is, what is wrong, the line with a caret, what is there, and what helps.
 #![tactic(auto)]
 
 mod control;

@@ -22,7 +22,7 @@ fn put_place(text: &mut Bytes, name: &[u8], place: Place) -> Result<(), NoMemory
     text.append(b": ")
 }
 
-/// Puts a line last that stands in by two spaces. As all functions of this crate that put something it takes time in what it puts, and asks
+/// Puts a line last that is indented by two spaces. As all functions of this crate that put something it takes time in what it puts, and asks
 /// for memory only where the text has no room left; where memory runs out, the text may end in part of what was to be put.
 pub fn put_note(text: &mut Bytes, note: &str) -> Result<(), NoMemory>
     ensures { OnOk result (text.new ≡ text.old ++ note_text note.now) }
@@ -50,7 +50,7 @@ fn put_wrong(
 }
 
 /// Puts what is wrong with a file at a byte of it last: the file's name, the line and the column with a sentence, the line itself with a
-/// caret, what stands there, and what helps. It goes over the bytes before the byte at most four times.
+/// caret, what is there, and what helps. It goes over the bytes before the byte at most four times.
 pub fn put_fault(
     text: &mut Bytes,
     name: &[u8],
