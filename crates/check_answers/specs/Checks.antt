@@ -1,4 +1,4 @@
--- what a check of a report comes to: a status, and a text
+-- the answer of a check of a report: a status, and a text
 use Rattle.std.specs.Prelude.{◌≡◌, ℕ, ◌⊎◌, List, All, length}
 use Rattle.plan_terms.specs.Terms.{Notes, Case}
 use Rattle.plan_types.specs.declared.report.Report.{Report}

@@ -170,7 +170,7 @@ pub fn rejected_line(
     Ok(text)
 }
 
-/// The line of a report without a finding, which has so many outcomes.
+/// The line of a report without a finding, with how many outcomes it has.
 pub fn accepted_line(alloc: Global, outcomes: usize) -> Result<Bytes, NoMemory>
     ensures { IfOk result (λ text. text ≡ accepted_line outcomes) }
 {

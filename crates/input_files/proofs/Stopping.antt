@@ -1,4 +1,4 @@
--- how what one step of a reading comes to is what the run comes to
+-- how the answer of one step of a reading is the answer of the run
 use Rattle.std.proofs.Common.{◌≢◌, ℕ, List, [], Option, inl, inr}
 use Rattle.plan_terms.specs.Terms.{Demand, Network}
 use Rattle.model_reader.specs.declared.model.Model.{Model}

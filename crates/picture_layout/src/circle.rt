@@ -41,7 +41,7 @@ fn circle_spot(k: usize, count: usize) -> Spot {
     }
 }
 
-/// So many spots on the circle.
+/// As many spots on the circle as are asked for.
 pub(crate) fn circle_spots(alloc: Global, count: usize) -> Result<List<Spot>, NoMemory>
     ensures { IfOk result (λ spots. length spots ≡ count) }
 {

@@ -80,7 +80,7 @@ fn swap_counts(
     swap_in_order(alloc, instance, certificate, dearest.items(), kept)
 }
 
-/// Counts with their cost and routings, of which nothing is left where they stood.
+/// Counts with their cost and routings, moved out of their places, which are left empty.
 fn taken(alloc: Global, counts: &mut Counts, cost: u128, routings: &mut List<Routing>) -> Kept
     ensures { result ≡ record { counts = counts.old; cost = cost; routings = routings.old } }
 {

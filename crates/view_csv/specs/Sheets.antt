@@ -58,7 +58,7 @@ AreOutcomeRows sheet p (outcome ∷ outcomes) all =
     (first : List (List (List ℕ))) × (rest : List (List (List ℕ))) × ShowsOutcome sheet p outcome first × AreOutcomeRows sheet p outcomes rest
     × (all ≡ first ++ rest)
 
--- rows of this kind were put after what stood there
+-- rows of this kind were put after what was there
 abbrev pub AddsRows : (List (List (List ℕ)) → Type 0) → List (List (List ℕ)) → List (List (List ℕ)) → Type 0
 AddsRows AreRows old new = (all : List (List (List ℕ))) × AreRows all × (new ≡ old ++ all)
 

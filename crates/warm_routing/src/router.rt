@@ -266,7 +266,7 @@ fn advance(
     }
 }
 
-/// One step after another, up to an answer; `None` where it isn't found in so many.
+/// At most `turns` steps, one after another, up to an answer; `None` where they find none.
 fn answer(
     alloc: Global,
     task: &RouteTask,
