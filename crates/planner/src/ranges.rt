@@ -10,7 +10,7 @@ pub fn are_short(lengths: &[u32])
     let _ = lengths;
 }
 
-/// So are those of cuts. It takes time in the number of cuts.
+/// The lengths of cuts are below 2^32 by their type. It takes time in the number of cuts.
 pub fn are_short_cuts(cuts: &[CutLine])
     ensures { All HasShortLengths cuts.now }
 {

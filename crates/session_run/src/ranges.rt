@@ -6,7 +6,7 @@ use net_core::CutLine;
 use plan_types::Outcome;
 use planner::ranges::are_short;
 
-/// The lengths of each line are below 2^32 by their type.
+/// The lengths of each line are below 2^32 by their type. It takes time in the number of lines.
 pub fn have_short_lengths(lines: &[CutLine])
     ensures { All HasShortLengths lines.now }
 {
@@ -24,7 +24,7 @@ fn is_short_named(outcome: &Outcome)
     }
 }
 
-/// So have those of all outcomes.
+/// The names of demands in outcomes have at most 255 bytes by their type. It takes time in the number of outcomes.
 pub fn are_short_named(outcomes: &[Outcome])
     ensures { All IsShortNamed outcomes.now }
 {
