@@ -18,7 +18,7 @@ LonePlansAreAccepted = (p : Case) (notes : Notes) (r : PlannedReport)
     → IsTranscript p notes plan_commands (whole_report r)
     → IsAcceptable p notes (whole_report r)
 
--- and so is that of a plan with a sound design in the place of its own
+-- the report of a plan with a sound design in the place of its own is acceptable
 abbrev pub RedesignsAreAccepted : Type 0
 RedesignsAreAccepted = (p : Case) (notes : Notes) (r : PlannedReport) (counts : List (List ℕ)) (cost : ℕ) (routings : List Routing)
     → IsTranscript p notes plan_commands (whole_report r)

@@ -35,7 +35,7 @@ WorkedListsGoOn = (p : Case) (pairs : List UnitPair) (snapshot : List CutLine) (
     → length cuts + length round.cuts ≤ length snapshot + 4096
     → IsWorkedList p pairs snapshot (round ∷ rounds) (cuts ++ round.cuts)
 
--- and so are a worked list and as many cuts of the round as there is room for
+-- a worked list and as many cuts of a round after it as there is room for are a worked list
 abbrev pub WorkedListsFill : Type 0
 WorkedListsFill = (p : Case) (pairs : List UnitPair) (snapshot : List CutLine) (rounds : List Round) (cuts : List CutLine) (round : Round) (n : ℕ)
     → All (IsCut p) snapshot

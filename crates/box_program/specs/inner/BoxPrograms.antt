@@ -27,7 +27,7 @@ pub record IsBoxColumn (rows at_place : ℕ) (r : Rated) : Type 0 where
   pub some : 0 < length r.column.entries
   pub weight : 0 < r.weight
 
--- so are all
+-- columns of such a program, each with the name of its place
 abbrev pub AreBoxColumns : ℕ → List Rated → Type 0
 AreBoxColumns rows columns = AtEach (IsBoxColumn rows) columns
 

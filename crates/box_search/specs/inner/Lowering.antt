@@ -15,7 +15,7 @@ pub record IsLoweredLink (modules : List Module) (counts lowered : List ℕ) : T
   pub small : modules_capacity modules lowered < 2 ^ 45
   pub room : (modules_capacity modules counts ≡ modules_capacity modules lowered) ⊎ (2 ^ 44 ≤ modules_capacity modules lowered + 1)
 
--- so are the counts of each link
+-- Counts of all links that are lowered, each link by itself.
 pub record HaveRoomFor (links : List Link) (counts lowered : List (List ℕ)) : Type 0 where
   pub count : length lowered ≡ length links
   pub each : (e : ℕ) → e < length links → IsLoweredLink (modules_at links e) (slice_index_or counts e []) (slice_index_or lowered e [])

@@ -16,7 +16,7 @@ use Rattle.length_master.specs.inner.Slots.{ArePlacedRows, row_at, slot_entry, s
 abbrev pub IsInverseAt : List CutLine → List KeptRow → KeptRow → ℕ → ℕ → Type 0
 IsInverseAt cuts rows row i n = (j : ℕ) → j < n → dot (length rows) (num row.nums) (slot_lengths cuts (row_at rows j).slot) ≡ row.den *ℤ unit_vector i j
 
--- so are those of the first n rows with all slots
+-- the products of each of the first n rows with all slots are its denominator for its own one, and 0 for others
 abbrev pub AreInverse : List CutLine → List KeptRow → ℕ → Type 0
 AreInverse cuts rows n = (i : ℕ) → i < n → IsInverseAt cuts rows (row_at rows i) i (length rows)
 

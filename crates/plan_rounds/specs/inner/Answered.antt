@@ -15,7 +15,7 @@ PutsAnswer (Violated line spot) old new =
     new ≡ record { routings = old.routings; found = record { lines = old.found.lines ++ line ∷ []; spots = old.found.spots ++ spot ∷ [] }; wide = old.wide }
 PutsAnswer (Wide evidence) old new = new ≡ record { routings = old.routings; found = old.found; wide = Some evidence }
 
--- so are those of a cut that is answered
+-- the lengths of a cut that is answered are below 2^32
 abbrev pub AnswersShort : Separated → Type 0
 AnswersShort (Routed routing) = Unit {0}
 AnswersShort (Violated line spot) = HasShortLengths line

@@ -39,7 +39,7 @@ pub record IsUndivided (divisor : ℕ) (old new : Routing) : Type 0 where
   pub flows : new.flows ≡ map (flow_times factor) old.flows
   pub apart : (d : ℕ) → d ∣ new.den → d ∣ factor → d ≡ 1
 
--- so each of the routings
+-- as many routings, each of which is one with its flows a number of times, over a smaller denominator
 pub record AreUndivided (divisor : ℕ) (old new : List Routing) : Type 0 where
   pub count : length new ≡ length old
   pub each : (i : ℕ) (a b : Routing) → slice_get old i ≡ Some a → slice_get new i ≡ Some b → IsUndivided divisor a b

@@ -40,7 +40,7 @@ ArePathRowsBelow g demands rows n = (i : ℕ) → i < n → IsPathRow g demands 
 abbrev pub IsInverseTo : List (List LinkId) → List PathRow → PathRow → ℕ → ℕ → Type 0
 IsInverseTo keys rows row i n = (j : ℕ) → j < n → product_at keys (num row.nums) (path_row rows j).column ≡ row.den *ℤ unit_vector i j
 
--- so are those of the first n rows with all columns
+-- the products of each of the first n rows with all columns are its denominator for its own one, and 0 for others
 abbrev pub AreInverseBelow : List (List LinkId) → List PathRow → ℕ → Type 0
 AreInverseBelow keys rows n = (i : ℕ) → i < n → IsInverseTo keys rows (path_row rows i) i (length rows)
 
