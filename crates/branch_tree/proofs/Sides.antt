@@ -49,7 +49,7 @@ module _ (links : List Link) (cost n : ℕ) (box : TreeBox) (c : Choice) (is : I
     low = low_set (n + 1) box c.place.link c.place.module (up_to c.at (span_at box c.place.link c.place.module)) choice.split.link low_here least_low;
   }
 
-  -- so is the upper one
+  -- the upper side is a box of the search
   pub upper_searched : IsSearchBox links (n + 1) (upper_side box c.place.link c.place.module c.at)
   upper_searched = record {
     shape = shape_set links box c.place.link c.place.module (beyond c.at (span_at box c.place.link c.place.module)) is.shape;

@@ -54,7 +54,7 @@ times_plus g x y =
     let d = ap (λ t. down g * t) (sum_is_lem x y) in
     omega (arith, ints)
 
--- both factors times d: so is the number
+-- where both factors are d times as large, the number is, too
 pub mixed_times : (d a q p b : ℤ) → (a *ℤ (d *ℤ q)) -ℤ ((d *ℤ p) *ℤ b) ≡ d *ℤ ((a *ℤ q) -ℤ (p *ℤ b))
 mixed_times d a q p b = omega (arith, ints, moved d a q, regroup d a q, regroup d p b, times_minus d (a *ℤ q) (p *ℤ b))
 

@@ -4,11 +4,11 @@ use Rattle.std.proofs.lemmas.Int.{clamps}
 use Rattle.strsim.specs.Edits.{cost_at, next_row, rows}
 use Rattle.fault_messages.specs.NearNames.{edits}
 
--- what a row of the table has at a place differs from the place by no less than the row's number does
+-- what a row of the table has at a place is at least the difference of the place and the row's number
 abbrev pub IsRowNumbered : ℕ → (ℕ → ℕ) → Type 0
 IsRowNumbered n row = (j : ℕ) → (j ≤ n + row j) × (n ≤ j + row j)
 
--- so does the next row
+-- what the next row has at a place is at least the difference of the place and that row's number
 next_is_numbered : (c before : ℕ → ℕ) (n : ℕ) → IsRowNumbered n before → IsRowNumbered (suc n) (next_row c before (suc n))
 unfolding next_row
 next_is_numbered c before n so zero = (omega arith, omega arith)

@@ -25,7 +25,7 @@ module _ (links demands : ℕ) (keys others : ℕ → ℕ → ℤ) (d : ℕ) (ld
       take : (x s t u : ℤ) → s -ℤ t ≡ u → x -ℤ s ≡ (x -ℤ t) -ℤ u
       take x s t u e = omega (arith, ints, e)
 
-  -- and so do their products with a row
+  -- where one key is new, a difference's product with a row falls by that of the change of the key, times the column's entry in its demand
   pub new_product : (nums a : ℕ → ℤ)
       → dot links nums (difference links demands others a) ≡ dot links nums (difference links demands keys a) -ℤ (a (links + d) *ℤ dot links nums (λ k. others d k -ℤ keys d k))
   new_product nums a =

@@ -97,7 +97,7 @@ module _ {N : Type 0} {links demands : ℕ} {bound : ℕ → ℤ} {basis : ℕ �
         two : {a a' b b' : ℤ} → a ≡ a' → b ≡ b' → a *ℤ b ≡ a' *ℤ b'
         two {a} {a'} {b} {b'} ea eb = ap (λ s. s *ℤ b) ea ∙ ap (λ s. a' *ℤ s) eb
 
-    -- so is that row, over its pivot
+    -- the row of the leaving column, over its pivot, is a row of the next block
     pub next_first : IsRow links (block links demands after place) (unit_vector r) (kept r) q
     next_first =
         let raw = inverse_block links demands after place role h.roles next_keys r _ _ rl (first_row m bound basis nums_at dens_at full prices_den c (place r) now pick) in

@@ -75,7 +75,7 @@ priced_lowest links g den lines pg h e l at k m lt =
     let p : g * (price lines e * (get_or l.modules k m).capacity) ≤ g * (den * (get_or l.modules k m).cost) = omega (arith, h e l at k m lt, ap (λ x. x * (get_or l.modules k m).capacity) (price_times g lines e)) in
     le_of_mul-le-mul_left p pg
 
--- so is the raw value
+-- lines with g times the numerators have g times the raw value
 pub raw_times : (links : List Link) (g : ℕ) (lines : List CertificateLine) → raw_value links (map (line_times g) lines) ≡ g * raw_value links lines
 raw_times links g lines = minus (asked (map (line_times g) lines)) (given links (map (line_times g) lines)) (asked lines) (given links lines) (asked_times g lines) (given_times links g lines)
   where

@@ -39,7 +39,7 @@ module _ (p : Case) (pairs : List UnitPair) (units : AreUnitPairs p.links pairs)
       (λ i j d li lj same. let held = inside (get_or cuts i d) (Contains-get_or cuts i d li) in
       found_is_new before round.share (get_or round.cuts j d) (get_or cuts i d) is.least (is.found j d lj) held (subst (IsCut p) held.2 (are held.0 (get_or cuts i d) held.1)) same)
 
-  -- and so are all cuts after rounds
+  -- all cuts after rounds are different, where those before the rounds are
   pub rounds_differ : (start : List CutLine) (rounds : List Round) → All (IsCut p) start → AreDifferentCuts start → AreRounds p pairs start rounds → AreDifferentCuts (after_rounds start rounds)
   rounds_differ start [] cuts different are = different
   rounds_differ start (last ∷ earlier) cuts different are =
@@ -93,7 +93,7 @@ module _ (p : Case) (pairs : List UnitPair) (snapshot : List CutLine) (rounds : 
     different = round_differs p pairs w.units cuts round w.added worked_cuts is (λ c h. subst (λ cs. Contains cs c) (sym w.following) (Contains-append_right snapshot w.added c h)) w.different;
   }
 
-  -- and so are as many cuts of the round as there is room for
+  -- a worked list and as many cuts of a round after it as there is room for are a worked list
   pub worked_short : (round : Round) (n : ℕ) → IsRound p pairs cuts round → length cuts + n ≤ length snapshot + 4096 → IsWorkedList p pairs snapshot (cut_short n round ∷ rounds) (cuts ++ take n round.cuts)
   worked_short round n is room = worked_on (cut_short n round) (short_round p pairs cuts round n is) (fits (length cuts) (length snapshot) n (length round.cuts) (length (take n round.cuts)) (length-take n round.cuts) room)
     where

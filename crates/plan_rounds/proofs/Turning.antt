@@ -194,7 +194,7 @@ module _ (p : Case) (pairs : List UnitPair) where
     )
     wide_within s (Master basis kind) e = absurd e
 
-    -- so is a routing, each flow as many times
+    -- a routing at the divided capacities, with each flow taken the divisor times, is one at the share
     carried_or_wide : length p.listed < n → length a.found.lines ≡ 0 → AreCarriedOrWide p pairs best
     carried_or_wide all none s inside = ⊎_elim
         (λ carried. inl (

@@ -241,6 +241,6 @@ module _ (began : ℕ) (old new : Board) (cuts : List (ℕ × List ℕ)) (within
     pooled = pools.pooled;
   }
 
-  -- so are the cuts
+  -- its own new cuts are those that the board has got
   pub own_cuts : cuts_after (drop began old.entries) (drop began new.entries) ≡ cuts
   own_cuts = ap cuts_of (front_rest (drop began new.entries) (drop began old.entries) pools.more own_now) ∙ pools.are

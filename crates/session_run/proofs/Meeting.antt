@@ -30,7 +30,7 @@ no_outcomes p seen caller at serial (o ∷ os) run = absurd run
 run_in : (p : Case) (seen h : List Entry) → IsPrefix seen h → (caller : ℕ) (acts : List Act) (os : List Outcome) → RunsFrom p seen caller 0 1 acts os → RunsFrom p h caller 0 1 acts os
 run_in p seen h begins caller acts os run = subst (λ es. RunsFrom p es caller 0 1 acts os) begins.1 (run_later p seen begins.0 caller 0 1 acts os run)
 
--- so do the items at places
+-- the items at places stay the same in a history that goes on
 pub items_in : {X : Type 0} (seen h : List X) (places : List ℕ) → IsPrefix seen h → are_places 0 (length seen) places ≡ true → items_at seen places ≡ items_at h places
 items_in seen h places begins placed = sym (items_front seen begins.0 0 places placed) ∙ ap (λ es. items_at es places) begins.1
 

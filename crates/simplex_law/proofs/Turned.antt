@@ -168,7 +168,7 @@ rises_to m bound basis nums den duals duals_den c r later later_den s k row abov
     row_unique m (λ j. (put basis r c j).entry) _ _ next.filling.0 next.filling.1 (λ j. (put basis r c j).gain) (combined duals p (nums r) q) later (duals_den *ℤ q) later_den y next.filling.2 next.objective row ly))
     raw
 
--- so do those in lowest terms
+-- the next duals in lowest terms, with their value, are above those of the basis before
 pub rises : {N : Type 0} (m : ℕ) (bound : ℕ → ℤ) (basis : ℕ → ColumnOf N) (nums next : ℕ → ℕ → ℤ) (den next_dens duals next_duals : ℕ → ℤ) (duals_den next_duals_den : ℤ) (c : ColumnOf N) (r : ℕ)
     → IsTableau m bound basis nums den duals duals_den → IsPick m bound nums duals duals_den c r → IsTurned m c r nums next den next_dens duals next_duals duals_den next_duals_den
     → Rises m bound duals duals_den next_duals next_duals_den

@@ -90,7 +90,7 @@ module _ {N : Type 0} (m : ℕ) (bound : ℕ → ℤ) (basis : ℕ → ColumnOf 
   pub inverse_unique : (j : ℕ) (u : ℕ → ℤ) (d : ℤ) (l : ℕ) → j < m → IsRow m (λ i. (basis i).entry) (unit_vector j) u d → l < m → d *ℤ nums j l ≡ den j *ℤ u l
   inverse_unique j u d l lj row ll = row_unique m (λ i. (basis i).entry) nums den s.filling.0 s.filling.1 (unit_vector j) (nums j) u (den j) d l s.filling.2 (s.rows j lj) row ll
 
-  -- and so is its value
+  -- the value of any row of the inverse is that of the tableau's row but for a factor
   pub value_unique : (j : ℕ) (u : ℕ → ℤ) (d : ℤ) (k : ℕ) → j < m → IsRow m (λ i. (basis i).entry) (unit_vector j) u d → k < suc m → d *ℤ valued m bound (nums j) k ≡ den j *ℤ valued m bound u k
   value_unique j u d k lj row lk = valued_scaled m bound (nums j) u (den j) d (λ l ll. inverse_unique j u d l lj row ll) k lk
 

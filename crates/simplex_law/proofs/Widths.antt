@@ -82,7 +82,7 @@ module _ {N : Type 0} (m : ℕ) (bound : ℕ → ℤ) (is_column : ColumnOf N �
       let row = reduced_row m (λ j. (put basis r c j).entry) (unit_vector i) _ too.0 _ too.1 f.0 f.1 (other_row m bound basis nums den duals duals_den c r i s k lt ne) in
       found (put basis r c) i too.0 too.1 wide (inverse_row (put basis r c) i too.0 too.1 lt too.2.positive row too.2.lowest) too.3
 
-  -- and so are duals
+  -- duals that can't be combined with the pivot's row are a wide row of the next basis
   pub wide_duals : (basis : ℕ → ColumnOf N) (nums : ℕ → ℕ → ℤ) (den duals : ℕ → ℤ) (duals_den : ℤ) (c : ColumnOf N) (r : ℕ) (wide : WideNumber)
       → IsTableau m bound basis nums den duals duals_den → IsPick m bound nums duals duals_den c r
       → IsTooWide m (combined duals (dot m duals c.entry -ℤ (duals_den *ℤ c.gain)) (nums r) (dot m (nums r) c.entry)) (duals_den *ℤ dot m (nums r) c.entry) wide
