@@ -2,7 +2,7 @@ use net_core::{LinkId, StateId};
 
 /// What is wrong with a plan or a report. Costs, bounds and right sides are in units of the network. The findings are in the order in
 /// which they are tested.
-#[derive(Clone, Copy)]
+#[derive(Clone, Copy, PartialEq, Eq)]
 pub enum Finding {
     /// The notes aren't the network's.
     NotesDiffer,

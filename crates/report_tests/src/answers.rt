@@ -97,37 +97,10 @@ fn answer_after(
     answer_to(alloc, problem, text.items(), checked)
 }
 
-/// The place of a finding's kind in their order, and the numbers of the finding.
-fn kind_and_numbers(finding: Finding) -> (u8, u128, u128, u128) {
-    match finding {
-        Finding::NotesDiffer => (0, 0, 0, 0),
-        Finding::EntryDiffers(at) => (1, at as u128, 0, 0),
-        Finding::PoolCount(lines, cuts) => (2, lines as u128, cuts as u128, 0),
-        Finding::BadCut(line) => (3, line as u128, 0, 0),
-        Finding::PoolDiffers(line, said, own) => (4, line as u128, said, own),
-        Finding::VersionDiffers(said, own) => (5, said as u128, own as u128, 0),
-        Finding::DemandsDiffer => (6, 0, 0, 0),
-        Finding::Survivable => (7, 0, 0, 0),
-        Finding::BadPath(state, flow) => (8, state.0 as u128, flow as u128, 0),
-        Finding::NotCarried(state, demand) => (9, state.0 as u128, demand as u128, 0),
-        Finding::Overloaded(state, link) => (10, state.0 as u128, link.0 as u128, 0),
-        Finding::CostDiffers(said, own) => (11, said, own, 0),
-        Finding::LocalCut(line) => (12, line as u128, 0, 0),
-        Finding::RightDiffers(line, said, own) => (13, line as u128, said, own),
-        Finding::PriceExceeded(link, module) => (14, link.0 as u128, module as u128, 0),
-        Finding::CertificateWide => (15, 0, 0, 0),
-        Finding::RawDiffers => (16, 0, 0, 0),
-        Finding::BoundDiffers(said, own) => (17, said, own, 0),
-        Finding::NotTight => (18, 0, 0, 0),
-    }
-}
-
 /// Whether a check rejects this outcome for this finding.
 pub(crate) fn rejects(answer: Option<CheckAnswer>, at: u32, wrong: Finding) -> bool {
     match answer {
-        Some(CheckAnswer::Rejected { outcome, finding }) => {
-            outcome == at && kind_and_numbers(finding) == kind_and_numbers(wrong)
-        }
+        Some(CheckAnswer::Rejected { outcome, finding }) => outcome == at && finding == wrong,
         _ => false,
     }
 }
