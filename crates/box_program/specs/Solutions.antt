@@ -2,8 +2,7 @@
 use Rattle.std.specs.Prelude.{◌≡◌, ◌≢◌, ℕ, ◌+◌, ◌<◌, ◌≤◌, ◌^◌, ◌⊎◌, List, All, AllPairs, Contains, length, min}
 use Rattle.plan_terms.specs.Terms.{Link}
 use Rattle.master_bound.specs.declared.answer.Multiplier.{Multiplier}
-use Rattle.tree_check.specs.Boxes.{IsFixedSpan, IsInSpan, span_at}
-use Rattle.tree_check.specs.Terms.{module_number}
+use Rattle.tree_check.specs.Terms.{module_number, IsFixedSpan, IsInSpan, span_at}
 use Rattle.tree_check.specs.declared.boxes.Span.{Span}
 use Rattle.tree_check.specs.declared.proof.BoxCert.{BoxCert}
 use Rattle.box_program.specs.declared.solution.Amount.{Amount}

@@ -1,6 +1,5 @@
 ghost use Rattle.std.specs.Prelude.{◌≡◌, ◌<◌, ◌↔◌, IsTrue, length};
-ghost use Rattle.tree_check.specs.Boxes.{IsFixedSpan};
-ghost use Rattle.tree_check.specs.Terms.{module_number};
+ghost use Rattle.tree_check.specs.Terms.{module_number, IsFixedSpan};
 
 use net_core::Link;
 use tree_check::Span;

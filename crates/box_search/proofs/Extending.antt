@@ -4,12 +4,9 @@ use Rattle.std.specs.List.{AllZip}
 use Rattle.net_core.proofs.Library.{All-weaker}
 use Rattle.plan_terms.specs.Terms.{Case, CutLine, Link}
 use Rattle.plan_report.specs.Terms.{CertLine, Plan}
-use Rattle.master_bound.specs.declared.answer.Multiplier.{Multiplier}
-use Rattle.line_check.specs.Terms.{names_by}
-use Rattle.line_check.specs.declared.tested.Tested.{Tested}
-use Rattle.line_check.specs.declared.inequality.Inequality.{Inequality}
+use Rattle.line_check.specs.Terms.{names_by, Multiplier}
+use Rattle.tree_check.specs.Terms.{Tested, Inequality, TreeBox}
 use Rattle.line_check.proofs.NamesOn.{tested_front}
-use Rattle.tree_check.specs.Trees.{TreeBox}
 use Rattle.tree_check.specs.declared.boxes.Span.{Span}
 use Rattle.tree_check.specs.declared.proof.BoxCert.{BoxCert}
 use Rattle.tree_check.proofs.Naming.{holds_map, value_map}

@@ -7,9 +7,8 @@ use Rattle.net_core.proofs.Library.{All-nil, IsGcd, IsGcd-from_mod, IsGcd-from_z
 use Rattle.module_prices.proofs.Divisors.{rounded_up}
 use Rattle.plan_terms.proofs.Bounds.{bound_free, bound_rounded, bound_unique, divisor_both, divisor_none, divisor_one}
 use Rattle.plan_terms.specs.Terms.{IsBound, IsGreatestDivisor, IsModule, Link, Module, charges, sum_below}
-use Rattle.tree_check.specs.Terms.{any_count, span_at, HasBoxValue, IsBoxCertificate, IsBoxValue, all_gains, all_losses, certain_setup, certain_setups, module_charge, module_costs, module_gain, module_loss, value_gains, value_losses, TreeBox}
+use Rattle.tree_check.specs.Terms.{any_count, span_at, HasBoxValue, IsBoxCertificate, IsBoxValue, all_gains, all_losses, certain_setup, certain_setups, module_charge, module_costs, module_gain, module_loss, value_gains, value_losses, TreeBox, Inequality}
 use Rattle.line_check.specs.Terms.{AreNamedBy, WeightedLine, entry, module_number, over_modules}
-use Rattle.line_check.specs.declared.inequality.Inequality.{Inequality}
 use Rattle.tree_check.specs.declared.boxes.Span.{Span}
 use Rattle.box_search.specs.Causes.{HasFreeValue}
 use Rattle.box_search.specs.Finds.{AreLow}

@@ -5,10 +5,9 @@ use Rattle.std.specs.List.{AllZip}
 use Rattle.net_core.proofs.Library.{All-map, All-push, get_or_from_slice_get, slice_get_within}
 use Rattle.plan_terms.specs.Terms.{Case, CutLine, IsCut, Link}
 use Rattle.line_check.specs.Terms.{line_of_cut, Source, sources_of, AreTested, IsTestedAs, names_by}
-use Rattle.line_check.specs.declared.tested.Tested.{Tested}
 use Rattle.line_check.proofs.NamesOn.{cut_names}
 use Rattle.line_check.proofs.TestedMore.{tested_more}
-use Rattle.tree_check.specs.Terms.{HasBoxValue, TreeBox, EmptiesBox, HasValueIn, names_in}
+use Rattle.tree_check.specs.Terms.{HasBoxValue, TreeBox, EmptiesBox, HasValueIn, names_in, Tested}
 use Rattle.tree_check.specs.declared.proof.BoxCert.{BoxCert}
 use Rattle.tree_check.specs.declared.tests.Tests.{Tests}
 use Rattle.box_search.specs.declared.aim.Aim.{Aim}

@@ -6,9 +6,8 @@ use Rattle.module_choice.proofs.Carrying.{network_links}
 use Rattle.plan_swaps.specs.Terms.{IsWideSomewhere, whole_caps}
 use Rattle.plan_terms.specs.Terms.{AreCounts, AreDemands, Case, CutLine, Evidence, IsCut, IsNetwork, Link, Violates, capacities, total_cost}
 use Rattle.plan_types.specs.declared.plan.Plan.{Plan}
-use Rattle.tree_check.specs.Terms.{IsFixedBox, least_counts, HasBoxValue, TreeBox, EmptiesBox}
+use Rattle.tree_check.specs.Terms.{IsFixedBox, least_counts, HasBoxValue, TreeBox, EmptiesBox, Tested}
 use Rattle.line_check.specs.Terms.{line_of_cut, names_by}
-use Rattle.line_check.specs.declared.tested.Tested.{Tested}
 use Rattle.tree_check.specs.declared.boxes.Span.{Span}
 use Rattle.tree_check.specs.declared.proof.Node.TheVariants.{Empty}
 use Rattle.box_search.specs.Causes.{HasFreeValue, IsUnsettled}

@@ -2,10 +2,9 @@
 use Rattle.std.proofs.Common.{◌≡◌, ℕ, ◌+◌, ◌<◌, false, List, [], ◌∷◌, ◌++◌, Some, get_or, length, map, refl, ap, sym, subst, ◌∙◌, slice_get, take}
 use Rattle.std.proofs.lemmas.List.{take_more}
 use Rattle.std.specs.List.{AllZip}
-use Rattle.master_bound.specs.declared.answer.Multiplier.{Multiplier}
 use Rattle.plan_terms.specs.Terms.{Case, CutLine}
 use Rattle.plan_report.specs.Terms.{CertLine, Plan}
-use Rattle.line_check.specs.Terms.{AreNamedBy, line_of_cut, names_by}
+use Rattle.line_check.specs.Terms.{AreNamedBy, line_of_cut, names_by, Multiplier}
 use Rattle.tree_check.specs.Terms.{HasBoxValue, IsBoxValue, TreeBox}
 use Rattle.tree_check.specs.declared.proof.BoxCert.{BoxCert}
 use Rattle.proof_order.specs.declared.entry.Entry.{Entry}

@@ -4,8 +4,7 @@ use Rattle.plan_terms.specs.Terms.{AreCounts, AreWithinLimits, Case, CutLine, Ev
 use Rattle.plan_types.specs.declared.plan.Plan.{Plan}
 use Rattle.plan_swaps.specs.Terms.{AreRoutingsWithin, IsWideSomewhere, whole_caps}
 use Rattle.line_check.specs.Terms.{entry, names_by}
-use Rattle.line_check.specs.declared.tested.Tested.{Tested}
-use Rattle.tree_check.specs.Terms.{IsFixedBox, least_counts, TreeBox, HasBoxValue, module_costs, HoldsNode, IsEvidenceAt}
+use Rattle.tree_check.specs.Terms.{IsFixedBox, least_counts, TreeBox, HasBoxValue, module_costs, HoldsNode, IsEvidenceAt, Tested}
 use Rattle.tree_check.specs.declared.proof.Node.{Node}
 use Rattle.tree_check.specs.declared.proof.Node.TheVariants.{Split, Closed, Empty, Spent, Stuck}
 use Rattle.box_search.specs.Causes.{HasPlanValue, IsUnsettled}

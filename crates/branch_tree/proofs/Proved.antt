@@ -6,12 +6,9 @@ use Rattle.plan_types.specs.Terms.{IsCertifiedPlan}
 use Rattle.plan_types.specs.declared.plan.Plan.{Plan}
 use Rattle.box_search.specs.Terms.{IsCheaperPlan, BoxCert, Node, Split, Closed, Empty, Spent, Stuck, Proof, Verdict, is_split, HasPlanValue, IsSettledNode}
 use Rattle.box_search.specs.Terms.{IsTwigOf, node_of}
-use Rattle.tree_check.specs.Terms.{whole_box, HasBoxValue, HasOpenValue, HoldAllNodes, HoldsNode, IsOpenAt, VerdictFollows, IsWhole, TreeBox, boxes_left, sides_of}
+use Rattle.tree_check.specs.Terms.{whole_box, HasBoxValue, HasOpenValue, HoldAllNodes, HoldsNode, IsOpenAt, VerdictFollows, IsWhole, TreeBox, boxes_left, sides_of, Inequality, Line, Tested}
 use Rattle.tree_check.specs.declared.proof.Verdict.TheVariants.{Cheapest, Above}
 use Rattle.line_check.specs.Terms.{NamesLine, sources_of, AreTested, names_by}
-use Rattle.line_check.specs.declared.inequality.Inequality.{Inequality}
-use Rattle.line_check.specs.declared.line.Line.{Line}
-use Rattle.line_check.specs.declared.tested.Tested.{Tested}
 use Rattle.box_search.specs.Terms.{cuts_among, lines_among, moved_certificate, moved_line, moved_node, place_of, source_of, Entry}
 use Rattle.box_search.proofs.Lemmas.{names_are_kept}
 use Rattle.branch_tree.specs.FewSplits.{IsCheapNode, split_number}

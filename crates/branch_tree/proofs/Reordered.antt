@@ -1,14 +1,10 @@
 -- nodes by the indices of a proof, and what these name
 use Rattle.std.proofs.Common.{◌≡◌, ◌∙◌, ℕ, zero, suc, ◌-◌, ◌<◌, inl, inr, Bool, true, List, [], ◌∷◌, refl, ap, sym, subst, arith}
-use Rattle.master_bound.specs.declared.answer.Multiplier.{Multiplier}
 use Rattle.plan_terms.specs.Terms.{Case, Link}
 use Rattle.plan_terms.proofs.Lemmas.{bound_unique}
-use Rattle.line_check.specs.Terms.{AreNamedBy, WeightedLine, IsMadeOf, IsTableOver, Naming, Source, divided_line, names_among}
-use Rattle.line_check.specs.declared.inequality.Inequality.{Inequality}
-use Rattle.line_check.specs.declared.line.Line.TheVariants.{Divided, Table}
-use Rattle.line_check.specs.declared.line.TableKind.TheVariants.{Plain, Failing}
+use Rattle.line_check.specs.Terms.{AreNamedBy, WeightedLine, IsMadeOf, IsTableOver, Naming, Source, divided_line, names_among, Multiplier}
 use Rattle.line_check.proofs.SameTables.{table_same}
-use Rattle.tree_check.specs.Terms.{HasBoxValue, IsBoxValue, value_gains, value_losses, HoldsNode, TreeBox, sides_of}
+use Rattle.tree_check.specs.Terms.{HasBoxValue, IsBoxValue, value_gains, value_losses, HoldsNode, TreeBox, sides_of, Inequality, Divided, Table, Plain, Failing}
 use Rattle.box_search.specs.Terms.{BoxCert, Node, Split, Closed, Empty, Spent, Stuck, is_split, moved_certificate, moved_multipliers, moved_node}
 
 -- ---- moved nodes

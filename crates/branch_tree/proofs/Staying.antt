@@ -2,8 +2,7 @@
 use Rattle.std.proofs.Common.{ℕ, ◌≤◌, List, [], ◌∷◌, arith}
 use Rattle.plan_terms.specs.Terms.{Case, CutLine}
 use Rattle.plan_types.specs.declared.plan.Plan.{Plan}
-use Rattle.line_check.specs.declared.tested.Tested.{Tested}
-use Rattle.tree_check.specs.Terms.{whole_box, TreeBox}
+use Rattle.tree_check.specs.Terms.{whole_box, TreeBox, Tested}
 use Rattle.box_search.specs.Terms.{Extends, IsTwigOf}
 use Rattle.box_search.specs.declared.twigs.Twig.{Twig}
 use Rattle.box_search.proofs.Extending.{twig_on}

@@ -2,8 +2,7 @@
 use Rattle.std.proofs.Common.{◌≡◌, ℕ, ◌*◌, ◌<◌, ◌≤◌, ◌^◌, ◌++◌, List, [], ◌∷◌, All, false, refl, ap, subst, sym, ◌∙◌, arith, IsPermutation}
 use Rattle.net_core.proofs.Library.{All-cons, All-nil, All-permutation, All-push, All-weaker, sum_by-cons}
 use Rattle.plan_terms.specs.Terms.{Link}
-use Rattle.master_bound.specs.declared.answer.Multiplier.{Multiplier}
-use Rattle.line_check.specs.Terms.{WeightedLine, need_of, summed_need, IsDividedLine, divided_line, divided_up, IsSoundAt, names_by, test_at, weighed}
+use Rattle.line_check.specs.Terms.{WeightedLine, need_of, summed_need, IsDividedLine, divided_line, divided_up, IsSoundAt, names_by, test_at, weighed, Multiplier}
 use Rattle.line_check.specs.declared.line.Line.{Line}
 use Rattle.line_check.specs.declared.line.Line.TheVariants.{Divided}
 use Rattle.line_check.specs.declared.tested.Tested.{Tested}

@@ -2,8 +2,7 @@
 use Rattle.std.proofs.Common.{◌≡◌, ◌≢◌, ℕ, ◌+◌, ◌*◌, ◌/◌, ◌%◌, ◌<◌, ◌≤◌, ⊎_elim, List, get_or, length, min, take, subst, sym, arith}
 use Rattle.net_core.proofs.Library.{cases_eq}
 use Rattle.plan_terms.specs.Terms.{Link}
-use Rattle.master_bound.specs.declared.answer.Multiplier.{Multiplier}
-use Rattle.line_check.specs.Terms.{module_number, need_of, summed_need, divided_up, test_at, weighed}
+use Rattle.line_check.specs.Terms.{module_number, need_of, summed_need, divided_up, test_at, weighed, Multiplier}
 use Rattle.line_check.specs.declared.tested.Tested.{Tested}
 use Rattle.line_check.proofs.DividedLines.{up_is}
 use Rattle.line_check.proofs.WeighedSums.{need_more}

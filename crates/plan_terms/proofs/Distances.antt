@@ -1,6 +1,5 @@
 -- what holds of each distance
-use Rattle.std.proofs.Common.{◌≡◌, ℕ, ◌*◌, ◌≤◌, List, [], ◌∷◌, Option, None, Some, sum_by, zip, unwrap_or, ap, refl, sym, subst, ◌∙◌, arith}
-use Rattle.std.proofs.lemmas.List.{ext_get_or}
+use Rattle.std.proofs.Common.{◌≡◌, ℕ, ◌*◌, ◌≤◌, List, [], ◌∷◌, Option, None, Some, sum_by, zip, unwrap_or, ap, refl, sym, subst, ◌∙◌, arith, ext_get_or}
 use Rattle.net_core.specs.declared.demand.Demand.{Demand}
 use Rattle.net_core.specs.declared.ids.LinkId.{LinkId}
 use Rattle.plan_terms.specs.Certificates.{IsRight}

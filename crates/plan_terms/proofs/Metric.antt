@@ -1,8 +1,6 @@
 -- the metric inequality: what is carried over its distance is no more than the capacities along the lengths
-use Rattle.std.proofs.Common.{◌≡◌, ℕ, zero, suc, ◌+◌, ◌*◌, ◌≤◌, ◌<◌, List, [], ◌∷◌, length, true, false, cond, eqb, ◌||◌, Some, None, Option, unwrap_or, ⊎_elim, refl, sym, ap, subst, ◌∙◌, arith, sum_by, zip, slice_get, slice_index, slice_index_or}
+use Rattle.std.proofs.Common.{◌≡◌, ℕ, zero, suc, ◌+◌, ◌*◌, ◌≤◌, ◌<◌, List, [], ◌∷◌, length, true, false, cond, eqb, ◌||◌, Some, None, Option, unwrap_or, ⊎_elim, refl, sym, ap, subst, ◌∙◌, arith, sum_by, zip, slice_get, slice_index, slice_index_or, eq-eqb, ne_eqb, mul-le-mul_left}
 use Rattle.net_core.proofs.Library.{sum_by-cons, recursion_from_All, cases_eq, slice_get_within, le_of_mul-le-mul_left, AllByRecursion}
-use Rattle.std.proofs.lemmas.Bool.{eq-eqb, ne_eqb}
-use Rattle.std.proofs.Math.Nat.{mul-le-mul_left}
 use Rattle.net_core.specs.declared.demand.Demand.{Demand}
 use Rattle.net_core.specs.declared.ids.LinkId.{LinkId}
 use Rattle.net_core.specs.declared.plan.Flow.{Flow}

@@ -1,6 +1,5 @@
 -- the greatest valid multiplier of lengths, from the least ratio of a cost and a size
-use Rattle.std.proofs.Common.{◌≡◌, ℕ, zero, suc, ◌*◌, ◌/◌, ◌≤◌, ◌<◌, List, slice_index, get_or, sym, ap, subst, ◌∙◌, arith}
-use Rattle.std.proofs.Math.Nat.{mul-le-mul_left}
+use Rattle.std.proofs.Common.{◌≡◌, ℕ, zero, suc, ◌*◌, ◌/◌, ◌≤◌, ◌<◌, List, slice_index, get_or, sym, ap, subst, ◌∙◌, arith, mul-le-mul_left}
 use Rattle.net_core.proofs.Library.{le_of_mul-le-mul_left, mul-dvd-mul_right, dvd_of_mul-dvd-mul_right, eq-one_of_dvd-one, div-mul_cancel, ◌∣◌, IsGcd}
 use Rattle.net_core.specs.declared.network.Module.{Module}
 use Rattle.net_core.specs.declared.network.Link.{Link}

@@ -1,7 +1,6 @@
 -- the certificate of a cut alone
 use Rattle.net_core.proofs.Library.{∥∥₁_elim, props, sum_by-cons, recursion_from_All, All-cons, All-nil, mul-sub, AllByRecursion}
-use Rattle.std.proofs.Common.{◌≡◌, ℕ, ◌-◌, ◌*◌, ◌^◌, ◌≤◌, ◌<◌, List, [], ◌∷◌, All, Some, length, slice_get, slice_index, get_or, sym, ap, subst, ◌∙◌, ◌+◌, arith, zip}
-use Rattle.std.proofs.Math.Nat.{mul-le-mul_left, mul-lt-mul_of_pos_right}
+use Rattle.std.proofs.Common.{◌≡◌, ℕ, ◌-◌, ◌*◌, ◌^◌, ◌≤◌, ◌<◌, List, [], ◌∷◌, All, Some, length, slice_get, slice_index, get_or, sym, ap, subst, ◌∙◌, ◌+◌, arith, zip, mul-le-mul_left, mul-lt-mul_of_pos_right}
 use Rattle.net_core.specs.declared.network.Link.{Link}
 use Rattle.net_core.specs.declared.plan.CutLine.{CutLine}
 use Rattle.net_core.specs.Terms.{Case, IsNetwork}

@@ -2,13 +2,9 @@
 use Rattle.std.proofs.Common.{◌≡◌, ℕ, zero, suc, ◌+◌, ◌-◌, ◌<◌, ◌≤◌, ◌^◌, inl, inr, Bool, true, false, List, [], ◌∷◌, ◌++◌, Option, None, Some, length, map, slice_get, if◌then◌else◌, refl, ap, subst, sym, ◌∙◌, arith}
 use Rattle.std.specs.Option.{option_map_or}
 use Rattle.net_core.proofs.Library.{All-map, length-map, slice_get_within}
-use Rattle.master_bound.specs.declared.answer.Multiplier.{Multiplier}
 use Rattle.plan_terms.specs.Terms.{Case, CutLine}
-use Rattle.line_check.specs.Terms.{AreNamedBy, WeightedLine, IsMadeOf, Naming, Source, names_among, sources_of}
-use Rattle.line_check.specs.declared.inequality.Inequality.{Inequality}
-use Rattle.line_check.specs.declared.line.Line.{Line}
-use Rattle.line_check.specs.declared.line.Line.TheVariants.{Divided, Table}
-use Rattle.line_check.specs.declared.line.TableKind.TheVariants.{Plain, Failing}
+use Rattle.line_check.specs.Terms.{AreNamedBy, WeightedLine, IsMadeOf, Naming, Source, names_among, sources_of, Multiplier}
+use Rattle.tree_check.specs.Terms.{Inequality, Line, Divided, Table, Plain, Failing}
 use Rattle.proof_order.specs.Orders.{NamesAreKept, cuts_among, cuts_before, is_cut_entry, lines_among, lines_before, moved_line, moved_multipliers, place_of, source_of}
 use Rattle.proof_order.specs.declared.entry.Entry.{Entry}
 use Rattle.proof_order.specs.declared.entry.Entry.TheVariants as entry

@@ -3,11 +3,8 @@ use Rattle.std.specs.Prelude.{◌≡◌, ℕ, ◌+◌, Bool, true, false, if◌t
 use Rattle.std.specs.Option.{option_map_or}
 use Rattle.std.proofs.Common.{inl, inr}
 use Rattle.plan_terms.specs.Terms.{Case, CutLine}
-use Rattle.master_bound.specs.declared.answer.Multiplier.{Multiplier}
-use Rattle.line_check.specs.Terms.{NamesLine, Source, sources_of}
-use Rattle.line_check.specs.declared.inequality.Inequality.{Inequality}
-use Rattle.line_check.specs.declared.line.Line.{Line}
-use Rattle.line_check.specs.declared.line.Line.TheVariants.{Divided, Table}
+use Rattle.line_check.specs.Terms.{NamesLine, Source, sources_of, Multiplier}
+use Rattle.tree_check.specs.Terms.{Inequality, Line, Divided, Table}
 use Rattle.tree_check.specs.declared.proof.BoxCert.{BoxCert}
 use Rattle.tree_check.specs.declared.proof.Node.{Node}
 use Rattle.tree_check.specs.declared.proof.Node.TheVariants.{Split, Closed, Empty, Spent, Stuck}

@@ -17,9 +17,7 @@ use Rattle.report_words.proofs.WordLaws.{number_within_law}
 use Rattle.proof_reader.proofs.EvidenceLaw.{evidence_law}
 use Rattle.report_parts.proofs.RoutingLaws.{AreLinksApart}
 use Rattle.master_bound.specs.declared.answer.Multiplier.{Multiplier}
-use Rattle.line_check.specs.declared.line.Line.TheVariants.{Divided, Table}
-use Rattle.line_check.specs.declared.line.TableKind.{TableKind}
-use Rattle.line_check.specs.declared.line.TableKind.TheVariants.{Plain, Failing}
+use Rattle.tree_check.specs.Terms.{Divided, Table, TableKind, Plain, Failing}
 use Rattle.tree_check.specs.declared.proof.BoxCert.{BoxCert}
 use Rattle.tree_check.specs.declared.proof.Node.TheVariants.{Split, Closed, Empty, Spent, Stuck}
 use Rattle.tree_check.specs.declared.proof.Verdict.TheVariants.{Cheapest, Above}

@@ -2,9 +2,7 @@
 use Rattle.std.proofs.Common.{ℕ, List}
 use Rattle.plan_terms.specs.Terms.{CutLine, Evidence, LinkId}
 use Rattle.master_bound.specs.declared.answer.Multiplier.{Multiplier}
-use Rattle.line_check.specs.declared.line.Line.{Line}
-use Rattle.line_check.specs.declared.line.Line.TheVariants.{Divided, Table}
-use Rattle.line_check.specs.declared.line.TableKind.{TableKind}
+use Rattle.tree_check.specs.Terms.{Line, Divided, Table, TableKind}
 use Rattle.tree_check.specs.declared.proof.BoxCert.{BoxCert}
 use Rattle.tree_check.specs.declared.proof.Node.{Node}
 use Rattle.tree_check.specs.declared.proof.Node.TheVariants.{Split, Closed, Empty, Spent, Stuck}

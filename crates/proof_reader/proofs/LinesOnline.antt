@@ -10,8 +10,7 @@ use Rattle.report_words.specs.Terms.{Branches, branch_at, number_at}
 use Rattle.report_words.proofs.Lemmas.{online_branch}
 use Rattle.report_words.proofs.WordsOnline.{next_number_some}
 use Rattle.report_parts.proofs.PartsOnline.{evidence_online}
-use Rattle.line_check.specs.declared.line.TableKind.{TableKind}
-use Rattle.line_check.specs.declared.line.TableKind.TheVariants.{Plain, Failing}
+use Rattle.tree_check.specs.Terms.{TableKind, Plain, Failing}
 use Rattle.proof_reader.specs.declared.run.Stop.{Stop}
 use Rattle.proof_reader.specs.declared.run.Stop.TheVariants.{LineEnd, Wide}
 use Rattle.proof_reader.specs.declared.sofar.Sofar.{Sofar}

@@ -8,10 +8,7 @@ use Rattle.text_kit.specs.Terms.{Item, Verbatim, Whole, Closing, enclosed}
 use Rattle.text_kit.specs.Written.{IsWritable}
 use Rattle.report_parts.proofs.ColumnVariants.{evidence_cases, master_cases, route_cases, wide_cases}
 use Rattle.master_bound.specs.declared.answer.Multiplier.{Multiplier}
-use Rattle.line_check.specs.declared.line.Line.{Line}
-use Rattle.line_check.specs.declared.line.Line.TheVariants.{Divided, Table}
-use Rattle.line_check.specs.declared.line.TableKind.{TableKind}
-use Rattle.line_check.specs.declared.line.TableKind.TheVariants.{Plain, Failing}
+use Rattle.tree_check.specs.Terms.{Line, Divided, Table, TableKind, Plain, Failing}
 use Rattle.tree_check.specs.declared.proof.BoxCert.{BoxCert}
 use Rattle.tree_check.specs.declared.proof.Node.{Node}
 use Rattle.tree_check.specs.declared.proof.Node.TheVariants.{Split, Closed, Empty, Spent, Stuck}

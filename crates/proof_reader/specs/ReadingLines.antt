@@ -9,9 +9,7 @@ use Rattle.report_words.specs.ReportChoices.{next_number_at}
 use Rattle.report_words.specs.Terms.{Branches, branch_at, link_at, money_at, number_at, this_number_at}
 use Rattle.report_parts.specs.ReadingQuality.{evidence_at}
 use Rattle.master_bound.specs.declared.answer.Multiplier.{Multiplier}
-use Rattle.line_check.specs.declared.line.Line.TheVariants.{Divided, Table}
-use Rattle.line_check.specs.declared.line.TableKind.{TableKind}
-use Rattle.line_check.specs.declared.line.TableKind.TheVariants.{Plain, Failing}
+use Rattle.tree_check.specs.Terms.{Divided, Table, TableKind, Plain, Failing}
 use Rattle.tree_check.specs.declared.proof.BoxCert.{BoxCert}
 use Rattle.tree_check.specs.declared.proof.Node.TheVariants.{Split, Closed, Empty, Spent, Stuck}
 use Rattle.tree_check.specs.declared.proof.Verdict.TheVariants.{Cheapest, Above}

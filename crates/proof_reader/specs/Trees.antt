@@ -5,8 +5,7 @@ use Rattle.plan_terms.specs.Terms.{CutLine, Demand}
 use Rattle.plan_report.specs.Terms.{IsEvidenceInForm, KnownNames}
 use Rattle.text_kit.specs.Terms.{Item}
 use Rattle.master_bound.specs.declared.answer.Multiplier.{Multiplier}
-use Rattle.line_check.specs.declared.line.Line.{Line}
-use Rattle.line_check.specs.declared.line.Line.TheVariants.{Divided, Table}
+use Rattle.tree_check.specs.Terms.{Line, Divided, Table}
 use Rattle.tree_check.specs.declared.proof.BoxCert.{BoxCert}
 use Rattle.tree_check.specs.declared.proof.Node.{Node}
 use Rattle.tree_check.specs.declared.proof.Node.TheVariants.{Split, Closed, Empty, Spent, Stuck}

@@ -1,6 +1,5 @@
 -- routing tasks as states of a case
-use Rattle.net_core.specs.declared.route_task.RouteTask.{RouteTask}
-use Rattle.plan_terms.specs.Terms.{Case, case}
+use Rattle.plan_terms.specs.Terms.{Case, case, RouteTask}
 
 -- the case of a task's network, states and demands
 abbrev pub task_case : RouteTask → Case

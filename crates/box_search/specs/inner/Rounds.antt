@@ -2,8 +2,7 @@
 use Rattle.std.specs.Prelude.{ℕ, ◌<◌, List}
 use Rattle.plan_terms.specs.Terms.{Case, CutLine}
 use Rattle.plan_types.specs.declared.plan.Plan.{Plan}
-use Rattle.line_check.specs.declared.tested.Tested.{Tested}
-use Rattle.tree_check.specs.Trees.{TreeBox}
+use Rattle.tree_check.specs.Terms.{Tested, TreeBox}
 use Rattle.box_search.specs.declared.evaluation.Round.{Round}
 use Rattle.box_search.specs.declared.evaluation.Round.TheVariants as round
 use Rattle.box_search.specs.declared.found.Found.{Found}

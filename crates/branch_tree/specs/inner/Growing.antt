@@ -3,8 +3,7 @@ use Rattle.std.specs.Prelude.{◌≡◌, ℕ, ◌+◌, ◌*◌, ◌^◌, ◌≤�
 use Rattle.plan_terms.specs.Terms.{Case, CutLine, Link}
 use Rattle.plan_types.specs.declared.plan.Plan.{Plan}
 use Rattle.line_check.specs.Terms.{entry}
-use Rattle.line_check.specs.declared.tested.Tested.{Tested}
-use Rattle.tree_check.specs.Terms.{IsSplitOf, lower_side, upper_side, whole_box, TreeBox, module_costs}
+use Rattle.tree_check.specs.Terms.{IsSplitOf, lower_side, upper_side, whole_box, TreeBox, module_costs, Tested}
 use Rattle.box_search.specs.Terms.{Split, AreCheaperCounts, IsFoundAt, IsTwigOf}
 use Rattle.branch_tree.specs.inner.Places.{AreSettled, AreTwigsOf, twig_splits}
 use Rattle.box_search.specs.declared.found.Cheaper.{Cheaper}

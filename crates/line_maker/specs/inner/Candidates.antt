@@ -1,8 +1,7 @@
 -- lines that may be made
 use Rattle.std.specs.Prelude.{◌≡◌, ℕ, ◌≤◌, ◌<◌, ◌^◌, List, [], ◌∷◌, All, length}
 use Rattle.plan_terms.specs.Terms.{Link}
-use Rattle.master_bound.specs.declared.answer.Multiplier.{Multiplier}
-use Rattle.line_check.specs.Terms.{module_number, module_price, need_of, summed_need, divided_up, IsSoundAt, weighed}
+use Rattle.line_check.specs.Terms.{module_number, module_price, need_of, summed_need, divided_up, IsSoundAt, weighed, Multiplier}
 use Rattle.line_check.specs.declared.inequality.Inequality.{Inequality}
 use Rattle.line_check.specs.declared.tested.Tested.{Tested}
 use Rattle.line_maker.specs.declared.numbers.Lowest.{Lowest}

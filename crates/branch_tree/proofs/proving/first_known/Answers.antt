@@ -1,5 +1,4 @@
-use Rattle.std.proofs.Common.{List, All, ap, arith, length, subst, sym}
-use Rattle.std.proofs.lemmas.List.{length-take}
+use Rattle.std.proofs.Common.{List, All, ap, arith, length, subst, sym, length-take}
 use Rattle.net_core.proofs.Library.{All-take}
 use Rattle.plan_terms.specs.Terms.{CutLine, IsCut, case_of}
 use Rattle.branch_tree.proofs.Restarts.{cuts_sound}

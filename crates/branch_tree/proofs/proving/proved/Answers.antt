@@ -3,8 +3,7 @@ use Rattle.std.proofs.lemmas.Result.{IfOk-weaker}
 use Rattle.plan_terms.specs.Terms.{case_of}
 use Rattle.branch_tree.specs.declared.growth.Growth.{Growth}
 use Rattle.branch_tree.specs.inner.Growing.{IsGrownTo}
-use Rattle.box_search.specs.Terms.{Entry}
-use Rattle.box_search.specs.Searches.{handed_in}
+use Rattle.box_search.specs.Terms.{Entry, handed_in}
 use Rattle.branch_tree.specs.inner.Making.{IsProofMade}
 use Rattle.box_search.proofs.Extending.{handed_same}
 use Rattle.branch_tree.proofs.Restarts.{aim_of, attempt_room, cheaper_both, cheaper_none, made_proof}

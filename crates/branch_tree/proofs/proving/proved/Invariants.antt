@@ -1,7 +1,6 @@
 use Rattle.std.proofs.Common.{◌≡◌, ◌≤◌, length}
 use Rattle.plan_terms.specs.Terms.{case_of}
-use Rattle.box_search.specs.Terms.{IsCheaperPlan}
-use Rattle.box_search.specs.Searches.{IsSearch, handed_in}
+use Rattle.box_search.specs.Terms.{IsCheaperPlan, IsSearch, handed_in}
 use Rattle.branch_tree.proofs.proving.proved.Given as goal
 
 -- the plan is the given one or a cheaper one, and the handed-in cuts are the first ones still

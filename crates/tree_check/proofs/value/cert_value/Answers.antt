@@ -1,7 +1,6 @@
 use Rattle.std.proofs.Common.{◌≡◌, ℕ, true, false, List, Option, None, Some, IsNone, MatchOption, subst, sym}
-use Rattle.line_check.specs.Terms.{Multiplier}
+use Rattle.line_check.specs.Terms.{Multiplier, weighed}
 use Rattle.tree_check.specs.BoxValues.{IsBoxValue}
-use Rattle.line_check.specs.Testing.{weighed}
 use Rattle.tree_check.proofs.value.cert_value.Goals as goal
 
 where_none : (o : Option ℕ) (P : Type 0) (Q : ℕ → Type 0) → IsNone o → MatchOption o P Q → P
