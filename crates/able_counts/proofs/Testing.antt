@@ -1,8 +1,7 @@
 -- routings that are kept or become ones within other capacities
 use Rattle.std.proofs.Common.{◌≡◌, ◌∙◌, ℕ, zero, suc, ◌+◌, ◌≤◌, ◌<◌, ◌⊎◌, inl, inr, ⊎_elim, List, [], ◌∷◌, All, None, Some, Option, IfSome, length, slice_get, refl, sym, ap, subst, arith, set, length-set}
-use Rattle.net_core.proofs.Library.{cases_lt, slice_get_within}
+use Rattle.net_core.proofs.Library.{cases_lt, slice_get_within, some_same}
 use Rattle.plan_terms.specs.Terms.{Caps, CutLine, Routing, Case, graph_in, AreDemands, Joins, IsCut, Carries, IsSurvivable}
-use Rattle.net_core.proofs.Lists.{some_same}
 use Rattle.route_law.specs.Terms.{AreJoined}
 use Rattle.separator.specs.Terms.{IsRouted}
 use Rattle.able_counts.proofs.FoundForms.{routing_found}

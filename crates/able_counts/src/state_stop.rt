@@ -1,8 +1,7 @@
 ghost use Rattle.std.specs.Prelude.{◌≡◌, ◌⊎◌, ◌^◌, ◌<◌, All, IfOk, IfSome, List as Seq, None};
 ghost use Rattle.plan_terms.specs.Terms.{graph_of, Caps as CapsOf, Demand, Graph, IsSurvivable};
 ghost use Rattle.route_law.specs.Terms.{AreJoined};
-ghost use Rattle.separator.specs.Findings.{IsFinding};
-ghost use Rattle.separator.specs.Terms.{IsWarmAnswer};
+ghost use Rattle.separator.specs.Terms.{IsWarmAnswer, IsFinding};
 ghost use Rattle.able_counts.specs.AbleTests.{IsRoutingOf, IsRoutingWithin, IsStopAt};
 ghost use Rattle.able_counts.specs.inner.Tasks.{task_case};
 

@@ -1,6 +1,6 @@
 -- a sound plan has no finding, kind by kind
 use Rattle.std.proofs.Common.{◌≡◌, ℕ, ◌*◌, ◌≤◌, Bool, true, List, [], ◌∷◌, Some, All, get_or, sym, ◌∙◌, ap, subst, arith, slice_get, ⊎_elim, option_map}
-use Rattle.net_core.proofs.Library.{props, get_or_from_slice_get, slice_get-map}
+use Rattle.net_core.proofs.Library.{props, get_or_from_slice_get, slice_get-map, all_at}
 use Rattle.plan_terms.specs.Terms.{Module, Flow, Case, graph_in, Joins, capacities, CertificateLine, IsCut, price, IsFlow}
 use Rattle.plan_types.specs.Terms.{IsCarryingPlan, IsCertifiedPlan, IsCostedPlan, lines_of_certificate}
 use Rattle.plan_types.specs.declared.certificate.CertLine.{CertLine}
@@ -12,7 +12,6 @@ use Rattle.plan_checker.specs.Terms.{HasBadPath, IsOverloaded, IsUncarried, HasS
 use Rattle.plan_checker.specs.declared.finding.Finding.TheVariants as finding
 use Rattle.plan_checker.proofs.Telling.{no_bound, no_local, no_overloaded, no_place, no_price, no_raw, no_right, no_uncarried, no_wide}
 use Rattle.acceptance.specs.Laws.{SoundPlansAreAccepted}
-use Rattle.net_core.proofs.Lists.{all_at}
 use Rattle.plan_terms.proofs.Lemmas.{right_once}
 
 -- that no finding holds has one proof at most

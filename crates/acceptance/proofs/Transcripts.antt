@@ -12,8 +12,7 @@ use Rattle.cut_pool.specs.Terms.{cut_of_line, cuts_of, demands_left, version_lef
 use Rattle.session_run.specs.Terms.{IsFullHistory, IsSpotIn}
 use Rattle.session_run.proofs.Lemmas.{cuts_both}
 use Rattle.plan_checker.specs.Terms.{HoldNone, IsTight}
-use Rattle.report_checker.specs.Outcomes.{IsBelowAllAble, SeparatesNamed, case_at, outcome_findings}
-use Rattle.report_checker.specs.ReportFindings.{HasNoFinding, whole_findings}
+use Rattle.report_checker.specs.Terms.{IsBelowAllAble, SeparatesNamed, case_at, outcome_findings, HasNoFinding, whole_findings}
 use Rattle.session_script.specs.declared.script.Act.{Act}
 use Rattle.session_script.specs.declared.script.Act.TheVariants as acts
 use Rattle.session_script.specs.declared.script.Command.{Command}

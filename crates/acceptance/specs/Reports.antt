@@ -11,8 +11,7 @@ use Rattle.plan_types.specs.declared.report.Outcome.TheVariants.{Planned, Unsurv
 use Rattle.plan_types.specs.declared.report.Report.{Report}
 use Rattle.cut_pool.specs.Terms.{IsLegalHistory, IsPoolAfter, demands_at, version_at}
 use Rattle.plan_checker.specs.Terms.{IsTight}
-use Rattle.report_checker.specs.Outcomes.{SeparatesNamed, case_at}
-use Rattle.report_checker.specs.ReportFindings.{HasNoFinding}
+use Rattle.report_checker.specs.Terms.{SeparatesNamed, case_at, HasNoFinding}
 
 -- a plan for the demands at its position, with their version: it carries them, is costed and certified, has cuts outside the pool
 -- only where the pool is full, and is tight where it claims so

@@ -4,8 +4,7 @@ use Rattle.plan_terms.specs.Terms.{Notes, Case}
 use Rattle.plan_types.specs.declared.report.Report.{Report}
 use Rattle.session_script.specs.declared.script.Command.{Command}
 use Rattle.session_run.specs.Transcripts.{IsTranscript}
-use Rattle.report_checker.specs.Outcomes.{IsBelowAllAble}
-use Rattle.report_checker.specs.ReportFindings.{HasNoFinding}
+use Rattle.report_checker.specs.Terms.{IsBelowAllAble, HasNoFinding}
 use Rattle.acceptance.specs.Reports.{IsSoundOutcomeOf}
 
 -- A transcript of at most 1,000 commands has no finding, and the bounds of its plans hold.

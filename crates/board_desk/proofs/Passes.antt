@@ -6,8 +6,7 @@ use Rattle.cut_pool.specs.declared.board.Board.{Board}
 use Rattle.turn_lock.specs.declared.desk.Desk.{Desk}
 use Rattle.turn_lock.specs.declared.desk.Pass.{Pass}
 use Rattle.turn_lock.specs.declared.desk.Turn.{Turn}
-use Rattle.turn_lock.specs.Histories.{are_places}
-use Rattle.turn_lock.specs.Passes.{IsPassOf, items_at}
+use Rattle.turn_lock.specs.Terms.{are_places, IsPassOf, items_at}
 use Rattle.board_desk.specs.Turns.{IsPassThere, places_in, seen_in}
 
 -- a desk with a board, a pass of one, and a turn at one

@@ -9,8 +9,7 @@ use Rattle.cut_pool.specs.declared.answers.EditAnswer.{EditAnswer}
 use Rattle.cut_pool.specs.declared.answers.EditAnswer.TheVariants as editing
 use Rattle.cut_pool.specs.declared.board.Board.{Board}
 use Rattle.cut_pool.specs.Terms.{AnswersAdmit, AnswersEdit, origin_of}
-use Rattle.turn_lock.specs.Histories.{IsPrefix}
-use Rattle.turn_lock.specs.Passes.{AreOfOneDesk, IsPassOf, own_places, own_units, seen_by, turn_history, turn_places, turn_units}
+use Rattle.turn_lock.specs.Terms.{IsPrefix, AreOfOneDesk, IsPassOf, own_places, own_units, seen_by, turn_history, turn_places, turn_units}
 use Rattle.board_desk.specs.declared.caller.Caller.{Caller}
 use Rattle.board_desk.specs.Turns.{HasTurn, IsPassThere, IsSameCaller, board_made, places_in, seen_in, units_in}
 use Rattle.board_desk.specs.inner.Endings.{IsGrown, cut_enters, edit_enters}

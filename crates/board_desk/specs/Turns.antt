@@ -12,8 +12,7 @@ use Rattle.cut_pool.specs.Terms.{AnswersAdmit, AnswersEdit, IsSnapshotOf, origin
 use Rattle.turn_lock.specs.declared.chronicle.Chronicle.{Ghosts}
 use Rattle.turn_lock.specs.declared.desk.Desk.{Desk}
 use Rattle.turn_lock.specs.declared.desk.Pass.{Pass}
-use Rattle.turn_lock.specs.Histories.{IsPrefix}
-use Rattle.turn_lock.specs.Passes.{IsPassOf, Seen, opening_of, own_places, own_units, seen_of}
+use Rattle.turn_lock.specs.Terms.{IsPrefix, IsPassOf, Seen, opening_of, own_places, own_units, seen_of}
 use Rattle.board_desk.specs.declared.caller.Caller.{Caller}
 
 module _ {T I O : Type 0} {g : Ghosts T I O} where

@@ -2,8 +2,7 @@ ghost use Rattle.std.specs.Prelude.{◌≡◌, ◌+◌, ◌-◌, ◌/◌, ◌<�
 ghost use Rattle.std.specs.List.{range_with_len};
 ghost use Rattle.plan_terms.specs.Terms.{graph, edit_need};
 ghost use Rattle.metric_cut.specs.Cuts.{IsCutOf};
-ghost use Rattle.turn_lock.specs.Histories.{IsPrefix, longer, merged};
-ghost use Rattle.turn_lock.specs.Passes.{AreOfOneDesk, IsPassOf, own_units, seen_by, turn_history, turn_origin, turn_places, turn_units, own_places};
+ghost use Rattle.turn_lock.specs.Terms.{IsPrefix, longer, merged, AreOfOneDesk, IsPassOf, own_units, seen_by, turn_history, turn_origin, turn_places, turn_units, own_places};
 ghost use Rattle.cut_pool.specs.Terms.{origin_of};
 ghost use Rattle.board_desk.specs.inner.Endings.{IsGrown, cut_enters, edit_enters};
 

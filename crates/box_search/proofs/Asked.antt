@@ -1,7 +1,6 @@
 -- what is answered of counts that are asked about
 use Rattle.std.proofs.Common.{◌≡◌, ◌∙◌, ℕ, zero, suc, ◌+◌, ◌^◌, ◌<◌, ◌⊎◌, inl, inr, ⊎_elim, List, [], ◌∷◌, ◌++◌, All, Some, length, slice_get, refl, ap, sym, subst, arith}
-use Rattle.std.proofs.Math.Logic.{∥∥₁_elim}
-use Rattle.std.proofs.Props.{props}
+use Rattle.net_core.proofs.Library.{∥∥₁_elim, props}
 use Rattle.plan_terms.specs.Terms.{AreCounts, AreDemands, AreWithinLimits, Case, IsNetwork, Joins, Link, Routing, capacities, graph_in, total_cost}
 use Rattle.plan_swaps.specs.Terms.{AreRoutingsWithin, IsRoutingWithin}
 use Rattle.plan_swaps.proofs.Lemmas.{shape_at_most, total_at_most}

@@ -1,9 +1,7 @@
 -- the certificate of no lines has a value where no least count is large
 use Rattle.std.proofs.Common.{◌≡◌, ◌≢◌, ℕ, zero, suc, ◌+◌, ◌-◌, ◌*◌, ◌%◌, ◌^◌, ◌≤◌, ◌<◌, Bool, true, false, if◌then◌else◌, List, [], ◌∷◌, All, ⊎_elim, get_or, length, map, refl, ap, arith, slice_index, subst, unwrap_or, mul-le-mul_left, mul-le-mul_right}
-use Rattle.std.proofs.lemmas.Nat.{mod_below}
 use Rattle.std.specs.Int.{div_ceil}
-use Rattle.std.specs.List.{AllByRecursion}
-use Rattle.net_core.proofs.Library.{All-nil, IsGcd, IsGcd-from_mod, IsGcd-from_zero, cases_eq, recursion_from_All}
+use Rattle.net_core.proofs.Library.{All-nil, IsGcd, IsGcd-from_mod, IsGcd-from_zero, cases_eq, recursion_from_All, mod_below, AllByRecursion}
 use Rattle.module_prices.proofs.Divisors.{rounded_up}
 use Rattle.plan_terms.proofs.Bounds.{bound_free, bound_rounded, bound_unique, divisor_both, divisor_none, divisor_one}
 use Rattle.plan_terms.specs.Terms.{IsBound, IsGreatestDivisor, IsModule, Link, Module, charges, sum_below}

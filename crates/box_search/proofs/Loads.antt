@@ -1,8 +1,6 @@
 -- routings within lowered counts
 use Rattle.std.proofs.Common.{◌≡◌, ℕ, zero, suc, ◌+◌, ◌*◌, ◌^◌, ◌≤◌, ◌<◌, true, false, if◌then◌else◌, ⊎_elim, List, [], ◌∷◌, Some, length, map, slice_get, slice_index, sum_by, refl, ap, subst, arith, mul-le-mul_right}
-use Rattle.std.specs.List.{AllByRecursion}
-use Rattle.net_core.proofs.Library.{recursion_from_All, slice_get_within, sum_by-cons}
-use Rattle.net_core.proofs.Sums.{below-first, below-same, sums-equal}
+use Rattle.net_core.proofs.Library.{recursion_from_All, slice_get_within, sum_by-cons, AllByRecursion, below-first, below-same, sums-equal}
 use Rattle.plan_terms.specs.Terms.{AreCounts, Carries, Demand, Flow, IsFlow, Link, Routing, capacities, load, names_link, sent, sum_below, total_need}
 use Rattle.plan_terms.proofs.Metric.{all_carried, all_weaker}
 use Rattle.box_search.specs.inner.Lowering.{HaveRoomFor}

@@ -1,7 +1,6 @@
 -- what is found at a box
 use Rattle.std.proofs.Common.{◌≡◌, ℕ, zero, suc, ◌+◌, ◌^◌, ◌≤◌, ◌<◌, false, List, [], ◌∷◌, ◌++◌, All, Some, get_or, length, map, take, refl, subst, sym, arith, slice_get}
-use Rattle.net_core.proofs.Library.{All-map, All-weaker, slice_get-get_or}
-use Rattle.net_core.proofs.Networks.{few_links}
+use Rattle.net_core.proofs.Library.{All-map, All-weaker, slice_get-get_or, few_links}
 use Rattle.module_choice.proofs.Carrying.{network_links}
 use Rattle.plan_swaps.specs.Terms.{IsWideSomewhere, whole_caps}
 use Rattle.plan_terms.specs.Terms.{AreCounts, AreDemands, Case, CutLine, Evidence, IsCut, IsNetwork, Link, Violates, capacities, total_cost}

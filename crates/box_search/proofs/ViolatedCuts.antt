@@ -1,7 +1,6 @@
 -- a cut that the only counts of a box violate empties the box
 use Rattle.std.proofs.Common.{◌≡◌, ℕ, zero, suc, ◌*◌, ◌<◌, List, [], ◌∷◌, All, IsSome, Some, get_or, length, map, refl, ap, sym, subst, ◌∙◌, arith, slice_index, unwrap_or}
-use Rattle.std.specs.List.{AllByRecursion}
-use Rattle.net_core.proofs.Library.{length-map, recursion_from_All}
+use Rattle.net_core.proofs.Library.{length-map, recursion_from_All, AllByRecursion}
 use Rattle.plan_swaps.specs.Terms.{whole_caps}
 use Rattle.plan_terms.specs.Terms.{AreCounts, CutLine, Link, Violates, capacities}
 use Rattle.tree_check.specs.Terms.{IsFixedBox, IsFixedSpan, any_count, least_counts, span_at, IsEmptiedBy, most_along, TreeBox}

@@ -1,8 +1,6 @@
 -- evidence at the capacities of counts is in form: it names columns and rows of its program alone
 use Rattle.std.proofs.Common.{◌≡◌, ◌≢◌, ℕ, ◌*◌, ◌^◌, ◌≤◌, ◌<◌, List, [], ◌∷◌, All, ⊎_elim, length, zip, ap, subst, sym, arith, slice_get, Some}
-use Rattle.std.proofs.lemmas.Nat.{mul-le}
-use Rattle.std.specs.List.{AllByRecursion}
-use Rattle.net_core.proofs.Library.{All-cons, All-from_recursion, All-nil, cases_lt, get_or_from_slice_get, get_or_past, recursion_from_All, slice_get_within, sum_by-cons}
+use Rattle.net_core.proofs.Library.{All-cons, All-from_recursion, All-nil, cases_lt, get_or_from_slice_get, get_or_past, recursion_from_All, slice_get_within, sum_by-cons, mul-le, AllByRecursion}
 use Rattle.plan_swaps.specs.Terms.{IsWideSomewhere, whole_caps}
 use Rattle.flow_router.specs.Answers.{IsEvidenceHere}
 use Rattle.module_choice.proofs.Pairs.{capacities_long}

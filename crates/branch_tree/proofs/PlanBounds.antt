@@ -1,9 +1,7 @@
 -- a plan's certificate over boxes: its value is at least the plan's bound
 use Rattle.std.proofs.Common.{◌≡◌, ◌≢◌, ◌∙◌, ℕ, zero, suc, ◌+◌, ◌-◌, ◌*◌, ◌/◌, ◌%◌, ◌≤◌, ◌<◌, min, ⊎_elim, List, [], ◌∷◌, Some, length, map, slice_get, slice_index, unwrap_or, refl, ap, sym, subst, arith, mul-le-mul_left}
 use Rattle.std.proofs.lemmas.Grind.{div_ceil_times}
-use Rattle.net_core.proofs.Library.{cases_eq, dvd-mul_right, mul-div_cancel', sum_by-cons}
-use Rattle.net_core.proofs.Lists.{all_at, get_some}
-use Rattle.net_core.proofs.Sums.{below-none, below-same}
+use Rattle.net_core.proofs.Library.{cases_eq, dvd-mul_right, mul-div_cancel', sum_by-cons, all_at, get_some, below-none, below-same}
 use Rattle.plan_terms.specs.Terms.{Case, CertificateLine, IsBound, IsGreatestDivisor, Link, Module, asked, charges, fixed_along, given, price, raw_value}
 use Rattle.plan_terms.proofs.Bounds.{bound_free, bound_rounded, quotient_least}
 use Rattle.plan_types.specs.Terms.{IsCertifiedPlan, lines_of_certificate}

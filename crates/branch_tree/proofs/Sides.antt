@@ -1,9 +1,7 @@
 -- the two sides of a split: their boxes, and what is found at them
 use Rattle.std.proofs.Common.{ℕ, zero, suc, ◌∷◌, ◌+◌, ◌^◌, ◌≤◌, ◌<◌, List, [], All, IfSome, Option, None, Some, get_or, length, replicate, set, subst, arith}
-use Rattle.std.proofs.Math.Logic.{∥∥₁_elim}
-use Rattle.std.proofs.Props.{props}
 use Rattle.std.proofs.lemmas.List.Elements.{All-map, All-replicate, All-set}
-use Rattle.net_core.proofs.Library.{All-head, All-tail, length-map}
+use Rattle.net_core.proofs.Library.{All-head, All-tail, length-map, ∥∥₁_elim, props}
 use Rattle.plan_terms.specs.Terms.{AreCounts, Case, CutLine, IsLink, IsNetwork, Link}
 use Rattle.plan_types.specs.declared.plan.Plan.{Plan}
 use Rattle.tree_check.specs.Terms.{IsSplitOf, any_count, beyond, least_counts, lower_side, span_at, spans_of, up_to, upper_side, whole_box, TreeBox}

@@ -2,9 +2,7 @@
 use Rattle.std.specs.Prelude.{◌≡◌, ℕ, ◌⊎◌, List, All, length}
 use Rattle.plan_terms.specs.Terms.{Notes, Case}
 use Rattle.plan_types.specs.declared.report.Report.{Report}
-use Rattle.report_checker.specs.Terms.{Finding}
-use Rattle.report_checker.specs.Outcomes.{IsAcceptedOutcome, IsBelowAllAble}
-use Rattle.report_checker.specs.ReportFindings.{HasNoFinding, IsFirstOfReport}
+use Rattle.report_checker.specs.Terms.{Finding, IsAcceptedOutcome, IsBelowAllAble, HasNoFinding, IsFirstOfReport}
 use Rattle.check_answers.specs.Findings.{accepted_line, rejected_line}
 use Rattle.check_answers.specs.declared.status.Status.{Status}
 use Rattle.check_answers.specs.declared.status.Status.TheVariants.{Done, Rejected}

@@ -1,6 +1,6 @@
 -- rows in lowest terms
 use Rattle.std.proofs.Common.{ℕ, ℤ, List, zero, suc, pos, ◌≡◌, ◌*◌, ◌/◌, ◌<◌, ◌*ℤ◌, ◌-ℤ◌, unsigned_abs, sym, ap, subst, ◌∙◌, arith, ◌<ℤ◌}
-use Rattle.net_core.proofs.Library.{◌∣◌, ints, unsigned_abs-mul, mul-dvd-mul_left, dvd_of_mul-dvd-mul_left, eq-one_of_dvd-one, mul-div_cancel'}
+use Rattle.net_core.proofs.Library.{◌∣◌, ints, unsigned_abs-mul, mul-dvd-mul_left, dvd_of_mul-dvd-mul_left, eq-one_of_dvd-one, mul-div_cancel', positive_divisor}
 use Rattle.checked_fraction.specs.Rows.{num, IsInLowestTerms, IsReduced}
 use Rattle.checked_fraction.specs.Mixed.{combined}
 use Rattle.checked_fraction.specs.inner.Passes.{IsRowGcd, IsFoundDivisor, IsTimes, raw, over}
@@ -8,7 +8,6 @@ use Rattle.checked_fraction.specs.declared.mix.Mix.{Mix}
 use Rattle.checked_fraction.specs.declared.pivot.Found.{Found}
 use Rattle.checked_fraction.proofs.Products.{regroup, moved, mixed_times, nothing_taken}
 use Rattle.checked_fraction.proofs.Quotients.{exact_quotient}
-use Rattle.net_core.proofs.Numbers.{positive_divisor}
 
 -- each number divided by the greatest common divisor
 pub reduces : (f : ℕ → ℤ) (n whole g : ℕ) → 0 < whole → IsRowGcd f n whole g → IsReduced n f (pos whole) (over f g) (pos (whole / g))

@@ -2,8 +2,7 @@
 use Rattle.std.specs.Prelude.{◌≡◌, ℕ, ◌+◌, ◌⊎◌, List, [], ◌∷◌, ◌++◌, All, codes, decimal, length}
 use Rattle.plan_terms.specs.Terms.{Notes, Three, Case}
 use Rattle.plan_report.specs.Terms.{known_to, SpellsReport, report_text, Plan, Quality, Tight, Loose, Planned, Report}
-use Rattle.report_checker.specs.Outcomes.{IsBelowAllAble}
-use Rattle.report_checker.specs.ReportFindings.{HasNoFinding}
+use Rattle.report_checker.specs.Terms.{IsBelowAllAble, HasNoFinding}
 use Rattle.session_script.specs.declared.script.Command.{Command}
 use Rattle.plan_import.specs.Terms.{IsTranscript, PlannedReport, plan_commands}
 use Rattle.sample_net.specs.Samples.{sample_demands, sample_links, sample_nodes, with_single_failures}

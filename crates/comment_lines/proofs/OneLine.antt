@@ -4,8 +4,7 @@ use Rattle.net_core.proofs.Library.{AllByRecursion, and_from, and_parts, list_al
 use Rattle.std.proofs.lemmas.Fmt.{decimal_by_steps_wide}
 use Rattle.std.proofs.lemmas.List.Folds.{list_all-append}
 use Rattle.net_core.specs.Terms.{IsName, is_word_byte}
-use Rattle.text_kit.specs.Terms.{Item, Whole}
-use Rattle.text_kit.specs.Written.{word_of}
+use Rattle.text_kit.specs.Terms.{Item, Whole, word_of}
 use Rattle.comment_lines.specs.Comments.{AddsSpaced, HasOneLine, IsOneLine, spaced_items}
 
 abbrev goes_on : ℕ → Bool

@@ -9,8 +9,7 @@ use Rattle.snd_tokens.specs.declared.token.TokenKind.{TokenKind}
 use Rattle.snd_tokens.specs.declared.token.TokenKind.TheVariants as kinds
 use Rattle.snd_tokens.specs.Terms.{begun, extent, first_line, line_length, run_length, second_line, starts_token, text_from, text_of, token_bytes, token_of, tokens_from, tokens_past, Text, EndAt, trimmed}
 use Rattle.snd_tokens.specs.Lexemes.{put_before}
-use Rattle.text_kit.specs.Terms.{Begins, Item}
-use Rattle.text_kit.specs.Items.{SpellsItem}
+use Rattle.text_kit.specs.Terms.{Begins, Item, SpellsItem}
 use Rattle.comment_lines.specs.Comments.{IsOneLine, commented}
 use Rattle.comment_lines.specs.Laws.{CommentsAreNoItems}
 

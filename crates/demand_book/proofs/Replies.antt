@@ -1,9 +1,8 @@
 -- the replies of edits, from what the code knows
 use Rattle.std.proofs.Common.{◌≡◌, ◌≢◌, ◌<◌, ◌≤◌, ◌-◌, ◌^◌, ℕ, true, false, List, [], length, get_or, Some, sym, ap, ◌∙◌, arith, nat_lt, position, le-ltb, lt-ltb}
-use Rattle.net_core.proofs.Library.{cond-true, cond-false, false≢true, position-Some}
+use Rattle.net_core.proofs.Library.{cond-true, cond-false, false≢true, position-Some, same_is}
 use Rattle.plan_terms.specs.Terms.{are_same, Demand, Set, Drop, Accepted, UnknownDemand, TooMuch, edit_reply, is_demand, next_version, set_need, total_need, within_total, without}
 use Rattle.demand_book.proofs.Changed.{is_same}
-use Rattle.net_core.proofs.Checks.{same_is}
 
 too_much : (before new : List Demand) (version total : ℕ) → total_need new ≡ total → 2 ^ 44 ≤ total → within_total before version new ≡ (TooMuch total, before)
 too_much before new version total sum much =

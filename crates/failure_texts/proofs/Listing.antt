@@ -1,7 +1,6 @@
 -- the failures of the links that separate nothing, link after link
 use Rattle.std.proofs.Common.{◌≡◌, ◌≢◌, ℕ, suc, ◌+◌, ◌<◌, ◌≤◌, List, [], ◌∷◌, ◌++◌, All, None, Option, Some, MatchOption, get_or, length, length-append, slice_get, refl, sym, ap, subst, arith, append-nil, append_assoc, ◌∙◌}
-use Rattle.net_core.proofs.Library.{All-cons, All-nil, All-push, All-weaker, all_pairs_push, get_or_from_slice_get, option_map_or, slice_get-get_or, slice_get_within}
-use Rattle.net_core.proofs.Networks.{few_links}
+use Rattle.net_core.proofs.Library.{All-cons, All-nil, All-push, All-weaker, all_pairs_push, get_or_from_slice_get, option_map_or, slice_get-get_or, slice_get_within, few_links}
 use Rattle.net_core.specs.Terms.{AreStates}
 use Rattle.model_reader.proofs.FailureSingles.{network_differs}
 use Rattle.plan_terms.specs.Terms.{Demand, IsFirstSeparation, IsSurvivable, Link, LinkId, Listed, Network, link_name, single_state}

@@ -1,8 +1,7 @@
 -- Sums over flows, in parts by their demands.
 use Rattle.std.proofs.Common.{◌≡◌, ℕ, ◌+◌, ◌<◌, ◌≤◌, ◌==◌, Bool, true, false, cond, List, [], ◌∷◌, map, refl, sym, ap, ◌∙◌, arith, sum_by, All, filter, ne_eqb}
-use Rattle.net_core.proofs.Library.{All-head, All-tail, recursion_from_All, sum_by-cons}
+use Rattle.net_core.proofs.Library.{All-head, All-tail, recursion_from_All, sum_by-cons, below-le, below-one, below-same, below-swapped, sums-same}
 use Rattle.plan_terms.specs.Terms.{sum_below, names_link, Flow, load}
-use Rattle.net_core.proofs.Sums.{below-le, below-one, below-same, below-swapped, sums-same}
 use Rattle.path_split.specs.declared.arc.Arc.{Arc}
 use Rattle.path_split.specs.declared.arc.PathFlow.{PathFlow}
 use Rattle.path_split.specs.Splits.{arc_load, path_load}

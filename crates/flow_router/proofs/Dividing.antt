@@ -1,10 +1,9 @@
 -- flows over a common divisor of their numerators
 use Rattle.std.proofs.Common.{◌≡◌, ℕ, zero, suc, ◌+◌, ◌*◌, ◌/◌, ◌<◌, ◌≤◌, ◌++◌, List, [], ◌∷◌, All, length, get_or, map, take, slice_set, refl, sym, ap, ◌∙◌, subst, arith, get_or-set_other, length-set, take_all}
-use Rattle.net_core.proofs.Library.{IsGcd, ◌∣◌, take_more, take_more_set, get_or_default, dvd_trans, div-mul_cancel, mul-dvd-mul_left, dvd_of_mul-dvd-mul_left, eq-one_of_dvd-one, All-push, All-cons}
+use Rattle.net_core.proofs.Library.{IsGcd, ◌∣◌, take_more, take_more_set, get_or_default, dvd_trans, div-mul_cancel, mul-dvd-mul_left, dvd_of_mul-dvd-mul_left, eq-one_of_dvd-one, All-push, All-cons, positive_divisor}
 use Rattle.plan_terms.specs.Terms.{Flow}
 use Rattle.route_law.specs.Terms.{flow_times}
 use Rattle.flow_router.specs.Lowest.{IsCommonDivisor, IsInLowest}
-use Rattle.net_core.proofs.Numbers.{positive_divisor}
 
 -- what holds of all holds of those before the last, and of the last
 all_parts : {X : Type 0} (P : X → Type 0) (xs : List X) (x : X) → All P (xs ++ x ∷ []) → All P xs × P x

@@ -4,8 +4,7 @@ use Rattle.plan_terms.specs.Terms.{Demand, Network}
 use Rattle.model_reader.specs.declared.model.Model.{Model}
 use Rattle.outside_io.specs.Outside.{Files}
 use Rattle.check_answers.specs.declared.status.Status.TheVariants.{BadModel, BadNetwork}
-use Rattle.input_files.specs.InputWords.{default}
-use Rattle.input_files.specs.Inputs.{Fetched, HasModel, SpellsNetwork, input_limit}
+use Rattle.input_files.specs.Terms.{default, Fetched, HasModel, SpellsNetwork, input_limit}
 use Rattle.front_files.specs.Endings.{Halts}
 use Rattle.front_files.specs.FrontInputs.{CaseWords, FailsAtFailures, FailsAtInputs}
 use Rattle.front_files.specs.Messages.{FailsAtFile, ShowsModelFault, ShowsNetworkFault}

@@ -7,12 +7,10 @@ use Rattle.sndlib_reader.specs.declared.fault.ReadKind.{ReadKind}
 use Rattle.text_kit.specs.Terms.{AnswersAs, Fails, Read}
 use Rattle.text_kit.specs.declared.refusal.Refusal.{Refusal}
 use Rattle.text_kit.specs.declared.refusal.Refusal.TheVariants.{Bad}
-use Rattle.input_files.specs.Inputs.{SpellsNetwork}
-use Rattle.input_files.specs.Refusals.{refusal_line}
+use Rattle.input_files.specs.Terms.{SpellsNetwork, refusal_line}
 use Rattle.check_answers.specs.declared.status.Status.{Status}
 use Rattle.check_answers.specs.declared.status.Status.TheVariants.{BadNetwork}
-use Rattle.fault_messages.specs.NetworkMessages.{network_message}
-use Rattle.fault_messages.specs.Notes.{AreNetworkNotes}
+use Rattle.fault_messages.specs.Terms.{network_message, AreNetworkNotes}
 use Rattle.front_files.specs.Endings.{Halts}
 use Rattle.front_files.specs.Messages.{ShowsFault, ShowsNetworkFault, ShowsPlace}
 use Rattle.front_files.specs.declared.stop.Halt.{Halt}

@@ -6,10 +6,7 @@ use Rattle.model_reader.specs.Failures as failures
 use Rattle.model_reader.specs.declared.model.Model.{Model}
 use Rattle.check_answers.specs.declared.status.Status.{Status}
 use Rattle.check_answers.specs.declared.status.Status.TheVariants.{BadFailures, BadModel, BadNetwork}
-use Rattle.input_files.specs.InputWords.{PlanWords, default}
-use Rattle.input_files.specs.Inputs.{Fetched, HasModel, HasStates, IsSettled, SpellsNetwork, input_limit}
-use Rattle.input_files.specs.Refusals.{unused_line}
-use Rattle.input_files.specs.Stops.{named}
+use Rattle.input_files.specs.Terms.{PlanWords, default, Fetched, HasModel, HasStates, IsSettled, SpellsNetwork, input_limit, unused_line, named}
 use Rattle.front_files.specs.Messages.{FailsAtFile, ShowsFailuresFault, ShowsModelFault, ShowsNetworkFault, unused_words}
 use Rattle.front_files.specs.declared.words.CaseFiles.{CaseFiles}
 

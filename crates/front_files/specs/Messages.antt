@@ -8,13 +8,9 @@ use Rattle.sndlib_reader.specs.Terms.{kind_word, IsFirstFault}
 use Rattle.model_reader.specs.Terms.{SpellsFailures, failures_of, failures_word, model_word, SpellsModel, model_of}
 use Rattle.check_answers.specs.declared.status.Status.{Status}
 use Rattle.check_answers.specs.declared.status.Status.TheVariants.{NoFile, TooLong}
-use Rattle.fault_messages.specs.FailuresMessages.{failures_message}
-use Rattle.fault_messages.specs.ModelMessages.{model_message}
-use Rattle.fault_messages.specs.NetworkMessages.{network_message}
-use Rattle.fault_messages.specs.Notes.{AreFailuresNotes, AreModelNotes, AreNetworkNotes}
+use Rattle.fault_messages.specs.Terms.{failures_message, model_message, network_message, AreFailuresNotes, AreModelNotes, AreNetworkNotes}
 use Rattle.fault_texts.specs.FaultTexts.{IsFaultText}
-use Rattle.input_files.specs.Inputs.{Fetched, SpellsNetwork, StopsAtFetch}
-use Rattle.input_files.specs.Refusals.{Refuses}
+use Rattle.input_files.specs.Terms.{Fetched, SpellsNetwork, StopsAtFetch, Refuses}
 
 -- what is said of a file that can't be read, by what the shelf knows of it
 abbrev pub fault_words : ReadFault → List ℕ

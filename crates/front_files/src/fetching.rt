@@ -1,8 +1,7 @@
 ghost use Rattle.std.specs.Prelude.{◌≡◌, ◌≢◌, IfErr, IfOk, length};
 ghost use Rattle.plan_terms.specs.Terms.{AreDemands};
 ghost use Rattle.outside_io.specs.Outside.{Fetches};
-ghost use Rattle.input_files.specs.Inputs.{Fetched, SpellsNetwork, input_limit, report_limit};
-ghost use Rattle.input_files.specs.Shelves.{KeepsShelf};
+ghost use Rattle.input_files.specs.Terms.{Fetched, SpellsNetwork, input_limit, report_limit, KeepsShelf};
 ghost use Rattle.front_files.specs.Endings.{FailsReading, Halts, halt_status};
 ghost use Rattle.front_files.specs.Messages as words;
 ghost use Rattle.front_files.specs.Messages.{FailsAtFetch, FailsAtFile, ShowsNetworkFault};

@@ -1,9 +1,6 @@
 ghost use Rattle.std.specs.Prelude.{◌≡◌, ◌≢◌, IfErr, IfOk};
 ghost use Rattle.model_reader.specs.Terms.{SpellsFailures, SpellsModel};
-ghost use Rattle.input_files.specs.InputWords.{default};
-ghost use Rattle.input_files.specs.Inputs.{Fetched, HasModel, SpellsNetwork, input_limit};
-ghost use Rattle.input_files.specs.Shelves.{KeepsShelf};
-ghost use Rattle.input_files.specs.Stops.{named};
+ghost use Rattle.input_files.specs.Terms.{default, Fetched, HasModel, SpellsNetwork, input_limit, KeepsShelf, named};
 ghost use Rattle.front_files.specs.Endings.{FailsReading, Halts, halt_status};
 ghost use Rattle.front_files.specs.FrontInputs.{FailsAtFailures, FailsAtInputs, HasCase, HasListed, named_case};
 ghost use Rattle.front_files.specs.Messages.{FailsAtFile, ShowsFailuresFault, ShowsModelFault};

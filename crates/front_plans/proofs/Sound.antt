@@ -1,7 +1,6 @@
 -- the plan of a proved report is sound, and what its proof tells of the cost holds
 use Rattle.std.proofs.Common.{◌≡◌, ℕ, List, [], All, Contains, ap, arith, drop, length, refl, subst, sym, take, take-append-drop}
-use Rattle.std.proofs.lemmas.List.Elements.{Contains-append_left}
-use Rattle.net_core.proofs.Library.{All-cons, All-weaker}
+use Rattle.net_core.proofs.Library.{All-cons, All-weaker, Contains-append_left}
 use Rattle.plan_terms.specs.Terms.{AreDemands, Case, CutLine, Demand, Notes}
 use Rattle.plan_types.specs.Terms.{IsCertifiedPlan}
 use Rattle.plan_report.specs.Terms.{Plan, Outcome, Planned}

@@ -4,9 +4,7 @@ use Rattle.net_core.proofs.Library.{get_or_from_slice_get, slice_get_within}
 use Rattle.plan_terms.specs.Terms.{Case, Notes}
 use Rattle.plan_report.specs.Terms.{Outcome, Report}
 use Rattle.plan_checker.specs.Terms.{HoldNone, HoldsAt, IsFirstFinding, Kind}
-use Rattle.plan_checker.specs.declared.finding.Finding.{Finding}
-use Rattle.report_checker.specs.Outcomes.{outcome_findings}
-use Rattle.report_checker.specs.ReportFindings.{HasNoFinding, IsFirstOfReport, whole_findings}
+use Rattle.report_checker.specs.Terms.{Finding, outcome_findings, HasNoFinding, IsFirstOfReport, whole_findings}
 use Rattle.check_answers.specs.Checks.{IsJudged}
 use Rattle.check_answers.specs.declared.status.Status.{Status}
 use Rattle.check_answers.specs.declared.status.Status.TheVariants.{Rejected}

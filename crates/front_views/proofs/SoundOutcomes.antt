@@ -5,8 +5,7 @@ use Rattle.plan_types.specs.Terms.{IsCarryingPlan, IsCertifiedPlan}
 use Rattle.plan_report.specs.Terms.{IsOutcomeInForm, IsPlanInForm, known_to, Plan, Outcome, Planned, Unsurvivable, Report}
 use Rattle.plan_view.specs.Terms.{IsSoundPlan}
 use Rattle.plan_checker.specs.Terms.{HoldNone, IsAcceptedPlan}
-use Rattle.plan_checker.specs.declared.finding.Finding.TheVariants.{DemandsDiffer}
-use Rattle.report_checker.specs.Outcomes.{IsAcceptedOutcome, outcome_findings}
+use Rattle.report_checker.specs.Terms.{DemandsDiffer, IsAcceptedOutcome, outcome_findings}
 use Rattle.cut_pool.specs.Histories.{demands_left}
 use Rattle.view_text.specs.Terms.{HasSoundPlan, case_of_plan}
 use Rattle.front_views.specs.AcceptedReports.{IsAcceptedReport}

@@ -2,8 +2,7 @@
 use Rattle.std.specs.Prelude.{All}
 use Rattle.plan_terms.specs.Terms.{Case, Notes}
 use Rattle.plan_report.specs.Terms.{IsReportInForm, known_to, Report}
-use Rattle.report_checker.specs.Outcomes.{IsAcceptedOutcome, IsBelowAllAble}
-use Rattle.report_checker.specs.ReportFindings.{HasNoFinding}
+use Rattle.report_checker.specs.Terms.{IsAcceptedOutcome, IsBelowAllAble, HasNoFinding}
 
 -- A report in form without a finding: each outcome is what an accepted one is known to be, and each plan's bound holds for all able counts.
 pub record IsAcceptedReport (p : Case) (notes : Notes) (r : Report) : Type 0 where

@@ -2,17 +2,14 @@
 use Rattle.std.specs.Prelude.{◌≡◌, ℕ, ◌⊎◌, List, [], ◌++◌, Err, codes}
 use Rattle.plan_terms.specs.Terms.{Case, Notes}
 use Rattle.plan_report.specs.Terms.{SpellsReport, known_to, Report}
-use Rattle.plan_checker.specs.declared.finding.Finding.{Finding}
+use Rattle.report_checker.specs.Terms.{Finding, IsFirstOfReport}
 use Rattle.report_words.specs.Terms.{report_kind_word}
 use Rattle.report_reader.specs.ReadingReport.{report_of}
-use Rattle.report_checker.specs.ReportFindings.{IsFirstOfReport}
 use Rattle.check_answers.specs.Checks.{IsJudged}
 use Rattle.check_answers.specs.declared.status.Status.{Status}
 use Rattle.check_answers.specs.declared.status.Status.TheVariants.{BadReport, Done, Rejected}
 use Rattle.fault_texts.specs.Quotes.{note_text}
-use Rattle.fault_messages.specs.FindingMessages.{finding_message}
-use Rattle.fault_messages.specs.Notes.{AreReportNotes}
-use Rattle.fault_messages.specs.ReportMessages.{report_message}
+use Rattle.fault_messages.specs.Terms.{finding_message, AreReportNotes, report_message}
 use Rattle.view_forms.specs.Terms.{HasForm}
 use Rattle.view_forms.specs.declared.form.ViewForm.{ViewForm}
 use Rattle.view_text.specs.declared.proof.CostProof.{CostProof}

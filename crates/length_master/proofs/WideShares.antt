@@ -1,9 +1,7 @@
 -- prices of the links' capacity that pass the test are those of a least share
 use Rattle.std.proofs.Common.{◌≡◌, ℕ, zero, suc, ◌+◌, ◌*◌, ◌<◌, List, [], ◌∷◌, All, length, map, replicate, slice_index, refl, sym, ap, ◌∙◌, subst, arith, unsigned_abs, ℤ, pos, ◌*ℤ◌, ◌<ℤ◌, ◌≤ℤ◌}
-use Rattle.std.proofs.lemmas.List.FromFn.{get_or-map-range_with_len, length-map-range_with_len}
 use Rattle.std.proofs.lemmas.Grind.{same_number_lists}
-use Rattle.std.specs.List.{range_with_len}
-use Rattle.net_core.proofs.Library.{All-get_or, get_or-map, get_or-replicate, ints, length-map, length-replicate, unsigned_abs-mul, *ℤ-zero, ◌∣◌}
+use Rattle.net_core.proofs.Library.{All-get_or, get_or-map, get_or-replicate, ints, length-map, length-replicate, unsigned_abs-mul, *ℤ-zero, ◌∣◌, get_or-map-range_with_len, length-map-range_with_len, range_with_len}
 use Rattle.checked_fraction.specs.Terms.{IsInLowestTerms, num}
 use Rattle.checked_fraction.specs.declared.row.Row.{Row}
 use Rattle.checked_fraction.proofs.Products.{positive_product, regroup}

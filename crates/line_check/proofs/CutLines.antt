@@ -1,7 +1,6 @@
 -- able counts meet the line of each cut
 use Rattle.std.proofs.Common.{◌≡◌, ℕ, ◌+◌, ◌*◌, List, [], ◌∷◌, length, map, zip, sum_by, slice_index, refl, ap, arith}
-use Rattle.net_core.proofs.Library.{sum_by-cons}
-use Rattle.net_core.proofs.Sums.{below-first}
+use Rattle.net_core.proofs.Library.{sum_by-cons, below-first}
 use Rattle.module_choice.proofs.Pairs.{capacities_long}
 use Rattle.plan_terms.specs.Terms.{AreCounts, Case, CutLine, IsAble, IsCut, Link, Module, capacities, fixed_along, graph_in, modules_capacity, sum_below}
 use Rattle.plan_terms.proofs.Lemmas.{metric_inequality_listed}

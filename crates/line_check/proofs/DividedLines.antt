@@ -2,8 +2,7 @@
 use Rattle.std.proofs.Common.{◌≡◌, ℕ, ◌+◌, ◌-◌, ◌*◌, ◌/◌, ◌%◌, ◌<◌, ◌≤◌, ⊎_elim, List, [], ◌∷◌, length, min, ap, subst, sym, ◌∙◌, arith}
 use Rattle.std.proofs.Math.Nat.{div-add-mod, mul-le-mul_left}
 use Rattle.std.proofs.lemmas.Grind.{div_ceil_times}
-use Rattle.std.specs.List.{AllByRecursion}
-use Rattle.net_core.proofs.Library.{cases_lt, mod_below, sum_by-cons}
+use Rattle.net_core.proofs.Library.{cases_lt, mod_below, sum_by-cons, AllByRecursion}
 use Rattle.master_bound.specs.declared.answer.Multiplier.{Multiplier}
 use Rattle.plan_terms.specs.Terms.{Link}
 use Rattle.line_check.specs.Inequalities.{AreNamedBy, MeetsLine, WeightedLine, entry, module_number, module_price, need_of, over_modules, summed_need, table_of}

@@ -1,7 +1,6 @@
 -- divided lines of lines that were tested
 use Rattle.std.proofs.Common.{◌≡◌, ℕ, ◌<◌, ◌^◌, Bool, List, [], ◌∷◌, All, IsTrue, length, refl, ap, subst, sym, ◌∙◌}
-use Rattle.std.specs.List.{AllByRecursion}
-use Rattle.net_core.proofs.Library.{All-from_recursion, recursion_from_All}
+use Rattle.net_core.proofs.Library.{All-from_recursion, recursion_from_All, AllByRecursion}
 use Rattle.master_bound.specs.declared.answer.Multiplier.{Multiplier}
 use Rattle.plan_terms.specs.Terms.{Link}
 use Rattle.line_check.specs.Inequalities.{AreNamedBy, WeightedLine, module_number, module_price, summed_need}

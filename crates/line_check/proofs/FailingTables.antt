@@ -1,7 +1,6 @@
 -- able counts meet a failing table line
 use Rattle.std.proofs.Common.{◌≡◌, ℕ, zero, suc, ◌+◌, ◌*◌, ◌<◌, ◌≤◌, ◌⊎◌, inl, inr, ⊎_elim, Bool, true, false, List, [], ◌∷◌, length, length-take, map, slice_index, take, zip, refl, ap, subst, sym, ◌∙◌, arith, if◌then◌else◌, nat_eq, eqb-true, mul-le-mul_left}
-use Rattle.std.specs.Option.{option_map_or}
-use Rattle.net_core.proofs.Library.{cases_Bool, cases_lt, get_or-map, length-map, slice_get_past, sum_by-cons}
+use Rattle.net_core.proofs.Library.{cases_Bool, cases_lt, get_or-map, length-map, slice_get_past, sum_by-cons, option_map_or}
 use Rattle.cover_table.specs.CoverWeights.{CoversNeed, IsLeastWeight, total_of_kinds}
 use Rattle.plan_terms.specs.Terms.{AreCounts, Case, Listed, fails, names_link}
 use Rattle.line_check.specs.Inequalities.{MeetsLine, entry, module_number, need_of, over_modules}

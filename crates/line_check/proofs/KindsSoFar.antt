@@ -1,7 +1,6 @@
 -- kinds found one by one
 use Rattle.std.proofs.Common.{◌≡◌, ℕ, ◌+◌, ◌<◌, ◌≤◌, ◌⊎◌, inl, inr, ⊎_elim, List, [], ◌∷◌, ◌++◌, Contains, get_or, length, length-append, slice_index, subst, sym, ◌∙◌, arith}
-use Rattle.net_core.proofs.Library.{Contains-append_left, Contains-get_or, Contains-push, cases_lt, get_or-map, get_or_append_left, get_or_push}
-use Rattle.net_core.proofs.Lists.{none_within}
+use Rattle.net_core.proofs.Library.{Contains-append_left, Contains-get_or, Contains-push, cases_lt, get_or-map, get_or_append_left, get_or_push, none_within}
 use Rattle.std.proofs.lemmas.List.Elements.{Contains-push_cases}
 use Rattle.plan_terms.specs.Terms.{Link}
 use Rattle.line_check.specs.Inequalities.{module_number, need_of}

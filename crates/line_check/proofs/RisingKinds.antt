@@ -1,7 +1,6 @@
 -- rising lists of kinds
 use Rattle.std.proofs.Common.{◌≡◌, ℕ, zero, suc, ◌<◌, ◌≤◌, ◌⊎◌, inl, inr, ⊎_elim, List, [], ◌∷◌, Contains, length, slice_index_or, refl, ap, subst, sym, ◌∙◌, arith}
-use Rattle.net_core.proofs.Library.{get_or_default}
-use Rattle.net_core.proofs.Lists.{none_within}
+use Rattle.net_core.proofs.Library.{get_or_default, none_within}
 use Rattle.plan_terms.specs.Terms.{Link}
 use Rattle.line_check.specs.Lines.{AreKinds}
 use Rattle.line_check.specs.declared.inequality.Inequality.{Inequality}

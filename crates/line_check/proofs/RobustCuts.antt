@@ -1,7 +1,6 @@
 -- in each state the modules that it leaves of able counts meet the cuts of the state in which nothing fails
 use Rattle.std.proofs.Common.{◌≡◌, ℕ, ◌*◌, ◌≤◌, ⊎_elim, true, false, cond, eqb, eqb-true, List, [], ◌∷◌, length, slice_index, refl, ap, subst, sym, ◌∙◌, arith}
-use Rattle.std.specs.List.{AllByRecursion}
-use Rattle.net_core.proofs.Library.{All-from_recursion, cases_Bool, false≢true, recursion_from_All, sum_by-cons}
+use Rattle.net_core.proofs.Library.{All-from_recursion, cases_Bool, false≢true, recursion_from_All, sum_by-cons, AllByRecursion}
 use Rattle.module_choice.proofs.Pairs.{capacities_long}
 use Rattle.plan_terms.proofs.Lemmas.{all_weaker, metric_inequality_listed, path_alike}
 use Rattle.plan_terms.specs.Terms.{Carries, Case, CutLine, Flow, Graph, IsAble, IsCut, IsFlow, IsRight, Joins, Leads, LinkId, Routing, capacities, fails, graph_in, load, names_link}

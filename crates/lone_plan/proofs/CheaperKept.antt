@@ -5,8 +5,7 @@ use Rattle.plan_terms.specs.Terms.{Demand, Evidence, Route, Master, CutLine, Ent
 use Rattle.module_prices.specs.declared.cheapest.UnitPair.{UnitPair}
 use Rattle.plan_report.specs.Terms.{AreRoutingsInForm, IsPlanInForm, known_to, Plan, Cause, Wide, Cuts, Quality, Tight, Loose, Planned, Report}
 use Rattle.route_law.specs.Terms.{IsLowestRouting}
-use Rattle.plan_law.specs.LoosePlans.{HasQuality, IsLooseBy, IsLooseByWidth, KeepsUp}
-use Rattle.plan_law.specs.WorkedLists.{Round}
+use Rattle.plan_law.specs.Terms.{HasQuality, IsLooseBy, IsLooseByWidth, KeepsUp, Round}
 use Rattle.cut_pool.specs.declared.snapshot.Snapshot.{Snapshot}
 use Rattle.cut_pool.specs.Terms.{case_left}
 use Rattle.acceptance.specs.Terms.{IsSnapshotPlan, IsOutcomeAfter, IsPlanBetween, IsPlanned, IsTranscript, RunsFrom}

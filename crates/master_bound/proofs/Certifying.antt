@@ -1,6 +1,6 @@
 -- the certificate of an optimum, and the share of its objective row
 use Rattle.std.proofs.Common.{◌≡◌, ◌≢◌, ℕ, zero, suc, ◌-◌, ◌*◌, ◌/◌, ◌^◌, ◌<◌, ◌≤◌, List, [], ◌∷◌, All, AllPairs, Contains, Some, get_or, length, map, mul-pos, refl, slice_get, slice_index, sym, ap, ◌∙◌, subst, ⊎_elim, arith, mul-le-mul_left, pos, ◌<ℤ◌}
-use Rattle.net_core.proofs.Library.{◌∣◌, cases_eq, ints, All-contains, All-get_or, All-map, All-nil, All-weaker, dvd-zero, le_of_mul-le-mul_left}
+use Rattle.net_core.proofs.Library.{◌∣◌, cases_eq, ints, All-contains, All-get_or, All-map, All-nil, All-weaker, dvd-zero, le_of_mul-le-mul_left, positive_divisor}
 use Rattle.std.proofs.lemmas.Nat.Gcd.{le_of_dvd}
 use Rattle.checked_fraction.specs.Terms.{num}
 use Rattle.module_prices.specs.declared.cheapest.UnitPair.{UnitPair}
@@ -21,7 +21,6 @@ use Rattle.master_bound.specs.inner.Lines.{AreAmounts, AreBasisMultipliers, IsMu
 use Rattle.master_bound.specs.inner.Shares.{IsShareOfDuals}
 use Rattle.master_bound.proofs.Lowest.{common_some, in_lowest, part_some, whole_den}
 use Rattle.master_bound.proofs.Optima.{all_named, gains_as_cut, lines_whole, some_lines}
-use Rattle.net_core.proofs.Numbers.{positive_divisor}
 
 cancel : (k a b : ℕ) → 0 < k → k * a ≡ k * b → a ≡ b
 cancel k a b some e =

@@ -1,10 +1,9 @@
 -- the cuts and the amounts of an optimum of the master program
 use Rattle.std.proofs.Common.{◌≡◌, ℕ, zero, suc, ◌*◌, ◌/◌, ◌^◌, ◌<◌, ◌≤◌, ◌⊎◌, inl, inr, List, [], ◌∷◌, AllPairs, Some, get_or, length, map, slice_get, slice_index, mul-pos, refl, sym, ap, ◌∙◌, subst, ⊎_elim, arith, ℤ, pos, ◌+ℤ◌, ◌*ℤ◌, ◌<ℤ◌}
-use Rattle.net_core.proofs.Library.{ints, Contains-get_or, slice_get_within, *ℤ-zero, pos-*ℤ-pos}
+use Rattle.net_core.proofs.Library.{ints, Contains-get_or, slice_get_within, *ℤ-zero, pos-*ℤ-pos, below-same, below-times}
 use Rattle.checked_fraction.specs.Terms.{num}
 use Rattle.module_prices.specs.declared.cheapest.UnitPair.{UnitPair}
 use Rattle.plan_terms.specs.Terms.{MasterColumn, Metric, Value, Link, CutLine, IsGreatestDivisor, CertificateLine, asked}
-use Rattle.net_core.proofs.Sums.{below-same, below-times}
 use Rattle.simplex_law.specs.Terms.{dot, IsPacking, IsSlack}
 use Rattle.simplex_law.proofs.Lemmas.{dot-same, sum-same, sum-times, unit-other, unit-same}
 use Rattle.simplex_core.specs.declared.optimum.Optimum.{Optimum}

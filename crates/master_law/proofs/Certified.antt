@@ -1,9 +1,8 @@
 -- the cuts of an optimum are a valid certificate, whose raw value is the cost of the share of its objective row
 use Rattle.std.proofs.Common.{◌≡◌, ℕ, zero, suc, ◌*◌, ◌<◌, ◌≤◌, List, [], ◌∷◌, All, Some, true, false, cond, eqb, length, sum_by, zip, slice_get, slice_index, get_or, refl, sym, ap, ◌∙◌, arith, subst, ⊎_elim, mul-le-mul_left, ℤ, pos, ◌+ℤ◌, ◌*ℤ◌, ◌≤ℤ◌}
-use Rattle.net_core.proofs.Library.{sum_by-cons, All-from_recursion, All-contains, All-from_get_or, All-get_or, slice_get_within, le_of_mul-le-mul_left, *ℤ-zero, pos-*ℤ-pos, ints}
+use Rattle.net_core.proofs.Library.{sum_by-cons, All-from_recursion, All-contains, All-from_get_or, All-get_or, slice_get_within, le_of_mul-le-mul_left, *ℤ-zero, pos-*ℤ-pos, ints, below-same, below-first, below-none, below-times, below-swapped, sums-equal}
 use Rattle.module_prices.specs.declared.cheapest.UnitPair.{UnitPair}
 use Rattle.plan_terms.specs.Terms.{MasterColumn, Link, Module, CutLine, IsModule, sum_below, CertificateLine, price, asked, fixed_along, given, raw_value}
-use Rattle.net_core.proofs.Sums.{below-same, below-first, below-none, below-times, below-swapped, sums-equal}
 use Rattle.plan_terms.proofs.Lemmas.{lowest_positive, fixed_of}
 use Rattle.plan_types.specs.declared.quality.Share.{Share}
 use Rattle.route_law.proofs.Lemmas.{sum-pos, below-both}

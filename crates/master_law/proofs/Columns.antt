@@ -1,9 +1,8 @@
 -- columns of cuts, and sums over the links
 use Rattle.std.proofs.Common.{◌≡◌, ℕ, ◌*◌, ◌<◌, ◌≤◌, List, [], ◌∷◌, All, Contains, Some, length, zip, slice_get, slice_index, get_or, refl, sym, ap, ◌∙◌, arith, subst, ⊎_elim, mul-le-mul_left}
-use Rattle.net_core.proofs.Library.{get_or-map, All-contains, All-get_or, le_of_mul-le-mul_left, sum_by-cons, slice_get-get_or, slice_get_within, get_or_from_slice_get}
+use Rattle.net_core.proofs.Library.{get_or-map, All-contains, All-get_or, le_of_mul-le-mul_left, sum_by-cons, slice_get-get_or, slice_get_within, get_or_from_slice_get, below-same, below-first, below-none}
 use Rattle.module_prices.specs.declared.cheapest.UnitPair.{UnitPair}
 use Rattle.plan_terms.specs.Terms.{MasterColumn, Metric, Link, CutLine, IsModule, sum_below, fixed_along}
-use Rattle.net_core.proofs.Sums.{below-same, below-first, below-none}
 use Rattle.plan_terms.proofs.Lemmas.{fixed_of}
 use Rattle.simplex_law.specs.Terms.{ColumnOf}
 use Rattle.master_law.specs.MasterPrograms.{cut_gain, cut_entry, unit_capacities, unit_costs, IsCutColumn}

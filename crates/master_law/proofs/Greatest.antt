@@ -1,9 +1,8 @@
 -- no certificate over the cuts of a list has a raw value above what a least share of them costs
 use Rattle.std.proofs.Common.{◌≡◌, ℕ, ◌+◌, ◌-◌, ◌*◌, ◌≤◌, List, [], ◌∷◌, All, Contains, length, sum_by, get_or, slice_index, sym, ap, ◌∙◌, arith, ⊎_elim, mul-le-mul_left}
-use Rattle.net_core.proofs.Library.{cases_lt, sum_by-cons, recursion_from_All, mul-sub, AllByRecursion}
+use Rattle.net_core.proofs.Library.{cases_lt, sum_by-cons, recursion_from_All, mul-sub, AllByRecursion, below-same, below-le, below-times}
 use Rattle.module_prices.specs.declared.cheapest.UnitPair.{UnitPair}
 use Rattle.plan_terms.specs.Terms.{Link, CutLine, Case, IsModule, sum_below, CertificateLine, IsCertificate, price, asked, fixed_along, given, raw_value, Violates}
-use Rattle.net_core.proofs.Sums.{below-same, below-le, below-times}
 use Rattle.plan_types.specs.declared.quality.Share.{Share}
 use Rattle.master_law.specs.LeastShares.{IsLeastShare}
 use Rattle.master_law.specs.MasterPrograms.{unit_capacities, unit_costs}

@@ -1,9 +1,8 @@
 -- a least share violates none of its cuts, and the objective row of an optimum is a least share
 use Rattle.std.proofs.Common.{◌≡◌, ℕ, ◌+◌, ◌*◌, ◌<◌, List, [], ◌∷◌, Contains, length, map, sum_by, zip, slice_index, refl, sym, ap, ◌∙◌, arith, subst, inl, unsigned_abs, ℤ, pos, ◌*ℤ◌, ◌<ℤ◌}
-use Rattle.net_core.proofs.Library.{◌∣◌, All-get_or, sum_by-cons, pos-*ℤ-pos, ints}
+use Rattle.net_core.proofs.Library.{◌∣◌, All-get_or, sum_by-cons, pos-*ℤ-pos, ints, below-first}
 use Rattle.module_prices.specs.declared.cheapest.UnitPair.{UnitPair}
 use Rattle.plan_terms.specs.Terms.{MasterColumn, Link, CutLine, sum_below, fixed_along, Violates}
-use Rattle.net_core.proofs.Sums.{below-first}
 use Rattle.plan_types.specs.declared.quality.Share.{Share}
 use Rattle.route_law.proofs.Lemmas.{sum-pos}
 use Rattle.simplex_law.specs.Terms.{dot, ColumnOf, IsOptimum}

@@ -1,6 +1,6 @@
 -- a certificate in lowest terms of which a number is too wide
 use Rattle.std.proofs.Common.{◌≡◌, ℕ, zero, suc, ◌*◌, ◌/◌, ◌<◌, ◌≤◌, ◌^◌, ◌⊎◌, List, length, sym, ap, ◌∙◌, arith, subst, inl, inr, ⊎_elim, unsigned_abs, ℤ, pos, ◌+ℤ◌, ◌*ℤ◌, ◌<ℤ◌, ◌≤ℤ◌}
-use Rattle.net_core.proofs.Library.{◌∣◌, dvd-zero, mul-div_cancel', dvd-mul_left, *ℤ_comm, *ℤ-zero, pos-*ℤ-pos, ints, unsigned_abs-mul}
+use Rattle.net_core.proofs.Library.{◌∣◌, dvd-zero, mul-div_cancel', dvd-mul_left, *ℤ_comm, *ℤ-zero, pos-*ℤ-pos, ints, unsigned_abs-mul, positive_factors}
 use Rattle.module_prices.specs.declared.cheapest.UnitPair.{UnitPair}
 use Rattle.plan_terms.specs.Terms.{MasterColumn, Link, CutLine, CertificateLine, asked, fixed_along, given}
 use Rattle.simplex_law.specs.Terms.{int_sum, dot, ColumnOf, IsSlack, IsOptimum}
@@ -11,7 +11,6 @@ use Rattle.master_law.specs.MasterPrograms.{master_bound, master_slack, column_g
 use Rattle.master_law.proofs.Certified.{given_is}
 use Rattle.master_law.proofs.Shared.{divides_common}
 use Rattle.master_law.proofs.Valued.{amount_is}
-use Rattle.net_core.proofs.Numbers.{positive_factors}
 use Rattle.checked_fraction.proofs.Products.{regroup, cancelled, size_times}
 
 over_zero : (n : ℕ) → pos 0 <ℤ pos n → 0 < n

@@ -1,6 +1,6 @@
 -- The reading of a failure list takes exactly the texts of failure lists.
 use Rattle.std.proofs.Common.{◌≡◌, ◌≢◌, ℕ, ◌<◌, ◌≤◌, Bool, true, false, cond, List, [], ◌∷◌, ◌++◌, length, get_or, All, AllPairs, Result, Ok, Err, IfOk, IfErr, refl, sym, ap, subst, ◌∙◌, append-nil, flat_map, codes}
-use Rattle.net_core.proofs.Library.{slice_get-get_or}
+use Rattle.net_core.proofs.Library.{slice_get-get_or, same_is}
 use Rattle.net_core.specs.Terms.{IsNetwork, AreStates, are_same, link_name}
 use Rattle.net_core.specs.declared.ids.LinkId.{LinkId}
 use Rattle.net_core.specs.declared.network.Link.{Link}
@@ -17,7 +17,6 @@ use Rattle.model_reader.specs.declared.failures.FailuresKind.TheVariants.{Header
 use Rattle.model_reader.specs.Failures.{IsListInForm, IsShort, SpellsFailures, failures_header, list_items, state_items, states_of}
 use Rattle.model_reader.specs.FailuresReading.{after_word, failure_list_at, failures_at, failures_of, failing_link_at, is_list, links_at, state_at, states_at}
 use Rattle.model_reader.proofs.FailureSingles.{network_differs}
-use Rattle.net_core.proofs.Checks.{same_is}
 
 -- ---- links by name
 

@@ -1,9 +1,8 @@
 -- Keys and their words.
 use Rattle.std.proofs.Common.{◌≡◌, ℕ, ◌<◌, Bool, true, false, cond, not, ◌&&◌, List, [], ◌∷◌, get_or, Option, None, Some, Result, Ok, Err, refl, sym, ap, subst, ◌∙◌, arith, ⊎_elim, option_map}
-use Rattle.net_core.proofs.Library.{list_any, cases_Bool}
+use Rattle.net_core.proofs.Library.{list_any, cases_Bool, none_passes, not_true, same_is}
 use Rattle.std.proofs.lemmas.List.Folds.{Any-from_list_any, list_any-from_Any}
 use Rattle.net_core.specs.Terms.{are_same}
-use Rattle.net_core.proofs.Checks.{none_passes, not_true, same_is}
 use Rattle.text_kit.specs.Terms.{ComeAfter}
 use Rattle.text_kit.proofs.Lemmas.{after_differ, differ_after, is_same}
 use Rattle.model_reader.specs.declared.model.ModelKey.{ModelKey}

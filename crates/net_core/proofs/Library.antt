@@ -1,4 +1,4 @@
--- The names of the standard library that proofs cite beside its Common, passed on from one place. Declares nothing.
+-- The names of the standard library that proofs cite beside its Common, and the lemmas of this crate, passed on from one place.
 pub use Rattle.std.proofs.Crossing.{crosses, send}
 pub use Rattle.std.proofs.Math.IntN.{*ℤ-zero, *ℤ_comm, pos-*ℤ-pos, zero-*ℤ}
 pub use Rattle.std.proofs.Math.Logic.{∥∥₁_elim, ∥∥₁_map}
@@ -37,3 +37,9 @@ pub use Rattle.std.specs.List.Sorted.{IsNonDecreasingBy, IsStableBy, ties}
 pub use Rattle.std.specs.Option.{ForSome, option_map_or, option_or}
 pub use Rattle.std.specs.Prelude.{⊤}
 pub use Rattle.std.specs.Thread.{IsSync}
+pub use Rattle.net_core.proofs.Accepted.{differ, new_name, states_accepted}
+pub use Rattle.net_core.proofs.Checks.{no_pairs, none_named, none_passes, not_true, same_is}
+pub use Rattle.net_core.proofs.Lists.{all_at, all_one, all_written, front_all, get_front, get_some, none_within, positive_or_none, some_same}
+pub use Rattle.net_core.proofs.Networks.{few_links, few_nodes, modules_sound}
+pub use Rattle.net_core.proofs.Numbers.{positive_divisor, positive_factors}
+pub use Rattle.net_core.proofs.Sums.{below-first, below-le, below-none, below-one, below-plus, below-same, below-swapped, below-times, paired, sums-equal, sums-le, sums-same, sums-times}

@@ -1,9 +1,8 @@
 -- from arcs to legs, and back to arcs
 use Rattle.std.proofs.Common.{◌≡◌, ℕ, ◌<◌, ◌⊎◌, inl, inr, Bool, false, cond, eqb, eqb-true, List, [], ◌∷◌, Option, None, Some, MatchOption, length, get_or, map, sum_by, ⊎_elim, refl, sym, ap, subst, ◌∙◌, arith, All, eq-eqb, ne_eqb, IsPermutation}
-use Rattle.net_core.proofs.Library.{cases_Bool, cases_lt, false≢true, length-map, All-head, All-map, All-nil, All-tail, All-weaker, All-permutation, sum_by-cons, get_or_from_slice_get, slice_get_within, ∥∥₁_elim, props, AllByRecursion, option_map_or}
+use Rattle.net_core.proofs.Library.{cases_Bool, cases_lt, false≢true, length-map, All-head, All-map, All-nil, All-tail, All-weaker, All-permutation, sum_by-cons, get_or_from_slice_get, slice_get_within, ∥∥₁_elim, props, AllByRecursion, option_map_or, sums-same}
 use Rattle.std.proofs.lemmas.List.Sorted.{length_permutation, sum_by-IsPermutation}
 use Rattle.plan_terms.specs.Terms.{LinkId, Link, HasEnds, IsLink, IsNetwork, IsPath, Leads}
-use Rattle.net_core.proofs.Sums.{sums-same}
 use Rattle.path_split.specs.declared.arc.Arc.{Arc}
 use Rattle.path_split.specs.declared.arc.PathFlow.{PathFlow}
 use Rattle.path_split.specs.declared.leg.Leg.{Leg}

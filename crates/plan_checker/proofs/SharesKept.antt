@@ -1,11 +1,10 @@
 -- what a share gives and costs, link by link
 use Rattle.std.proofs.Common.{◌≡◌, ℕ, zero, suc, ◌+◌, ◌*◌, ◌<◌, ◌⊎◌, ◌↔◌, ◌++◌, Bool, IsTrue, inl, inr, List, [], ◌∷◌, Some, All, IfOk, Result, Ok, Err, length, length-append, get_or, refl, sym, ap, subst, ◌∙◌, arith, slice_get, sum_by, ⊎_elim, ext_get_or}
-use Rattle.net_core.proofs.Library.{cases_eq, sum_by_push, get_or_from_slice_get, slice_get_within}
+use Rattle.net_core.proofs.Library.{cases_eq, sum_by_push, get_or_from_slice_get, slice_get_within, get_some}
 use Rattle.plan_terms.specs.Terms.{Case, IsModule, NoMemory, Link, Module, IsUnitPair}
 use Rattle.plan_report.specs.Terms.{Plan, Fractional, Share}
 use Rattle.plan_checker.specs.Shares.{AreCarried, GivesShare, IsShareOf, IsTight}
 use Rattle.module_prices.proofs.UnitPairs.{pair_once}
-use Rattle.net_core.proofs.Lists.{get_some}
 
 no_pair : (modules : List Module) (capacity cost : ℕ) → IsUnitPair modules capacity cost → modules ≡ [] → ⊥
 no_pair [] capacity cost pair none = let lt = pair.least.one.1 in omega (arith, lt)

@@ -1,8 +1,7 @@
 -- an imported design is sound
 use Rattle.std.proofs.Common.{◌≡◌, ◌∙◌, ℕ, ◌+◌, ◌*◌, ◌^◌, ◌<◌, ◌≤◌, ◌==◌, Bool, cond, List, [], ◌∷◌, Some, get_or, length, map, slice_get, refl, sym, ap, subst, arith, sum_by, All, filter, eq-eqb}
-use Rattle.net_core.proofs.Library.{∥∥₁_elim, props, get_or_default, All-weaker, recursion_from_All, get_or-le-sum_by, sum_by-cons, get_or_from_slice_get, slice_get-get_or, slice_get_within}
+use Rattle.net_core.proofs.Library.{∥∥₁_elim, props, get_or_default, All-weaker, recursion_from_All, get_or-le-sum_by, sum_by-cons, get_or_from_slice_get, slice_get-get_or, slice_get_within, below-le, below-one, below-same, below-swapped, sums-same}
 use Rattle.plan_terms.specs.Terms.{Demand, Flow, Routing, Case, graph_in, AreDemands, Joins, IsNetwork, sum_below, AreCounts, AreWithinLimits, capacities, total_cost, Carries, sent}
-use Rattle.net_core.proofs.Sums.{below-le, below-one, below-same, below-swapped, sums-same}
 use Rattle.plan_report.specs.Terms.{IsFlowInForm, IsRoutingInForm, known_to, Plan}
 use Rattle.lone_plan.proofs.Lemmas.{cost_low, of_list, path_in_form}
 use Rattle.flow_file.specs.declared.flow.FlowFile.{FlowFile}

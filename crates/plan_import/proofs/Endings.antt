@@ -2,7 +2,7 @@
 use Rattle.std.proofs.Common.{◌≢◌, refl, length, ⊎_elim}
 use Rattle.plan_terms.specs.Terms.{Notes, Case, AreDemands, IsNetwork, capacities}
 use Rattle.plan_report.specs.Terms.{known_to}
-use Rattle.lone_plan.specs.Terms.{IsTranscript}
+use Rattle.lone_plan.specs.Terms.{IsTranscript, plan_commands, whole_report}
 use Rattle.flow_file.specs.declared.flow.FlowFile.{FlowFile}
 use Rattle.flow_file.specs.FlowFiles.{IsFlowFile}
 use Rattle.flow_import.specs.declared.fault.ImportFault.{ImportFault}
@@ -10,7 +10,6 @@ use Rattle.flow_import.specs.declared.fault.ImportFault.TheVariants.{NoMemory}
 use Rattle.flow_import.specs.declared.imported.Imported.{Imported}
 use Rattle.flow_import.specs.Imports.{IsImportFault, IsImported}
 use Rattle.lone_plan.specs.declared.planned.PlannedReport.{PlannedReport}
-use Rattle.lone_plan.specs.LonePlans.{plan_commands, whole_report}
 use Rattle.lone_plan.proofs.Accepted.{redesigns_are_accepted}
 use Rattle.plan_import.specs.ImportedPlans.{HasImportFault, IsImportedReport, with_design}
 use Rattle.plan_import.proofs.Designs.{sound_design}

@@ -2,15 +2,13 @@
 use Rattle.std.specs.Prelude.{◌≡◌, ◌≢◌}
 use Rattle.plan_terms.specs.Terms.{Notes, Case, capacities}
 use Rattle.plan_types.specs.declared.report.Report.{Report}
-use Rattle.lone_plan.specs.Terms.{IsTranscript}
+use Rattle.lone_plan.specs.Terms.{IsTranscript, IsAcceptable, IsSeparationOf, IsSoundDesign, plan_commands, redesigned, whole_report}
 use Rattle.flow_file.specs.declared.flow.FlowFile.{FlowFile}
 use Rattle.flow_import.specs.declared.fault.ImportFault.{ImportFault}
 use Rattle.flow_import.specs.declared.fault.ImportFault.TheVariants.{NoMemory}
 use Rattle.flow_import.specs.declared.imported.Imported.{Imported}
 use Rattle.flow_import.specs.Imports.{IsFirstStateFault, IsImported}
 use Rattle.lone_plan.specs.declared.planned.PlannedReport.{PlannedReport}
-use Rattle.lone_plan.specs.Laws.{IsAcceptable}
-use Rattle.lone_plan.specs.LonePlans.{IsSeparationOf, IsSoundDesign, plan_commands, redesigned, whole_report}
 use Rattle.plan_import.specs.declared.ending.ImportEnding.{ImportEnding}
 use Rattle.plan_import.specs.declared.ending.ImportEnding.TheVariants as ending
 

@@ -1,9 +1,8 @@
 -- counts that cover a share carry what the share carries
 use Rattle.std.proofs.Common.{◌≡◌, ℕ, zero, suc, ◌+◌, ◌-◌, ◌*◌, ◌^◌, ◌<◌, ◌≤◌, ◌⊎◌, List, [], ◌∷◌, true, false, cond, Some, length, map, sum_by, slice_get, slice_index, get_or, refl, sym, ap, ◌∙◌, arith, subst, ⊎_elim, mul-le-mul_left}
-use Rattle.net_core.proofs.Library.{cases_lt, get_or-map, length-map, sum_by-cons, recursion_from_All, slice_get-get_or, slice_get_within, AllByRecursion}
+use Rattle.net_core.proofs.Library.{cases_lt, get_or-map, length-map, sum_by-cons, recursion_from_All, slice_get-get_or, slice_get_within, AllByRecursion, below-first, below-same, below-times}
 use Rattle.module_prices.specs.declared.cheapest.UnitPair.{UnitPair}
 use Rattle.plan_terms.specs.Terms.{Demand, Link, Flow, Routing, graph_in, Joins, names_link, sum_below, capacities, modules_capacity, sent, load, IsFlow, Carries}
-use Rattle.net_core.proofs.Sums.{below-first, below-same, below-times}
 use Rattle.plan_terms.proofs.Lemmas.{fixed_of, all_carried, all_weaker}
 use Rattle.master_law.specs.Terms.{unit_capacities, share_capacities}
 use Rattle.plan_law.specs.Laws.{CoversCarry}

@@ -1,6 +1,6 @@
 -- the definitions on a network of one link, worked out by hand
 use Rattle.std.proofs.Common.{◌≡◌, ◌≢◌, ℕ, zero, suc, ◌+◌, ◌*◌, ◌<◌, ◌≤◌, ◌⊎◌, List, [], ◌∷◌, Some, None, Contains, false, ◌||◌, cond, length, get_or, slice_get, slice_index, refl, sym, ap, arith, subst, inl, inr, ne_eqb}
-use Rattle.net_core.proofs.Library.{eq-one_of_dvd-one}
+use Rattle.net_core.proofs.Library.{eq-one_of_dvd-one, all_one}
 use Rattle.module_prices.specs.declared.cheapest.UnitPair.{UnitPair}
 use Rattle.plan_terms.specs.Terms.{Demand, LinkId, Link, Module, Three, CutLine, Flow, Routing, Case, graph_in, Graph, Joins, Survives, IsCut, link_cost, Covers, Reaches, Carries, IsFlow, sent, load, Keeps, AreOpening, IsDistance, IsPath, length_of, ArePriceLengths, HasLeastUnitCost, IsPriceLength, IsUnitPair}
 use Rattle.plan_types.specs.declared.certificate.CertLine.{CertLine}
@@ -14,7 +14,6 @@ use Rattle.plan_law.specs.LoosePlans.{IsWorkedPlan}
 use Rattle.plan_law.specs.TightPlans.{CoversShare, IsTightPlan}
 use Rattle.plan_law.specs.WorkedLists.{HasCut, HasOpeningOf, IsBeginning, IsOpeningCut, IsWorkedList, Lacks}
 use Rattle.plan_law.proofs.Rounds.{begun_worked}
-use Rattle.net_core.proofs.Lists.{all_one}
 
 -- ---- a link between two nodes, with a module of 10000 for 5000, and a demand of 12000 across it
 

@@ -3,9 +3,8 @@ use Rattle.std.proofs.Common.{◌≡◌, ◌≢◌, ℕ, ◌+◌, ◌<◌, ◌�
 use Rattle.net_core.proofs.Library.{cases_lt, map-append, All-head, All-nil, All-push, All-tail, All-weaker, all_pairs_push}
 use Rattle.std.proofs.lemmas.List.{append-nil, append_assoc, length-append, length-map}
 use Rattle.plan_terms.specs.Terms.{Entry, Caps, CutLine, Routing, Case, graph_in, HasShortLengths}
-use Rattle.separator.specs.Terms.{IsRouted}
+use Rattle.separator.specs.Terms.{IsRouted, AreStateAnswers, AreViolatedStates, IsAnswerOf, IsSeparatingCut, cut_answered, cuts_answered}
 use Rattle.cut_pool.specs.Terms.{cut_of_line}
-use Rattle.separator.specs.Separators.{AreStateAnswers, AreViolatedStates, IsAnswerOf, IsSeparatingCut, cut_answered, cuts_answered}
 use Rattle.separator.specs.declared.answers.Separated.{Separated}
 use Rattle.separator.specs.declared.answers.Separated.TheVariants.{Routed, Violated, Wide}
 use Rattle.separator.specs.declared.answers.StateAnswer.{StateAnswer}

@@ -1,11 +1,10 @@
 -- cuts of the case have bounds of their own, and the modules of a network are sound
 use Rattle.std.proofs.Common.{◌≡◌, ⊎_elim, List, [], All, get_or, subst, sym, arith}
-use Rattle.net_core.proofs.Library.{◌∣◌, ∥∥₁_elim, props, All-weaker, dvd-zero}
+use Rattle.net_core.proofs.Library.{◌∣◌, ∥∥₁_elim, props, All-weaker, dvd-zero, positive_or_none}
 use Rattle.plan_terms.specs.Terms.{Entry, Link, CutLine, Case, IsCut}
 use Rattle.metric_cut.specs.Bounded.{HaveBound}
 use Rattle.plan_rounds.specs.inner.Listing.{AreListed}
 use Rattle.plan_rounds.specs.declared.candidates.Candidates.{Candidates}
-use Rattle.net_core.proofs.Lists.{positive_or_none}
 
 pub has_bound : (p : Case) (cut : CutLine) → ∥ IsCut p cut ∥₁ → HaveBound p.links cut.lengths
 has_bound p cut told = record {

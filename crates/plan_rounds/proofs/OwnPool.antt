@@ -1,6 +1,6 @@
 -- a separator that alone writes its history: what it pools is a worked list
 use Rattle.std.proofs.Common.{◌≡◌, ◌≢◌, ℕ, zero, suc, ◌+◌, ◌<◌, ◌≤◌, ◌⊎◌, inl, inr, ⊎_elim, List, [], ◌∷◌, ◌++◌, All, AllPairs, Contains, get_or, length, map, drop, refl, sym, ap, subst, ◌∙◌, arith, append-nil, get_or-append-add, length-append}
-use Rattle.net_core.proofs.Library.{take-length, get_or_append_left, get_or-map, length-map, map-append, nil_from_length, All-cons, All-head, All-nil, All-tail, All-weaker, get_or_from_slice_get, slice_get_within}
+use Rattle.net_core.proofs.Library.{take-length, get_or_append_left, get_or-map, length-map, map-append, nil_from_length, All-cons, All-head, All-nil, All-tail, All-weaker, get_or_from_slice_get, slice_get_within, front_all}
 use Rattle.plan_terms.specs.Terms.{Demand, Entry, Edited, Pooled, Link, Network, Caps, CutLine, States, Case, case, IsCut, MasterColumn}
 use Rattle.module_prices.specs.declared.cheapest.UnitPair.{UnitPair}
 use Rattle.plan_types.specs.declared.quality.Share.{Share}
@@ -14,14 +14,11 @@ use Rattle.plan_law.specs.WorkedLists.{HasCut, IsFoundCut, IsRound, IsWorkedList
 use Rattle.plan_law.proofs.Rounds.{worked_on}
 use Rattle.turn_lock.specs.Passes.{Seen}
 use Rattle.separator.specs.Separators.{IsLineAt, IsCutEntry, IsFullHistory, IsPartOf, IsSeenHistory, IsSeparatingCut, IsSpotIn, SeesMore, SeparatesAt, cuts_since}
-use Rattle.separator.proofs.Answering.{line_is}
+use Rattle.separator.proofs.Lemmas.{line_is, cuts_both, part_few}
 use Rattle.plan_rounds.specs.inner.Alone.{HasSameCuts, IsAlone, IsPoolOfList, PoolsOpening, Within}
 use Rattle.plan_rounds.specs.inner.Listing.{PutsLine}
 use Rattle.plan_rounds.specs.declared.candidates.Candidates.{Candidates}
-use Rattle.separator.proofs.Pooling.{cuts_both}
-use Rattle.separator.proofs.Seeing.{part_few}
 use Rattle.plan_rounds.proofs.Seeing.{cuts_differ}
-use Rattle.net_core.proofs.Lists.{front_all}
 
 -- ---- what is the separator's own
 

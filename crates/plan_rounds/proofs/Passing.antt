@@ -1,7 +1,6 @@
 -- rounds at least shares whose units are too wide
 use Rattle.std.proofs.Common.{◌≡◌, ℕ, zero, suc, ◌+◌, ◌-◌, ◌*◌, ◌<◌, ◌≤◌, ⊎_elim, Bool, true, false, List, [], ◌∷◌, ◌++◌, All, Option, Some, None, length, mul-pos, take, refl, sym, ap, subst, ◌∙◌, arith, append-nil, append_assoc, length-append, length-take}
-use Rattle.net_core.proofs.Library.{length-map}
-use Rattle.std.proofs.Math.Seq.{take-append_seam}
+use Rattle.net_core.proofs.Library.{length-map, take-append_seam}
 use Rattle.plan_terms.specs.Terms.{Caps, CutLine, Entry, Route, Master, Case, AreDemands, IsModule, IsNetwork, IsCut, Violates}
 use Rattle.module_prices.specs.declared.cheapest.UnitPair.{UnitPair}
 use Rattle.plan_types.specs.declared.quality.Share.{Share}

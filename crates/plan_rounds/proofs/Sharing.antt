@@ -1,13 +1,12 @@
 -- the capacities of a share, over a common divisor of theirs
 use Rattle.std.proofs.Common.{◌≡◌, ℕ, zero, suc, ◌+◌, ◌*◌, ◌/◌, ◌<◌, List, [], ◌∷◌, ◌++◌, All, get_or, length, map, take, zip, refl, sym, ap, subst, ◌∙◌, arith}
-use Rattle.net_core.proofs.Library.{IsGcd, ◌∣◌, get_or-map, length-map, map-append, take_more, All-push, get_or-zip, length-zip, dvd_trans, mul-div_cancel'}
+use Rattle.net_core.proofs.Library.{IsGcd, ◌∣◌, get_or-map, length-map, map-append, take_more, All-push, get_or-zip, length-zip, dvd_trans, mul-div_cancel', positive_divisor}
 use Rattle.plan_terms.specs.Terms.{Caps, Link}
 use Rattle.module_prices.specs.declared.cheapest.UnitPair.{UnitPair}
 use Rattle.plan_types.specs.declared.quality.Share.{Share}
 use Rattle.master_law.specs.Terms.{share_capacities, share_caps}
 use Rattle.plan_rounds.specs.inner.Sharing.{DividesAll, IsDividedCaps, IsDividedShare}
 use Rattle.plan_rounds.specs.declared.shares.ShareCaps.{ShareCaps}
-use Rattle.net_core.proofs.Numbers.{positive_divisor}
 
 -- the capacity of one link more
 pub number_more : (links : List Link) (pairs : List UnitPair) (share : Share) (e : ℕ) (l : Link) (p : UnitPair) (u : ℕ) → length pairs ≡ length links → length share.units ≡ length links → e < length links

@@ -10,15 +10,13 @@ use Rattle.plan_types.specs.declared.quality.Quality.TheVariants.{Tight, Loose}
 use Rattle.plan_types.specs.declared.quality.Share.{Share}
 use Rattle.route_law.specs.Terms.{flows_times, IsRouteEvidence}
 use Rattle.route_law.proofs.Lemmas.{divided_are_wide, divided_are_carried, divided_are_violated}
-use Rattle.separator.specs.Terms.{IsEvidenceHere, IsRouted}
+use Rattle.separator.specs.Terms.{IsEvidenceHere, IsRouted, IsSeparatingCut}
 use Rattle.master_law.specs.Terms.{IsLeastShare, IsMasterEvidence, IsSameCut, AreUnitPairs, share_caps, share_cost}
 use Rattle.master_bound.specs.Answers.{IsBestOf, IsEvidenceOf}
 use Rattle.master_bound.specs.declared.answer.Best.{Best}
-use Rattle.plan_law.specs.TightPlans.{IsProperShare}
-use Rattle.plan_law.specs.WorkedLists.{Round, IsBeginning, IsFoundCut, IsRound, IsWorkedList}
+use Rattle.plan_law.specs.Terms.{IsProperShare, Round, IsBeginning, IsFoundCut, IsRound, IsWorkedList}
 use Rattle.plan_law.proofs.Pairs.{pairs_append}
 use Rattle.plan_law.proofs.Rounds.{begun_worked, found_is_new, short_round, worked_on}
-use Rattle.separator.specs.Separators.{IsSeparatingCut}
 use Rattle.plan_rounds.specs.WorkedRounds.{AreWorkedRounds, EndsBy, IsBestAt, IsBestOfLast, IsCarriedOrWide, StandAtSpots, AreCarriedOrWide}
 use Rattle.plan_rounds.specs.inner.Answered.{AreSorted}
 use Rattle.plan_rounds.specs.inner.Listing.{AreListed}

@@ -1,6 +1,6 @@
 -- routings and evidence at capacities over a divisor, at the capacities themselves
 use Rattle.std.proofs.Common.{◌≡◌, ℕ, pos, ◌+◌, ◌*◌, ◌/◌, ◌^◌, ◌<◌, ◌≤◌, ◌==◌, ⊎_elim, if◌then◌else◌, List, [], ◌∷◌, ◌++◌, All, Some, get_or, length, map, slice_get, slice_index, refl, sym, ap, subst, ◌∙◌, arith, eq-eqb, append_assoc, length-append, mul-le-mul_right}
-use Rattle.net_core.proofs.Library.{IsGcd, ◌∣◌, get_or-map, length-map, get_or-le-sum_by, dvd_trans, get_or_from_slice_get, slice_get-get_or, slice_get_within, dvd-mul_left_of_dvd, dvd_of_mul-dvd-mul_left, eq-one_of_dvd-one, mul-div_cancel', mul-dvd-mul_left}
+use Rattle.net_core.proofs.Library.{IsGcd, ◌∣◌, get_or-map, length-map, get_or-le-sum_by, dvd_trans, get_or_from_slice_get, slice_get-get_or, slice_get_within, dvd-mul_left_of_dvd, dvd_of_mul-dvd-mul_left, eq-one_of_dvd-one, mul-div_cancel', mul-dvd-mul_left, positive_divisor}
 use Rattle.plan_terms.specs.Terms.{Evidence, Route, Master, RouteColumn, DemandSlack, LinkSlack, Number, Demand, Caps, Flow, Routing, Case, graph_in, Graph, Joins, Carries, sent}
 use Rattle.plan_terms.proofs.Lemmas.{product_below}
 use Rattle.simplex_law.specs.Terms.{IsWide}
@@ -11,7 +11,6 @@ use Rattle.separator.specs.Terms.{IsRouted}
 use Rattle.plan_rounds.specs.inner.Answered.{AreRoutedStates, IsEvidenceOfState}
 use Rattle.plan_rounds.specs.inner.Sharing.{AreSlackNames, AreUndivided, HasWideNeed, IsUndivided, at_caps}
 use Rattle.separator.proofs.Seeing.{get_more}
-use Rattle.net_core.proofs.Numbers.{positive_divisor}
 
 -- ---- flows are small where needs are
 

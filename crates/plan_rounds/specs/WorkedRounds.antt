@@ -9,15 +9,13 @@ use Rattle.plan_types.specs.declared.quality.Fractional.{Fractional}
 use Rattle.plan_types.specs.declared.quality.Quality.{Quality}
 use Rattle.plan_types.specs.declared.quality.Quality.TheVariants.{Tight, Loose}
 use Rattle.route_law.specs.Terms.{IsRouteEvidence}
-use Rattle.separator.specs.Terms.{IsRouted}
+use Rattle.separator.specs.Terms.{IsRouted, IsSpotIn}
 use Rattle.cut_pool.specs.Terms.{cut_of_line, cuts_of}
 use Rattle.master_law.specs.Terms.{IsLeastShare, IsMasterEvidence, share_caps, share_cost}
 use Rattle.master_bound.specs.Answers.{IsBestOf}
 use Rattle.master_bound.specs.declared.answer.Best.{Best}
-use Rattle.plan_law.specs.TightPlans.{IsProperShare}
-use Rattle.plan_law.specs.WorkedLists.{Round, after_rounds, IsFoundCut, IsWorkedList}
+use Rattle.plan_law.specs.Terms.{IsProperShare, Round, after_rounds, IsFoundCut, IsWorkedList}
 use Rattle.turn_lock.specs.Passes.{Seen}
-use Rattle.separator.specs.Separators.{IsSpotIn}
 use Rattle.plan_rounds.specs.declared.rounds.Worked.{Worked}
 
 -- ---- cuts and their spots

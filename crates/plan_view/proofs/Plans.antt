@@ -1,12 +1,9 @@
 -- what is known of the routings of a sound plan
 use Rattle.std.proofs.Common.{◌≡◌, ℕ, ◌+◌, ◌*◌, ◌^◌, ◌<◌, ◌≤◌, ◌==◌, ◌&&◌, Bool, true, false, if◌then◌else◌, List, [], All, None, zip, get_or, length, sym, ap, ◌∙◌, subst, arith, slice_index, ⊎_elim, mul-le-mul, eq-eqb, ne_eqb}
 use Rattle.std.proofs.lemmas.List.Sums.{sum_by-le-sum_by}
-use Rattle.std.specs.Cmp.Lexicographic.{pointwise}
-use Rattle.net_core.proofs.Library.{cases_eq, cases_lt, get_or-map, get_or_default, get_or-zip, get_or_past, length-zip, props, slice_get-get_or, ∥∥₁_elim}
-use Rattle.net_core.proofs.Networks.{modules_sound}
+use Rattle.net_core.proofs.Library.{cases_eq, cases_lt, get_or-map, get_or_default, get_or-zip, get_or_past, length-zip, props, slice_get-get_or, ∥∥₁_elim, pointwise, modules_sound, all_at}
 use Rattle.net_core.specs.States.{IsStateList}
 use Rattle.module_choice.proofs.Pairs.{capacities_long, counts_long, counts_shape}
-use Rattle.net_core.proofs.Lists.{all_at}
 use Rattle.plan_terms.specs.Terms.{AreDemands, Case, Carries, Flow, IsDemand, IsFlow, IsModule, IsNetwork, Joins, Link, Listed, Routing, capacities, graph_in, load, modules_capacity, raw_value, sent}
 use Rattle.plan_types.specs.Terms.{lines_of_certificate}
 use Rattle.plan_types.specs.declared.plan.Plan.{Plan}

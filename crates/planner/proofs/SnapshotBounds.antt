@@ -6,13 +6,12 @@ use Rattle.plan_terms.proofs.Lemmas.{bound_same}
 use Rattle.plan_types.specs.Terms.{lines_of_certificate}
 use Rattle.plan_report.specs.Terms.{CertLine, Spot, Pool, Local}
 use Rattle.cut_pool.specs.Terms.{cut_of_line, cuts_of}
-use Rattle.plan_rounds.specs.Terms.{Best, IsFullHistory, IsSpotIn}
+use Rattle.plan_rounds.specs.Terms.{Best, IsFullHistory, IsSpotIn, AreWorkedRounds, EndsBy, IsBestAt, IsBestOfLast}
 use Rattle.master_law.specs.Terms.{share_cost}
 use Rattle.master_law.proofs.Greatest.{greatest_raw}
 use Rattle.master_law.proofs.Own.{bound_rises}
 use Rattle.plan_law.specs.WorkedLists.{HasCut, Round, after_rounds}
 use Rattle.plan_law.proofs.Rounds.{worked_cuts}
-use Rattle.plan_rounds.specs.WorkedRounds.{AreWorkedRounds, EndsBy, IsBestAt, IsBestOfLast}
 use Rattle.plan_rounds.specs.declared.rounds.Worked.{Worked}
 use Rattle.planner.specs.SnapshotPlans.{AreHeld}
 use Rattle.planner.specs.SoundPlans.{AreOpeningAtMost, IsAboveOwnBounds, IsOwnAtMost}

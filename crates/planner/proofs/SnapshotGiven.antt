@@ -6,12 +6,11 @@ use Rattle.plan_types.specs.declared.plan.Plan.{Plan}
 use Rattle.cut_pool.specs.Terms.{cut_of_line, cuts_of, IsSnapshotOf, opening_case}
 use Rattle.cut_pool.specs.declared.board.Board.{Board}
 use Rattle.cut_pool.specs.declared.snapshot.Snapshot.{Snapshot}
-use Rattle.plan_rounds.specs.WorkedRounds.{AreWorkedRounds, IsPoolOf}
 use Rattle.plan_rounds.specs.declared.rounds.Worked.{Worked}
 use Rattle.plan_rounds.proofs.Rights.{right_low}
 use Rattle.share_covers.specs.declared.choice.Chosen.{Chosen}
 use Rattle.turn_lock.specs.Passes.{Seen}
-use Rattle.plan_rounds.specs.Terms.{IsSeenHistory}
+use Rattle.plan_rounds.specs.Terms.{IsSeenHistory, AreWorkedRounds, IsPoolOf}
 use Rattle.planner.specs.SnapshotPlans.{IsSnapshotIn, IsSnapshotPlan}
 use Rattle.planner.specs.declared.own_bound.CertifiedBound.{CertifiedBound}
 use Rattle.planner.specs.inner.Candidates.{HaveBounds}

@@ -5,12 +5,9 @@ use Rattle.plan_terms.specs.Terms.{Evidence, Route, Master, RouteColumn, WideKin
 use Rattle.module_prices.specs.declared.cheapest.UnitPair.{UnitPair}
 use Rattle.plan_report.specs.Terms.{known_to, AreCapsInForm, IsEvidenceInForm, IsQualityInForm, IsShareInForm, Plan, Wide, Cuts, Fractional, Quality, Tight, Loose, Share}
 use Rattle.route_law.specs.Terms.{IsRouteEvidence}
-use Rattle.plan_rounds.specs.Terms.{IsBestOf, Best}
+use Rattle.plan_rounds.specs.Terms.{IsBestOf, Best, EndsBy, IsBestAt, IsBestOfLast, IsCarriedAt, IsWideAt}
 use Rattle.master_law.specs.Terms.{IsLeastShare, share_caps, share_cost}
-use Rattle.plan_law.specs.LoosePlans.{HasQuality, IsLooseByWidth, IsWideInState, KeepsUp}
-use Rattle.plan_law.specs.TightPlans.{AreCarriedByShare, CostsAtMostCover, CostsRawValue, IsProperShare}
-use Rattle.plan_law.specs.WorkedLists.{Round, after_rounds, IsWorkedList}
-use Rattle.plan_rounds.specs.WorkedRounds.{EndsBy, IsBestAt, IsBestOfLast, IsCarriedAt, IsWideAt}
+use Rattle.plan_law.specs.Terms.{HasQuality, IsLooseByWidth, IsWideInState, KeepsUp, AreCarriedByShare, CostsAtMostCover, CostsRawValue, IsProperShare, Round, after_rounds, IsWorkedList}
 use Rattle.share_covers.specs.Choices.{IsQualityAfter, IsQualityOfShare, IsWideAtCovers}
 use Rattle.share_covers.specs.declared.choice.Chosen.{Chosen}
 use Rattle.planner.specs.inner.Finishing.{IsShareFor}

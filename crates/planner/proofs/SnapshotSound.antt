@@ -8,9 +8,8 @@ use Rattle.plan_report.specs.Terms.{known_to, IsPlanInForm, IsQualityInForm, IsR
 use Rattle.route_law.specs.Terms.{IsLowestRouting}
 use Rattle.cut_pool.specs.declared.snapshot.Snapshot.{Snapshot}
 use Rattle.module_choice.specs.declared.fallback.Fallback.{Fallback}
-use Rattle.plan_rounds.specs.Terms.{Best}
+use Rattle.plan_rounds.specs.Terms.{Best, AreWorkedRounds}
 use Rattle.plan_law.specs.LoosePlans.{HasQuality}
-use Rattle.plan_rounds.specs.WorkedRounds.{AreWorkedRounds}
 use Rattle.plan_rounds.specs.declared.rounds.Worked.{Worked}
 use Rattle.share_covers.specs.InstalledRoutes.{installed_caps}
 use Rattle.share_covers.specs.declared.choice.Chosen.{Chosen}

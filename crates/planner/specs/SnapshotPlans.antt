@@ -6,9 +6,8 @@ use Rattle.plan_report.specs.Terms.{known_to, IsPlanInForm, Plan}
 use Rattle.cut_pool.specs.Terms.{cut_of_line, cuts_of}
 use Rattle.cut_pool.specs.declared.snapshot.Snapshot.{Snapshot}
 use Rattle.plan_law.specs.LoosePlans.{IsWorkedPlan}
-use Rattle.plan_rounds.specs.WorkedRounds.{IsWorkedAlone}
 use Rattle.turn_lock.specs.Passes.{Seen}
-use Rattle.plan_rounds.specs.Terms.{IsFullHistory, IsSpotIn}
+use Rattle.plan_rounds.specs.Terms.{IsFullHistory, IsSpotIn, IsWorkedAlone}
 use Rattle.planner.specs.SoundPlans.{IsAboveOwnBounds, IsBelowFallback, IsLowestPlan}
 use Rattle.planner.specs.declared.answer.PlanAnswer.{PlanAnswer}
 use Rattle.planner.specs.declared.answer.PlanAnswer.TheVariants.{Planned, NotSurvivable}

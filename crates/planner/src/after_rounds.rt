@@ -1,7 +1,6 @@
 ghost use Rattle.std.specs.Prelude.{◌≡◌, ◌≤◌, IfOk, IfSome, OnOk, length};
 ghost use Rattle.plan_terms.specs.Terms.{case_of, IsSurvivable};
-ghost use Rattle.plan_rounds.specs.Terms.{SeesMore};
-ghost use Rattle.plan_rounds.specs.WorkedRounds.{IsPoolOf, IsWorkedAlone};
+ghost use Rattle.plan_rounds.specs.Terms.{SeesMore, IsPoolOf, IsWorkedAlone};
 ghost use Rattle.planner.specs.inner.Candidates.{HaveBounds};
 ghost use Rattle.planner.specs.inner.Finishing.{AreAfterRounds, AreMultipliersOf, AreWorkedOut, IsChosenAfter, IsShareFor};
 

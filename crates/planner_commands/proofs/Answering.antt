@@ -4,9 +4,7 @@ use Rattle.plan_terms.specs.Terms.{Problem, Notes, Case, case}
 use Rattle.outside_io.specs.Outside.{Files}
 use Rattle.planner_commands.specs.Run.{Ends}
 use Rattle.planner_commands.specs.inner.Steps.{HasCause}
-use Rattle.input_files.specs.InputWords.{PlanWords}
-use Rattle.input_files.specs.Inputs.{EndsAfterInputs, HasInputs}
-use Rattle.input_files.specs.Stops.{Stops}
+use Rattle.input_files.specs.Terms.{PlanWords, EndsAfterInputs, HasInputs, Stops}
 use Rattle.input_files.specs.declared.stop.Stop.{Stop}
 use Rattle.input_files.proofs.Stopping.{stop_map}
 use Rattle.check_answers.specs.declared.answer.Answer.{Answer}

@@ -2,8 +2,7 @@ ghost use Rattle.std.specs.Prelude.{◌≡◌, ◌≤◌, ◌<◌, ◌^◌, ◌=
 ghost use Rattle.planner_commands.specs.Commands as commands;
 ghost use Rattle.planner_commands.specs.Commands.{AreFiles, AreFourFiles, AreProof, AreSample, IsCommand, IsNamed, IsNumberWord, MayBeFiles, may_be_file};
 ghost use Rattle.planner_commands.specs.inner.Steps.{asked_command};
-ghost use Rattle.input_files.specs.InputWords.{PlanWords};
-ghost use Rattle.input_files.specs.Stops.{named};
+ghost use Rattle.input_files.specs.Terms.{PlanWords, named};
 
 use crate::words::{Command, FourFiles, ProofWords, SampleWords};
 use input_files::{DEFAULT, PlanFiles};

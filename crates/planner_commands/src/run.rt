@@ -5,9 +5,8 @@ ghost use Rattle.planner_commands.specs.Commands as commands;
 ghost use Rattle.planner_commands.specs.Commands.{usage};
 ghost use Rattle.command_answers.specs.Answers.{IsSummary, sample_case};
 ghost use Rattle.planner_commands.specs.Run.{Ends, EndsCheck, EndsCommand, PutsText};
-ghost use Rattle.input_files.specs.Shelves.{KeepsShelf};
+ghost use Rattle.input_files.specs.Terms.{KeepsShelf, named};
 ghost use Rattle.planner_commands.specs.inner.Steps.{HasCause};
-ghost use Rattle.input_files.specs.Stops.{named};
 ghost use Rattle.check_answers.specs.declared.status.Status.{Status};
 
 use crate::command::command_of;

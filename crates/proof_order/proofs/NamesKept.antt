@@ -1,7 +1,6 @@
 -- what an entry's index names, its place in the order names
 use Rattle.std.proofs.Common.{◌≡◌, ℕ, zero, suc, ◌+◌, ◌-◌, ◌<◌, ◌≤◌, ◌^◌, inl, inr, Bool, true, false, List, [], ◌∷◌, ◌++◌, Option, None, Some, length, map, slice_get, if◌then◌else◌, refl, ap, subst, sym, ◌∙◌, arith}
-use Rattle.std.specs.Option.{option_map_or}
-use Rattle.net_core.proofs.Library.{All-map, length-map, slice_get_within}
+use Rattle.net_core.proofs.Library.{All-map, length-map, slice_get_within, option_map_or}
 use Rattle.plan_terms.specs.Terms.{Case, CutLine}
 use Rattle.line_check.specs.Terms.{AreNamedBy, WeightedLine, IsMadeOf, Naming, Source, names_among, sources_of, Multiplier}
 use Rattle.tree_check.specs.Terms.{Inequality, Line, Divided, Table, Plain, Failing}

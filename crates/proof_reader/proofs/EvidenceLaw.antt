@@ -10,8 +10,7 @@ use Rattle.text_kit.proofs.Spelled.{Lawful}
 use Rattle.report_words.specs.declared.fault.ReportKind.{ReportKind}
 use Rattle.report_words.proofs.Lemmas.{AreApart}
 use Rattle.report_parts.specs.ReadingQuality.{evidence_at, quality_at, too_wide_at}
-use Rattle.report_parts.proofs.QualityLaws.{quality_law}
-use Rattle.report_parts.proofs.RoutingLaws.{AreLinksApart}
+use Rattle.report_parts.proofs.Lemmas.{quality_law, AreLinksApart}
 
 wide_only : (q : Read ReportKind Evidence) (e : Evidence) (rest : Text) → after q (λ x. give {K = ReportKind} (Loose (Wide x))) ≡ Ok (Loose (Wide e), rest) → q ≡ Ok (e, rest)
 wide_only (Ok x) e rest h =

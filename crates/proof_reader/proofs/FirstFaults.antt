@@ -5,8 +5,7 @@ use Rattle.plan_terms.specs.Terms.{Demand}
 use Rattle.plan_report.specs.Terms.{KnownNames}
 use Rattle.snd_tokens.specs.Terms.{Text, WordAt, OpenAt, CloseAt, EndAt, run_length}
 use Rattle.text_kit.specs.Terms.{Read, place}
-use Rattle.text_kit.proofs.Lemmas.{Same, IsOnline}
-use Rattle.text_kit.proofs.Agreeing.{take_less}
+use Rattle.text_kit.proofs.Lemmas.{Same, IsOnline, take_less}
 use Rattle.report_words.specs.declared.fault.ReportKind.{ReportKind}
 use Rattle.report_words.specs.declared.fault.ReportKind.TheVariants.{Token, Ended, Limit}
 use Rattle.tree_check.specs.declared.proof.Verdict.{Verdict}

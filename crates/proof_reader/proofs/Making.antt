@@ -3,9 +3,8 @@ use Rattle.std.proofs.Common.{◌≡◌, List, [], ◌++◌, Ok, Err, refl, sym,
 use Rattle.snd_tokens.specs.Terms.{Text}
 use Rattle.text_kit.specs.Terms.{Begins, Item, Read, Reading, after, ◌>>=◌, end_at, give}
 use Rattle.text_kit.proofs.Beginnings.{AnyText, IsEnd}
-use Rattle.text_kit.proofs.Lawful.{lawful_end}
 use Rattle.text_kit.proofs.Spelled.{Lawful}
-use Rattle.text_kit.proofs.Lemmas.{Spelled, law_spelled, ok_parts, spelled_as, spelled_law, spelled_then}
+use Rattle.text_kit.proofs.Lemmas.{Spelled, law_spelled, ok_parts, spelled_as, spelled_law, spelled_then, lawful_end}
 use Rattle.report_words.proofs.Making.{Made, MadeOf}
 
 -- nothing further, up to the end of the line

@@ -5,9 +5,7 @@ use Rattle.net_core.proofs.Library.{prefix_len, prefix_len-le-length}
 use Rattle.net_core.specs.Terms.{is_space}
 use Rattle.snd_tokens.specs.Terms.{Text, WordAt, OpenAt, CloseAt, EndAt, line_length, text_from}
 use Rattle.text_kit.specs.Places.{place}
-use Rattle.text_kit.proofs.Agreeing.{run_same, take_less}
-use Rattle.text_kit.proofs.Alike.{Rises, past}
-use Rattle.text_kit.proofs.Rising.{file_rises}
+use Rattle.text_kit.proofs.Lemmas.{run_same, take_less, Rises, past, file_rises}
 use Rattle.proof_reader.specs.CommentTexts.{Comments, CommentAt, OtherAt, NoneAt, comments_from}
 use Rattle.proof_reader.proofs.Scanning.{comments_end, comments_hash, comments_other, comments_space}
 

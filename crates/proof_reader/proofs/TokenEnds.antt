@@ -7,8 +7,7 @@ use Rattle.snd_tokens.specs.declared.token.Token.{Token}
 use Rattle.snd_tokens.specs.declared.token.TokenKind.TheVariants as kinds
 use Rattle.snd_tokens.specs.Terms.{Text, WordAt, OpenAt, CloseAt, EndAt, begun, extent, run_length, starts_token, text_from, text_of, token_bytes, token_of, tokens_from, tokens_past}
 use Rattle.text_kit.specs.Places.{EndsBefore, place}
-use Rattle.text_kit.proofs.Agreeing.{files_agree}
-use Rattle.text_kit.proofs.Alike.{Same, agree_same, past}
+use Rattle.text_kit.proofs.Lemmas.{files_agree, Same, agree_same, past}
 use Rattle.proof_reader.proofs.Places.{end_same, line_after, line_end, line_rises, line_text, run_take, take_take}
 
 end_place : (c p : ℕ) → place (past c (EndAt p)) ≡ p

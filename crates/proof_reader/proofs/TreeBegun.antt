@@ -1,12 +1,10 @@
 -- where a tree is spelled, a comment begins as one of its lines
 use Rattle.std.proofs.Common.{◌≡◌, ◌||◌, Bool, true, false, ℕ, List, [], ◌∷◌, ◌++◌, codes, map, zip, length, refl, subst, sym}
-use Rattle.std.specs.List.{range_with_len}
-use Rattle.net_core.proofs.Library.{false≢true}
+use Rattle.net_core.proofs.Library.{false≢true, range_with_len}
 use Rattle.plan_terms.specs.Terms.{Demand, Places}
 use Rattle.plan_report.specs.Terms.{KnownNames}
 use Rattle.snd_tokens.specs.Terms.{Text, WordAt, OpenAt, CloseAt, EndAt}
-use Rattle.text_kit.specs.Terms.{Item, Money, Opening, Closing, Verbatim}
-use Rattle.text_kit.specs.Items.{IsMadeOf}
+use Rattle.text_kit.specs.Terms.{Item, Money, Opening, Closing, Verbatim, IsMadeOf}
 use Rattle.tree_check.specs.declared.proof.Verdict.{Verdict}
 use Rattle.tree_check.specs.declared.proof.Verdict.TheVariants.{Cheapest, Above}
 use Rattle.tree_lines.specs.TreeLines.{box_cut_items, line_items, node_items, verdict_items}

@@ -4,8 +4,7 @@ use Rattle.net_core.proofs.Library.{All-cons, All-head, All-nil, All-tail, false
 use Rattle.plan_terms.specs.Terms.{CutLine, Demand}
 use Rattle.plan_report.specs.Terms.{KnownNames}
 use Rattle.snd_tokens.specs.Terms.{Text, EndAt}
-use Rattle.text_kit.specs.Terms.{AnswersAs, Begins, Item, Read}
-use Rattle.text_kit.specs.Items.{IsMadeOf}
+use Rattle.text_kit.specs.Terms.{AnswersAs, Begins, Item, Read, IsMadeOf}
 use Rattle.text_kit.specs.declared.refusal.Refusal.{Refusal}
 use Rattle.text_kit.specs.declared.refusal.Refusal.TheVariants.{Bad, NoMemory}
 use Rattle.text_kit.proofs.Beginnings.{IsEnd}

@@ -4,8 +4,7 @@ use Rattle.net_core.proofs.Library.{AllByRecursion, All-cons, All-head, All-nil,
 use Rattle.net_core.specs.Terms.{IsName, is_plain}
 use Rattle.plan_terms.specs.Terms.{CutLine, Demand, Evidence, Link, LinkId, MasterColumn, RouteColumn, WideKind, link_name}
 use Rattle.plan_report.specs.Terms.{IsEvidenceInForm, IsKindInForm, IsMasterColumnInForm, IsRouteColumnInForm, KnownNames, demand_name, evidence_items, master_column_items, numbers_items, route_column_items, wide_items}
-use Rattle.text_kit.specs.Terms.{Item, Verbatim, Whole, Closing, enclosed}
-use Rattle.text_kit.specs.Written.{IsWritable}
+use Rattle.text_kit.specs.Terms.{Item, Verbatim, Whole, Closing, enclosed, IsWritable}
 use Rattle.report_parts.proofs.ColumnVariants.{evidence_cases, master_cases, route_cases, wide_cases}
 use Rattle.master_bound.specs.declared.answer.Multiplier.{Multiplier}
 use Rattle.tree_check.specs.Terms.{Line, Divided, Table, TableKind, Plain, Failing}

@@ -5,10 +5,8 @@ use Rattle.std.proofs.Math.Seq.{drop-append_seam}
 use Rattle.net_core.proofs.Library.{AllByRecursion, All-head, All-tail, list_all, and_parts}
 use Rattle.net_core.specs.Terms.{is_space}
 use Rattle.snd_tokens.specs.Terms.{line_length, run_length, Text, EndAt, text_from}
-use Rattle.text_kit.specs.Items.{Item, Begins, IsMadeOf}
-use Rattle.text_kit.specs.Written.{IsWritable, word_of}
-use Rattle.text_kit.proofs.Lemmas.{from_is, item_begins, space_passed, text_ends}
-use Rattle.text_kit.proofs.Numerals.{drop_first, take_first}
+use Rattle.text_kit.specs.Terms.{Item, Begins, IsMadeOf, IsWritable, word_of}
+use Rattle.text_kit.proofs.Lemmas.{from_is, item_begins, space_passed, text_ends, drop_first, take_first}
 use Rattle.comment_lines.specs.Comments.{AddsLines, IsOneLine, comment_line, spaced_items}
 use Rattle.proof_reader.specs.CommentTexts.{AreCommentsOf, Comments, CommentAt, comments_from}
 use Rattle.proof_reader.proofs.Scanning.{comments_end, comments_hash, comments_space}

@@ -2,8 +2,7 @@
 use Rattle.std.specs.Prelude.{◌≡◌, ℕ, zero, suc, ◌+◌, ◌==◌, ◌≤◌, if◌then◌else◌, List, [], ◌∷◌, length, take, drop}
 use Rattle.net_core.specs.Terms.{is_space}
 use Rattle.snd_tokens.specs.Terms.{Text, left, line_length, text_from}
-use Rattle.text_kit.specs.Terms.{Item}
-use Rattle.text_kit.specs.Items.{IsMadeOf}
+use Rattle.text_kit.specs.Terms.{Item, IsMadeOf}
 use Rattle.proof_reader.specs.declared.lines.NextLine.{NextLine}
 use Rattle.proof_reader.specs.declared.lines.NextLine.TheVariants as next
 

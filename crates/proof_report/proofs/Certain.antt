@@ -1,7 +1,6 @@
 -- a plan that is known to be certified is so where the cuts of its certificate are shown
 use Rattle.std.proofs.Common.{◌≡◌, ◌≢◌, ℕ, zero, suc, ◌*◌, ◌/◌, ◌%◌, ◌<◌, List, [], ◌∷◌, All, ⊎_elim, arith, subst, sym}
-use Rattle.std.proofs.lemmas.Nat.Gcd.{IsGcd-from_mod, IsGcd-from_zero}
-use Rattle.net_core.proofs.Library.{∥∥₁_elim, props, All-cons, All-head, All-tail, All-weaker, cases_eq, dvd-mul_right, dvd-zero, dvd_trans, mul-div_cancel', ◌∣◌, IsGcd}
+use Rattle.net_core.proofs.Library.{∥∥₁_elim, props, All-cons, All-head, All-tail, All-weaker, cases_eq, dvd-mul_right, dvd-zero, dvd_trans, mul-div_cancel', ◌∣◌, IsGcd, IsGcd-from_mod, IsGcd-from_zero}
 use Rattle.plan_terms.specs.Terms.{Case, IsCut, raw_value, IsBound, IsGreatestDivisor, charges}
 use Rattle.plan_terms.proofs.Bounds.{divisor_unique}
 use Rattle.plan_types.specs.Terms.{IsCertifiedPlan, lines_of_certificate}

@@ -1,7 +1,6 @@
 -- cuts that are handed in one by one
 use Rattle.std.proofs.Common.{◌≡◌, ◌≢◌, ◌∙◌, ◌+◌, ◌≤◌, ◌++◌, ◌⊎◌, ⊎_elim, List, [], ◌∷◌, All, Contains, ap, arith, length, subst, sym, append_assoc, append-nil, length-append}
-use Rattle.std.proofs.lemmas.List.Elements.{All-push, Contains-append_left, Contains-append_right, Contains-get_or}
-use Rattle.net_core.proofs.Library.{All-weaker, all_pairs_push}
+use Rattle.net_core.proofs.Library.{All-weaker, all_pairs_push, All-push, Contains-append_left, Contains-append_right, Contains-get_or}
 use Rattle.plan_terms.specs.Terms.{CutLine}
 use Rattle.proof_report.specs.ProvedReports.{AreHandedIn}
 

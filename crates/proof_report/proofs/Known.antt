@@ -1,8 +1,6 @@
 -- what is known of the cuts of a report of one plan
 use Rattle.std.proofs.Common.{◌≡◌, ◌∙◌, ℕ, ◌≤◌, ⊎_elim, List, [], ◌∷◌, All, Contains, Some, ap, arith, get_or, length, map, option_map, refl, slice_get, subst, sym}
-use Rattle.std.proofs.lemmas.List.Elements.{All-contains, Contains-append_cases, Contains-get_or}
-use Rattle.net_core.proofs.Library.{∥∥₁_elim, ∥∥₁_map, props, All-cons, All-head, All-map, All-tail, slice_get-get_or, slice_get-map, take-length}
-use Rattle.net_core.proofs.Lists.{all_at}
+use Rattle.net_core.proofs.Library.{∥∥₁_elim, ∥∥₁_map, props, All-cons, All-head, All-map, All-tail, slice_get-get_or, slice_get-map, take-length, All-contains, Contains-append_cases, Contains-get_or, all_at}
 use Rattle.plan_terms.specs.Terms.{AreKept, Case, CertificateLine, CutLine, Demand, IsCut, IsRight, Joins, Notes, graph_in}
 use Rattle.plan_types.specs.Terms.{IsCertifiedPlan, lines_of_certificate}
 use Rattle.plan_report.specs.Terms.{IsOutcomeInForm, known_to, CertLine, Planned, Report}

@@ -1,8 +1,7 @@
 -- comments after a text whose last byte ends a line
 use Rattle.std.proofs.Common.{◌≡◌, ℕ, List, [], ◌∷◌, ◌++◌, refl, sym, ap, subst, ◌∙◌, append_assoc, flat_map, map, All}
 use Rattle.net_core.proofs.Library.{All-cons, All-head, All-nil, All-tail}
-use Rattle.text_kit.specs.Terms.{IsFileOf, Item, Opening, Closing, Verbatim, section, written}
-use Rattle.text_kit.specs.Written.{byte_after, word_of}
+use Rattle.text_kit.specs.Terms.{IsFileOf, Item, Opening, Closing, Verbatim, section, written, byte_after, word_of}
 use Rattle.comment_lines.specs.Comments.{AddsLines, IsOneLine, comment_line, commented, spaced_items}
 use Rattle.comment_lines.proofs.Passing.{comments_are_no_items}
 

@@ -10,10 +10,8 @@ use Rattle.report_reader.specs.declared.parts.Head.{Head}
 use Rattle.report_words.specs.Terms.{closing_at, has_room, branch_within}
 use Rattle.report_reader.specs.ReadingReport.{head_at, outcome_at, outcome_branches, outcomes_at, planned_at, separated_at, unsurvivable_at}
 use Rattle.report_words.proofs.Lemmas.{branches_law, either_form, lawful_branch, lawful_no_branch, field_law, few_law, law_made, made_last, made_then, closing_law, keyword_law, name_law, opening_law, this_name_law}
-use Rattle.report_parts.proofs.ModuleLaws.{IsSound}
+use Rattle.report_parts.proofs.Lemmas.{IsSound, IsPoolInForm, AreLinksApart}
 use Rattle.report_reader.proofs.PlanLaws.{IsPlanOf, form_plan, plan_form, plan_law}
-use Rattle.report_parts.proofs.CertificateLaws.{IsPoolInForm}
-use Rattle.report_parts.proofs.RoutingLaws.{AreLinksApart}
 use Rattle.report_reader.proofs.Variants.{outcome_cases}
 
 abbrev items_of : Head → List Item

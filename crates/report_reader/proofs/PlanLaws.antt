@@ -11,11 +11,7 @@ use Rattle.report_reader.specs.declared.parts.Routed.{Routed}
 use Rattle.report_reader.specs.declared.parts.Values.{Values}
 use Rattle.report_reader.specs.ReadingPlan.{plan_at, plan_of_parts, plan_parts_at, routed_at, values_at}
 use Rattle.report_words.proofs.Lemmas.{field_law, law_made, made_last, made_then, AreApart, keyword_law, money_law, number_law}
-use Rattle.report_parts.proofs.ModuleLaws.{IsSound, modules_law}
-use Rattle.report_parts.proofs.QualityLaws.{quality_law}
-use Rattle.report_parts.proofs.RoutingLaws.{AreLinksApart, routings_law}
-use Rattle.report_parts.proofs.CertificateLaws.{IsCertificate, IsPoolInForm, certificate_law}
-use Rattle.report_parts.proofs.DemandLaws.{demands_apart, demands_law}
+use Rattle.report_parts.proofs.Lemmas.{IsSound, modules_law, quality_law, AreLinksApart, routings_law, IsCertificate, IsPoolInForm, certificate_law, demands_apart, demands_law}
 
 -- ---- costs and bounds
 

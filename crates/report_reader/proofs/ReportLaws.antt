@@ -14,10 +14,9 @@ use Rattle.report_words.specs.declared.fault.ReportKind.TheVariants.{Header, Sec
 use Rattle.report_reader.specs.ReadingReport.{filled, last_sections_at, report_at, report_of, section_at, sections_at}
 use Rattle.report_reader.proofs.JournalLaws.{IsPlain, entries_law, notes_law, pool_law}
 use Rattle.report_words.proofs.Lemmas.{law_made, made_last, made_law, made_then}
-use Rattle.report_parts.proofs.ModuleLaws.{IsSound}
+use Rattle.report_parts.proofs.Lemmas.{IsSound, AreLinksApart}
 use Rattle.report_reader.proofs.OutcomeLaws.{outcomes_law}
 use Rattle.report_reader.proofs.ReportOnline.{report_online}
-use Rattle.report_parts.proofs.RoutingLaws.{AreLinksApart}
 
 section_law : (w : List ℕ) → Lawful (section_at w) (λ x. Verbatim w ∷ Opening ∷ []) (λ x. Unit {0}) AnyText
 unfolding section_at

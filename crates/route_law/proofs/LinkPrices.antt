@@ -1,8 +1,7 @@
 -- where not all needs can be carried, the capacities violate the cut of the link prices
 use Rattle.std.proofs.Common.{◌≡◌, ℕ, zero, suc, ◌+◌, ◌*◌, ◌<◌, ◌≤◌, List, [], ◌∷◌, Some, None, Option, length, map, sum_by, zip, slice_get, slice_index, slice_index_or, get_or, unwrap_or, refl, sym, ap, ◌∙◌, arith, subst, inl, ⊎_elim, mul-le-mul_left, ℤ, pos, ◌+ℤ◌, ◌*ℤ◌, ◌<ℤ◌, ◌≤ℤ◌}
-use Rattle.net_core.proofs.Library.{cases_eq, cases_lt, get_or-map, sum_by-cons, slice_get-get_or, slice_get_within, *ℤ_comm, *ℤ-zero, pos-*ℤ-pos, ints, by_lt_z}
+use Rattle.net_core.proofs.Library.{cases_eq, cases_lt, get_or-map, sum_by-cons, slice_get-get_or, slice_get_within, *ℤ_comm, *ℤ-zero, pos-*ℤ-pos, ints, by_lt_z, below-same, below-none, below-first, below-times}
 use Rattle.plan_terms.specs.Terms.{RouteColumn, Carry, Demand, Caps, Graph, Joins, sum_below, IsRight, IsDistance, length_of}
-use Rattle.net_core.proofs.Sums.{below-same, below-none, below-first, below-times}
 use Rattle.simplex_law.specs.Terms.{int_sum, dot, ColumnOf, IsBest}
 use Rattle.simplex_law.proofs.Lemmas.{le_times, distribute_left, sum-same, sum-le, sum-plus, sum-times, sum-split}
 use Rattle.route_law.specs.PricedLengths.{AreLinkPrices}

@@ -1,8 +1,7 @@
 -- what the amounts of a basis leave of the needs
 use Rattle.std.proofs.Common.{◌≡◌, ℕ, zero, suc, ◌+◌, ◌-◌, ◌*◌, ◌<◌, ◌≤◌, List, cond, length, slice_index, refl, sym, ap, ◌∙◌, arith, subst, ⊎_elim, ℤ, pos, ◌+ℤ◌, ◌*ℤ◌, ◌<ℤ◌, ◌≤ℤ◌}
-use Rattle.net_core.proofs.Library.{cases_lt, slice_get_within, pos-*ℤ-pos, ints}
+use Rattle.net_core.proofs.Library.{cases_lt, slice_get_within, pos-*ℤ-pos, ints, below-same, below-none}
 use Rattle.plan_terms.specs.Terms.{RouteColumn, LinkSlack, DemandSlack, Carry, Demand, Caps, Graph, names_link, sum_below}
-use Rattle.net_core.proofs.Sums.{below-same, below-none}
 use Rattle.simplex_law.specs.Terms.{int_sum, unit_vector, ColumnOf, IsSlack, IsOptimum}
 use Rattle.simplex_law.proofs.Lemmas.{distribute_left, sum-plus, sum-times, sum-same, sum-none, sum-swapped, sum-one, unit-same, unit-other}
 use Rattle.route_law.specs.Laws.{basis_gain}

@@ -1,8 +1,7 @@
 -- what a path costs at prices of the rows
 use Rattle.std.proofs.Common.{◌≡◌, ℕ, Bool, true, false, ◌+◌, ◌*◌, ◌<◌, List, cond, length, slice_index, ap, ◌∙◌, arith, ℤ, pos, ◌+ℤ◌, ◌*ℤ◌}
-use Rattle.net_core.proofs.Library.{*ℤ-zero, ints}
+use Rattle.net_core.proofs.Library.{*ℤ-zero, ints, below-times}
 use Rattle.plan_terms.specs.Terms.{LinkId, Graph, Joins, names_link, IsPath, length_of}
-use Rattle.net_core.proofs.Sums.{below-times}
 use Rattle.plan_terms.proofs.Lemmas.{path_links_inside, path_links_differ, links_length}
 use Rattle.simplex_law.specs.Terms.{int_sum, dot, unit_vector}
 use Rattle.simplex_law.proofs.Lemmas.{sum-same, sum-unit, sum-split}

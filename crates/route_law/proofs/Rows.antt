@@ -1,8 +1,7 @@
 -- rows put beside each other, and sums over them
 use Rattle.std.proofs.Common.{◌≡◌, ℕ, zero, suc, ◌+◌, ◌-◌, ◌<◌, ◌≤◌, cond, sym, ap, ◌∙◌, arith, subst, refl, ⊎_elim, pos, lt-ltb, le-ltb}
-use Rattle.net_core.proofs.Library.{ints, cases_lt}
+use Rattle.net_core.proofs.Library.{ints, cases_lt, below-none, below-plus}
 use Rattle.plan_terms.specs.Terms.{sum_below}
-use Rattle.net_core.proofs.Sums.{below-none, below-plus}
 use Rattle.simplex_law.specs.Terms.{int_sum}
 use Rattle.route_law.specs.RoutingPrograms.{beside}
 

@@ -1,10 +1,9 @@
 -- what tests of keys and rows give
 use Rattle.std.proofs.Common.{◌≡◌, ◌≢◌, ℕ, zero, suc, ◌*◌, ◌<◌, ◌≤◌, List, [], ◌∷◌, All, Bool, true, false, cond, length, slice_index, refl, sym, ap, ◌∙◌, arith, subst, ⊎_elim, eq-eqb, ne_eqb, ℤ, pos, ◌+ℤ◌, ◌-ℤ◌, ◌*ℤ◌, ◌<ℤ◌, ◌≤ℤ◌}
-use Rattle.net_core.proofs.Library.{∥∥₁_elim, props, ints, cases_eq, *ℤ-zero, eq-one_of_dvd-one, AllByRecursion, slice_get_within, All-get_or, get_or_from_slice_get, All-from_recursion}
+use Rattle.net_core.proofs.Library.{∥∥₁_elim, props, ints, cases_eq, *ℤ-zero, eq-one_of_dvd-one, AllByRecursion, slice_get_within, All-get_or, get_or_from_slice_get, All-from_recursion, no_pairs}
 use Rattle.checked_fraction.specs.Terms.{num}
 use Rattle.plan_terms.specs.Terms.{RouteColumn, LinkSlack, DemandSlack, Carry, Demand, Link, LinkId, Listed, AreDemands, IsDemand, Graph, Joins, IsNetwork, IsDistance, length_of, names_link}
 use Rattle.plan_terms.proofs.Lemmas.{DistinctLinks, path_alike, path_links_differ, path_links_inside, links_length}
-use Rattle.net_core.proofs.Checks.{no_pairs}
 use Rattle.simplex_law.specs.Terms.{int_sum, dot, unit_vector}
 use Rattle.simplex_law.proofs.Lemmas.{minus_left, distribute_left, dot-unit, dot-none-column, sum-same, sum-plus, sum-minus, sum-unit}
 use Rattle.route_law.specs.Terms.{AreLinkPrices}

@@ -1,7 +1,6 @@
 -- one demand and one state after another
 use Rattle.std.proofs.Common.{◌≡◌, ◌≢◌, ℕ, ◌+◌, ◌≤◌, ◌<◌, ◌⊎◌, inl, inr, ⊎_elim, List, [], ◌∷◌, ◌++◌, All, Contains, arith, length, refl, subst, sym}
-use Rattle.std.proofs.lemmas.List.Elements.{All-push, Contains-append_left, Contains-append_right, Contains-get_or}
-use Rattle.net_core.proofs.Library.{All-weaker, all_pairs_push, cases_eq, slice_get_within}
+use Rattle.net_core.proofs.Library.{All-weaker, all_pairs_push, cases_eq, slice_get_within, All-push, Contains-append_left, Contains-append_right, Contains-get_or}
 use Rattle.plan_terms.specs.Terms.{Case, Separates}
 use Rattle.failure_states.specs.declared.separations.Separation.{Separation}
 use Rattle.separation_texts.specs.AllSeparations.{AreSeparations, ComesBefore, IsEarlier}

@@ -2,10 +2,9 @@
 use Rattle.std.proofs.Common.{◌≡◌, ◌∙◌, ℕ, zero, suc, ◌+◌, ◌<◌, ◌≤◌, List, [], ◌∷◌, ◌++◌, drop, take, length, true, inl, inr, refl, sym, ap, subst, arith, append_assoc, length-append}
 use Rattle.net_core.proofs.Library.{range_with_len, drop-append-le, front_rest}
 use Rattle.std.proofs.lemmas.List.Concat.{flat_map-append}
-use Rattle.turn_lock.specs.Histories.{are_places}
+use Rattle.turn_lock.specs.Terms.{are_places, items_at}
 use Rattle.separator.specs.Separators.{IsPartOf}
 use Rattle.turn_lock.proofs.Places.{first_place}
-use Rattle.turn_lock.specs.Passes.{items_at}
 
 module _ {I : Type 0} where
   -- ---- parts of a list

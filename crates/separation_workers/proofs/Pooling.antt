@@ -12,8 +12,7 @@ use Rattle.board_desk.specs.declared.caller.Caller.{Caller}
 use Rattle.board_desk.specs.Turns.{AdmitsInTurn, HasTurn, IsSameCaller, caller_places, caller_seen}
 use Rattle.board_desk.proofs.Passes.{own_at, placed_in}
 use Rattle.separator.specs.inner.Working.{PoolsMore, state_and_lengths}
-use Rattle.separator.specs.Spots.{IsSpotAfter}
-use Rattle.separator.specs.Separators.{IsSpotIn, SeesMore, cuts_since}
+use Rattle.separator.specs.Terms.{IsSpotAfter, IsSpotIn, SeesMore, cuts_since}
 use Rattle.separator.proofs.Admitting.{admit_pools, admit_spot}
 use Rattle.separation_workers.specs.Callers.{SeesOn}
 use Rattle.separation_workers.specs.inner.Turns.{PoolsAtMost}

@@ -11,10 +11,7 @@ use Rattle.cut_pool.specs.Terms.{cuts_of}
 use Rattle.separator.specs.declared.answers.StateAnswer.{StateAnswer}
 use Rattle.separator.specs.Separators.{IsAnswerOf, IsSpotIn, cut_answered, cuts_since}
 use Rattle.separator.specs.inner.Working.{AddsCut, AreAnswersBelow, AreCutsAnswered, AreCutsBelow, AreCutsOf, AreOtherAnswers, ContinueTo, IsCutAnswer}
-use Rattle.separator.proofs.Answering.{answers_more, cuts_more, cuts_none, cuts_weaker, no_cuts}
-use Rattle.separator.proofs.Pooling.{cuts_both}
-use Rattle.separator.proofs.Seeing.{sees_both, sees_none, spot_later}
-use Rattle.separator.proofs.SomeAnswers.{among_none, answered_later, answered_wider, cut_more, cuts_unanswered, others_more}
+use Rattle.separator.proofs.Lemmas.{answers_more, cuts_more, cuts_none, cuts_weaker, no_cuts, cuts_both, sees_both, sees_none, spot_later, among_none, answered_later, answered_wider, cut_more, cuts_unanswered, others_more}
 use Rattle.separation_workers.specs.declared.round.Round.{Round}
 use Rattle.separation_workers.specs.Callers.{SeesOn}
 use Rattle.separation_workers.specs.inner.Rounds.{IsInRound, IsPutApart}

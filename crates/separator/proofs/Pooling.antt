@@ -1,6 +1,6 @@
 -- boards whose pool grows, and the spots of its cuts
 use Rattle.std.proofs.Common.{◌≡◌, ◌∙◌, ℕ, ◌<◌, ⊎_elim, List, [], ◌∷◌, ◌++◌, Some, length, slice_get, refl, sym, ap, subst, arith, append-nil, append_assoc}
-use Rattle.net_core.proofs.Library.{flat_map-append, All-append, All-nil, All-push, front_rest}
+use Rattle.net_core.proofs.Library.{flat_map-append, All-append, All-nil, All-push, front_rest, get_front}
 use Rattle.plan_terms.specs.Terms.{Entry, Pooled}
 use Rattle.metric_cut.specs.declared.cut.Cut.{Cut}
 use Rattle.plan_types.specs.declared.certificate.Spot.{Spot}
@@ -9,7 +9,6 @@ use Rattle.cut_pool.specs.declared.board.Board.{Board}
 use Rattle.cut_pool.specs.Terms.{GrowsBy, IsSameBoard, cuts_of, pooled_by}
 use Rattle.separator.specs.Separators.{IsCutEntry, IsFullHistory, IsSpotIn, cuts_after}
 use Rattle.separator.specs.inner.Working.{PoolsMore, state_and_lengths}
-use Rattle.net_core.proofs.Lists.{get_front}
 
 -- ---- lists
 

@@ -1,7 +1,6 @@
 -- answers of some states: cuts, or the answers of all where none is found
 use Rattle.std.proofs.Common.{◌≡◌, ◌≢◌, ◌∙◌, ℕ, zero, suc, ◌+◌, ◌<◌, ◌≤◌, ◌⊎◌, inl, inr, ⊎_elim, List, [], ◌∷◌, ◌++◌, All, Contains, None, Some, get_or, length, slice_get, refl, sym, ap, subst, arith, length-append}
-use Rattle.net_core.proofs.Library.{All-append, All-nil, All-push, All-weaker, Contains-append_left, Contains-append_right, all_pairs_push, flat_map-append}
-use Rattle.net_core.proofs.Lists.{none_within}
+use Rattle.net_core.proofs.Library.{All-append, All-nil, All-push, All-weaker, Contains-append_left, Contains-append_right, all_pairs_push, flat_map-append, none_within}
 use Rattle.plan_terms.specs.Terms.{Entry, Caps, Case}
 use Rattle.plan_types.specs.declared.certificate.Spot.{Spot}
 use Rattle.cut_pool.specs.Terms.{cut_of_line}

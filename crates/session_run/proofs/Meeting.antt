@@ -6,8 +6,7 @@ use Rattle.plan_types.specs.declared.report.Outcome.{Outcome}
 use Rattle.cut_pool.specs.Terms.{pooled_by}
 use Rattle.session_script.specs.declared.script.Act.{Act}
 use Rattle.session_script.specs.declared.script.Command.{Command}
-use Rattle.turn_lock.specs.Histories.{IsPrefix, are_places, merged}
-use Rattle.turn_lock.specs.Passes.{Seen, items_at}
+use Rattle.turn_lock.specs.Terms.{IsPrefix, are_places, merged, Seen, items_at}
 use Rattle.turn_lock.proofs.Places.{prefix_le, wider}
 use Rattle.board_desk.specs.declared.caller.Caller.{Caller}
 use Rattle.board_desk.specs.Turns.{caller_places, caller_seen}

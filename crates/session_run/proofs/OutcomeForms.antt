@@ -1,6 +1,6 @@
 -- outcomes of commands that have run are in form
 use Rattle.std.proofs.Common.{◌≡◌, ℕ, zero, suc, ◌+◌, ◌<◌, ◌≤◌, ◌⊎◌, inl, inr, List, [], ◌∷◌, ◌++◌, All, Bool, true, false, cond, Some, ◌==◌, drop, get_or, if◌then◌else◌, length, map, slice_get, take, refl, sym, ap, subst, ◌∙◌, ⊎_elim, arith, filter, eq-eqb, ne_eqb, length-take-le, take-append-drop}
-use Rattle.net_core.proofs.Library.{∥∥₁_elim, cases_eq, cond-true, All-cons, All-filter, All-head, All-nil, All-tail, count_by-le-length, length-filter}
+use Rattle.net_core.proofs.Library.{∥∥₁_elim, cases_eq, cond-true, All-cons, All-filter, All-head, All-nil, All-tail, count_by-le-length, length-filter, get_front}
 use Rattle.plan_terms.specs.Terms.{Entry, CutLine, Case}
 use Rattle.plan_report.specs.Terms.{known_to, IsHeadInForm, IsOfPool, IsOutcomeInForm, Spot, Pool, Local, Outcome, Planned, Unsurvivable}
 use Rattle.cut_pool.specs.Terms.{cut_of_line, cuts_of, version_left}
@@ -9,7 +9,6 @@ use Rattle.session_script.specs.declared.script.Act.TheVariants.{Change, Plan}
 use Rattle.session_script.specs.declared.script.Command.{Command}
 use Rattle.session_script.specs.Terms.{IsCommandInForm, IsScript}
 use Rattle.separation_workers.specs.Terms.{IsSpotIn}
-use Rattle.net_core.proofs.Lists.{get_front}
 use Rattle.planner.proofs.Histories.{cuts_both, version_few}
 use Rattle.session_run.specs.Transcripts.{IsOutcomeAfter, RunsFrom, acts_of, outcome_caller, outcomes_of}
 use Rattle.session_run.specs.inner.Ranges.{IsShortNamed}

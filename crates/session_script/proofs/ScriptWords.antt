@@ -1,6 +1,6 @@
 -- What a word of a script says, and which words say it.
 use Rattle.std.proofs.Common.{◌≡◌, ℕ, ◌<◌, ◌≤◌, ◌&&◌, Bool, true, false, cond, nat_lt, List, length, Result, Ok, Err, refl, ap, subst, ◌∙◌, arith, count_by, codes, ltb-true, lt-ltb}
-use Rattle.net_core.proofs.Library.{and_parts}
+use Rattle.net_core.proofs.Library.{and_parts, same_is}
 use Rattle.net_core.specs.Terms.{are_same}
 use Rattle.snd_tokens.specs.declared.whole_number.WholeFault.{WholeFault}
 use Rattle.snd_tokens.specs.Terms.{whole_of}
@@ -12,7 +12,6 @@ use Rattle.session_script.specs.declared.script.Verb.{Verb}
 use Rattle.session_script.specs.declared.script.Verb.TheVariants as verbs
 use Rattle.session_script.specs.Scripts.{is_plan}
 use Rattle.session_script.specs.ScriptReading.{begun_command, caller_within, caller_of, verb_of, verb_within, verb_after}
-use Rattle.net_core.proofs.Checks.{same_is}
 
 -- ---- the word of a command
 

@@ -1,6 +1,6 @@
 -- counts that cover what each link needs in a share
 use Rattle.std.proofs.Common.{◌≡◌, ℕ, ◌*◌, ◌^◌, ◌<◌, ◌≤◌, inl, List, [], All, Some, length, refl, sym, ap, subst, arith, slice_get, slice_index}
-use Rattle.net_core.proofs.Library.{slice_get-get_or, get_or_default_zero}
+use Rattle.net_core.proofs.Library.{slice_get-get_or, get_or_default_zero, all_at}
 use Rattle.plan_terms.specs.Terms.{IsLink, IsModule, IsNetwork, Link, AreCounts, total_cost}
 use Rattle.module_prices.specs.declared.cheapest.UnitPair.{UnitPair}
 use Rattle.plan_types.specs.declared.quality.Share.{Share}
@@ -11,7 +11,6 @@ use Rattle.module_choice.proofs.Carrying.{network_links}
 use Rattle.module_choice.proofs.Falling.{all_shaped, capacities_small}
 use Rattle.share_covers.specs.ShareCovers.{AreShareCovers, AreShareNeeds}
 use Rattle.master_law.proofs.PairsOnce.{pairs_once}
-use Rattle.net_core.proofs.Lists.{all_at}
 
 -- the modules of a link of a network are sound
 pub link_sound : (nodes : List (List ℕ)) (links : List Link) → ∥ IsNetwork nodes links ∥₁ → (e : ℕ) (l : Link) → slice_get links e ≡ Some l → All IsModule l.modules

@@ -5,9 +5,7 @@ use Rattle.plan_terms.specs.Terms.{Evidence, CutLine, Case}
 use Rattle.plan_types.specs.declared.plan.Plan.{Plan}
 use Rattle.plan_types.specs.declared.quality.Share.{Share}
 use Rattle.master_law.specs.Terms.{IsLeastShare, AreUnitPairs}
-use Rattle.plan_law.specs.LoosePlans.{IsLooseByWidth}
-use Rattle.plan_law.specs.TightPlans.{CostsRawValue}
-use Rattle.plan_law.specs.WorkedLists.{Round}
+use Rattle.plan_law.specs.Terms.{IsLooseByWidth, CostsRawValue, Round}
 use Rattle.share_covers.specs.Choices.{IsWideAtCovers}
 
 -- evidence at the covers of a share makes a plan loose by width, where the share is a least one of the cuts and costs the raw value

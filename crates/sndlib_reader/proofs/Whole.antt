@@ -1,6 +1,6 @@
 -- Paths, sections and whole files: what is read is spelled, and what is spelled is read.
 use Rattle.std.proofs.Common.{◌≡◌, ◌≢◌, ℕ, ◌≤◌, Bool, true, false, cond, List, [], ◌∷◌, ◌++◌, map, length, All, AllPairs, Result, Ok, Err, refl, sym, ap, subst, ◌∙◌, append-nil, append_assoc, ◌||◌, inl, inr, codes, flat_map}
-use Rattle.net_core.proofs.Library.{AllByRecursion, length-map, map_push, All-from_recursion, All-map, recursion_from_All}
+use Rattle.net_core.proofs.Library.{AllByRecursion, length-map, map_push, All-from_recursion, All-map, recursion_from_All, same_is}
 use Rattle.net_core.specs.Terms.{IsLink, IsNetwork, are_same, is_named}
 use Rattle.net_core.specs.declared.demand.Demand.{Demand}
 use Rattle.net_core.specs.declared.network.Link.{Link}
@@ -23,7 +23,6 @@ use Rattle.sndlib_reader.proofs.WordTests.{known_again, known_takes, path_name_a
 use Rattle.sndlib_reader.proofs.Skipped.{skipped_spelled}
 use Rattle.sndlib_reader.proofs.Nodes.{IsNewPart, are_parts, part_spelled, parts_are, parts_short}
 use Rattle.sndlib_reader.proofs.Laws.{AreDifferent, AreLinks, IsDemandAfter, IsLinkAfter, are_demands, are_links, demands_are, demands_spelled, links_are, links_lawful}
-use Rattle.net_core.proofs.Checks.{same_is}
 
 -- ---- what is given of what was read
 

@@ -1,6 +1,6 @@
 -- What a word says, and which words say it.
 use Rattle.std.proofs.Common.{◌≡◌, ◌≢◌, ℕ, ◌+◌, ◌*◌, ◌^◌, ◌<◌, ◌≤◌, ◌==◌, ◌||◌, Bool, true, false, cond, nat_lt, List, [], length, get_or, AllPairs, None, Some, Result, Ok, Err, IsTrue, refl, sym, ap, subst, ◌∙◌, inl, inr, arith, codes, ltb-true, ltb-false, le-ltb, lt-ltb, ne_eqb}
-use Rattle.net_core.proofs.Library.{eqb-false}
+use Rattle.net_core.proofs.Library.{eqb-false, same_is}
 use Rattle.snd_tokens.specs.declared.amounts.NumberFault.TheVariants.{NotANumber, TooLarge}
 use Rattle.snd_tokens.specs.Terms.{amount_of, money_of, units, are_digits}
 use Rattle.net_core.specs.declared.network.Module.{Module}
@@ -13,7 +13,6 @@ use Rattle.sndlib_reader.specs.declared.fault.ReadKind.{ReadKind}
 use Rattle.sndlib_reader.specs.declared.fault.ReadKind.TheVariants.{Limit, Number, UnknownName, ZeroModule}
 use Rattle.sndlib_reader.specs.Spelling.{IsHops}
 use Rattle.sndlib_reader.specs.Reading.{path_name, known_name, node_named, apart, other_node, amount, carried, capacity, wanted, need, hops}
-use Rattle.net_core.proofs.Checks.{same_is}
 
 -- ---- names
 

@@ -1,9 +1,7 @@
 -- numbers that divide others
 use Rattle.std.proofs.Common.{◌≡◌, ◌≢◌, ℕ, ◌+◌, ◌<◌, ◌≤◌, ⊎_elim, List, subst, sym, ap, ◌∙◌, arith}
 use Rattle.std.proofs.Math.Nat.{eq-zero_of_zero-dvd}
-use Rattle.std.proofs.lemmas.Nat.Gcd.{dvd_trans}
-use Rattle.std.specs.Int.{IsGcd, ◌∣◌}
-use Rattle.net_core.proofs.Library.{cases_eq, cases_lt}
+use Rattle.net_core.proofs.Library.{cases_eq, cases_lt, dvd_trans, IsGcd, ◌∣◌}
 use Rattle.plan_terms.specs.Terms.{Link}
 use Rattle.line_check.specs.Terms.{module_number, capped}
 use Rattle.line_check.specs.declared.inequality.Inequality.{Inequality}

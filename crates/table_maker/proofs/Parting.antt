@@ -1,7 +1,6 @@
 -- what a state keeps of the boundary of a set of nodes
 use Rattle.std.proofs.Common.{◌≡◌, ℕ, zero, suc, ◌+◌, ◌*◌, ◌<◌, ◌≤◌, ◌++◌, List, [], ◌∷◌, Some, All, AllPairs, Bool, true, false, if◌then◌else◌, length, length-append, map, ap, subst, sym, ◌∙◌, arith, slice_get, slice_index}
-use Rattle.std.proofs.lemmas.Option.{get_or_from_slice_get, slice_get_within}
-use Rattle.net_core.proofs.Library.{All-push, All-weaker, all_pairs_push, get_or-map}
+use Rattle.net_core.proofs.Library.{All-push, All-weaker, all_pairs_push, get_or-map, get_or_from_slice_get, slice_get_within}
 use Rattle.plan_terms.specs.Terms.{Case, CutLine, Graph, IsCut, IsRight, Joins, Keeps, Link, graph_in}
 use Rattle.metric_cut.specs.Cuts.{IsCutOf, MayKeepCut}
 use Rattle.metric_cut.specs.declared.cut.Cut.{Cut}

@@ -1,7 +1,6 @@
 -- Texts that begin with items, and where lists of items end.
 use Rattle.std.proofs.Common.{◌≡◌, ℕ, ◌<◌, ◌≤◌, Bool, true, false, cond, List, [], ◌∷◌, ◌++◌, Option, None, Some, Ok, refl, sym, ap, subst, arith}
-use Rattle.net_core.proofs.Checks.{same_is}
-use Rattle.net_core.proofs.Library.{Decides-eqb, slice_eq-Decides}
+use Rattle.net_core.proofs.Library.{Decides-eqb, slice_eq-Decides, same_is}
 use Rattle.net_core.specs.Terms.{are_same}
 use Rattle.snd_tokens.specs.Terms.{Text, WordAt, OpenAt, CloseAt, EndAt, size}
 use Rattle.text_kit.specs.Items.{Item, Verbatim, Whole, Money, Opening, Closing, SpellsItem, Begins}

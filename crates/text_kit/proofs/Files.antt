@@ -1,6 +1,6 @@
 -- Laws of whole files, for each reading that is lawful.
 use Rattle.std.proofs.Common.{◌≡◌, ℕ, suc, ◌+◌, ◌≤◌, ◌<◌, ◌==◌, min, Bool, true, false, cond, not, List, [], ◌∷◌, ◌++◌, length, take, drop, Result, Ok, Err, IfOk, IfErr, refl, sym, ap, subst, ◌∙◌, arith, ⊎_elim, ◌⊎◌, inl, inr, length-append, drop-drop, length-take}
-use Rattle.net_core.proofs.Library.{position_or_len, cases_eq, cases_lt, prefix_len-le-length}
+use Rattle.net_core.proofs.Library.{position_or_len, cases_eq, cases_lt, prefix_len-le-length, same_is}
 use Rattle.net_core.specs.Terms.{are_same}
 use Rattle.snd_tokens.specs.Terms.{first_line, second_line, trimmed, Text, WordAt, OpenAt, CloseAt, EndAt, text_from, text_of, tokens_from}
 use Rattle.snd_tokens.proofs.Scan.{tokens_from-end}
@@ -20,7 +20,6 @@ use Rattle.text_kit.proofs.Online.{IsOnline, err_parts, ok_parts, online_give, o
 use Rattle.text_kit.proofs.Spelled.{Spelled}
 use Rattle.text_kit.proofs.Rising.{RisesFrom, file_rises}
 use Rattle.text_kit.proofs.Written.{written_begins}
-use Rattle.net_core.proofs.Checks.{same_is}
 
 -- ---- first lines
 

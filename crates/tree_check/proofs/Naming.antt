@@ -1,7 +1,6 @@
 -- lines that were tested, and the lines that indices name
 use Rattle.std.proofs.Common.{◌≡◌, ℕ, ◌-◌, false, List, [], ◌∷◌, All, refl, ap, subst, sym, ◌∙◌}
-use Rattle.std.specs.List.{AllByRecursion}
-use Rattle.net_core.proofs.Library.{All-from_recursion, recursion_from_All}
+use Rattle.net_core.proofs.Library.{All-from_recursion, recursion_from_All, AllByRecursion}
 use Rattle.line_check.specs.Terms.{Multiplier, AreNamedBy, WeightedLine, IsSoundAt, names_by, test_at, weighed}
 use Rattle.plan_terms.proofs.Lemmas.{bound_unique}
 use Rattle.plan_terms.specs.Terms.{Case, Link}

@@ -1,8 +1,7 @@
 -- no counts of a box that meet the lines of a certificate cost less than its value
 use Rattle.std.proofs.Common.{◌≡◌, ℕ, zero, suc, ◌+◌, ◌-◌, ◌*◌, ◌≤◌, ◌<◌, Bool, true, false, if◌then◌else◌, ◌||◌, List, [], ◌∷◌, Option, IfSome, IsSome, unwrap_or, ⊎_elim, length, map, zip, nat_lt, slice_index, refl, ap, ◌∙◌, arith, mul-le-mul_left}
 use Rattle.std.specs.List.{AllZip, AllByRecursion, list_any}
-use Rattle.net_core.proofs.Library.{cases_lt, nat_tests, recursion_from_All, sum_by-cons}
-use Rattle.net_core.proofs.Sums.{below-first}
+use Rattle.net_core.proofs.Library.{cases_lt, nat_tests, recursion_from_All, sum_by-cons, below-first}
 use Rattle.plan_terms.specs.Terms.{AreCounts, Link, Module, installs, link_cost, modules_cost, sum_below, total_cost}
 use Rattle.plan_terms.proofs.Duality.{bound_met}
 use Rattle.tree_check.specs.Boxes.{AreInBox, IsInSpan, span_at}

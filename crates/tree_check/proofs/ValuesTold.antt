@@ -1,7 +1,6 @@
 -- the value of lines for a box, by the gains of its modules
 use Rattle.std.proofs.Common.{◌≡◌, ℕ, ◌+◌, ◌*◌, ◌-◌, ◌<◌, ◌≤◌, ◌^◌, List, [], ◌∷◌, Option, None, Some, MatchOption, All, length, subst, sym, arith}
-use Rattle.std.specs.List.{AllByRecursion}
-use Rattle.net_core.proofs.Library.{All-from_recursion, All-map, recursion_from_All}
+use Rattle.net_core.proofs.Library.{All-from_recursion, All-map, recursion_from_All, AllByRecursion}
 use Rattle.line_check.specs.Terms.{Multiplier, WeightedLine, test_at, weighed}
 use Rattle.plan_terms.specs.Terms.{IsBound}
 use Rattle.line_check.specs.declared.tested.Tested.{Tested}

@@ -1,7 +1,6 @@
 -- what an accepted proof says of able counts
 use Rattle.std.proofs.Common.{◌≡◌, ℕ, ◌≤◌, List, [], ◌∷◌, ◌⊎◌, inl, inr, ⊎_elim, subst, arith}
-use Rattle.std.specs.List.{AllByRecursion}
-use Rattle.net_core.proofs.Library.{All-from_recursion, slice_get_within}
+use Rattle.net_core.proofs.Library.{All-from_recursion, slice_get_within, AllByRecursion}
 use Rattle.plan_terms.specs.Terms.{Case, IsAble, total_cost}
 use Rattle.line_check.specs.Terms.{Multiplier, AreNamedBy, MeetsLine, WeightedLine, sources_of}
 use Rattle.tree_check.specs.Boxes.{AreInBox}

@@ -4,8 +4,7 @@ use Rattle.net_core.proofs.Library.{and_from, list_all}
 use Rattle.std.proofs.lemmas.List.Folds.{list_all-append}
 use Rattle.net_core.specs.declared.places.Places.{Places}
 use Rattle.net_core.specs.Terms.{digits_after_point}
-use Rattle.text_kit.specs.Terms.{Money, money_word}
-use Rattle.text_kit.specs.Written.{last_digit, last_digits}
+use Rattle.text_kit.specs.Terms.{Money, money_word, last_digit, last_digits}
 use Rattle.comment_lines.specs.Comments.{AddsSpaced, IsOneLine}
 use Rattle.comment_lines.proofs.OneLine.{decimal_one_line}
 

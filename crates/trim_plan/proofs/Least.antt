@@ -1,7 +1,6 @@
 -- where all blocks are cuts, no module can be spared
 use Rattle.std.proofs.Common.{◌≡◌, ◌∙◌, ℕ, ◌<◌, List, Contains, get_or, length, map, sym, ap, subst}
-use Rattle.net_core.proofs.Library.{get_or-map, length-map, All-contains, get_or_from_slice_get}
-use Rattle.net_core.proofs.Lists.{get_some}
+use Rattle.net_core.proofs.Library.{get_or-map, length-map, All-contains, get_or_from_slice_get, get_some}
 use Rattle.plan_terms.specs.Terms.{Case, graph_in, IsAble, capacities}
 use Rattle.able_counts.specs.AbleTests.{IsStopAt, whole_caps}
 use Rattle.able_counts.specs.declared.stop.Stop.{Stop}

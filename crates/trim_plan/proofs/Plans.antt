@@ -1,8 +1,7 @@
 -- plans with other counts
 use Rattle.std.proofs.Common.{◌≡◌, ℕ, ◌≤◌, List, get_or, refl, sym, subst, arith}
-use Rattle.net_core.proofs.Library.{slice_get-get_or}
+use Rattle.net_core.proofs.Library.{slice_get-get_or, all_at}
 use Rattle.plan_terms.specs.Terms.{Demand, Routing, Case, AreCounts, AreWithinLimits, capacities, total_cost}
-use Rattle.net_core.proofs.Lists.{all_at}
 use Rattle.plan_report.specs.Terms.{IsRoutingInForm, Plan}
 use Rattle.route_law.specs.Terms.{IsLowestRouting}
 use Rattle.able_counts.specs.AbleTests.{AreRoutedCounts, AreRoutingsWithin}

@@ -1,7 +1,6 @@
 ghost use Rattle.std.specs.Prelude.{◌≡◌, IfOk};
 ghost use Rattle.plan_terms.specs.Terms.{case_of};
-ghost use Rattle.lone_plan.specs.Terms.{IsTranscript};
-ghost use Rattle.lone_plan.specs.LonePlans.{plan_commands, whole_report};
+ghost use Rattle.lone_plan.specs.Terms.{IsTranscript, plan_commands, whole_report};
 ghost use Rattle.trimmed_report.specs.TrimmedReports.{IsTrimEnding};
 
 use lone_plan::{LonePlan, PlannedReport, plan_once};

@@ -1,6 +1,6 @@
 -- The steps of a turn keep the rule: draw, look, commit, serve.
 use Rattle.std.proofs.Common.{◌≡◌, ◌≢◌, ℕ, zero, suc, ◌+◌, ◌%◌, ◌^◌, ◌<◌, ◌≤◌, List, [], ◌∷◌, ◌++◌, length, get_or, sum_by, eqb, set, Some, Option, inl, inr, ⊎_elim, refl, sym, ap, subst, ◌∙◌, arith, length-append, map, true}
-use Rattle.net_core.proofs.Library.{set-get_or, sum_by_push, cases_eq}
+use Rattle.net_core.proofs.Library.{set-get_or, sum_by_push, cases_eq, some_same}
 use mathlib.Core.Option.{some, none, some-injective, some-ne-none}
 use lib.ListN.{get_elem?}
 use Rattle.atomic_table.specs.Table.{State, Me, Step, step, Allows, keeps, takes, gives, stepped, rest, opening}
@@ -14,7 +14,6 @@ use Rattle.turn_lock.specs.inner.Rule.{one_where, one_within, times_at, tickets_
 use Rattle.turn_lock.specs.inner.Plays.{Awaits, Draws, Looks, TakesValue, Commits, Serves}
 use Rattle.turn_lock.proofs.Lists.{each_set, sum_set, one_below, two_below, sums_le, sums_lt}
 use Rattle.turn_lock.proofs.Places.{one_if, within_after, within_few, within_some, within_more, within_less, prefix_same, prefix_le, prefix_more, wider, place_last}
-use Rattle.net_core.proofs.Lists.{some_same}
 
 module _ {I : Type 0} where
   pub idle_from_number : (st : Stage I) → stage_number st ≡ 0 → st ≡ Idle

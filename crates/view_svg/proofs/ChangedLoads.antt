@@ -1,8 +1,7 @@
 -- loads of flows, one link after another
 use Rattle.std.proofs.Common.{◌≡◌, ℕ, zero, suc, ◌+◌, ◌*◌, ◌^◌, ◌≤◌, List, [], ◌∷◌, ◌++◌, None, Some, ◌⊎◌, inl, inr, if◌then◌else◌, ap, arith, get_or, length, length-append, not, refl, slice_get, slice_index, subst, sym, ⊎_elim, mul-le-mul}
 use Rattle.std.proofs.lemmas.List.Filters.{sum_by-filter_both}
-use Rattle.std.specs.List.{list_any}
-use Rattle.net_core.proofs.Library.{cases_lt, get_or_past, slice_get-get_or, slice_get_within}
+use Rattle.net_core.proofs.Library.{cases_lt, get_or_past, slice_get-get_or, slice_get_within, list_any}
 use Rattle.plan_terms.specs.Terms.{Case, Flow, Routing, capacities, load, names_link}
 use Rattle.plan_types.specs.declared.plan.Plan.{Plan}
 use Rattle.plan_view.specs.Terms.{IsCeiling, IsSoundPlan, den_in, goes_as, load_in}

@@ -1,8 +1,7 @@
 -- what is found of the answers of all states
 use Rattle.std.specs.Prelude.{◌≡◌, ◌≢◌, ℕ, ◌<◌, ◌≤◌, ◌⊎◌, ◌++◌, List, [], ◌∷◌, None, Some, All, AllPairs, IfSome, length, slice_get}
 use Rattle.plan_terms.specs.Terms.{Evidence, Entry, Caps, Routing, Case, graph_in, HasShortLengths}
-use Rattle.separator.specs.Terms.{IsEvidenceHere, IsRouted}
-use Rattle.separator.specs.Separators.{IsSeparatingCut}
+use Rattle.separator.specs.Terms.{IsEvidenceHere, IsRouted, IsSeparatingCut}
 use Rattle.separator.specs.declared.answers.Separated.{Separated}
 use Rattle.separator.specs.declared.answers.Separated.TheVariants.{Routed, Violated, Wide}
 use Rattle.plan_rounds.specs.WorkedRounds.{StandAtSpots}

@@ -1,11 +1,9 @@
 -- what the workers of a round find
 use Rattle.std.specs.Prelude.{◌≡◌, ℕ, ◌<◌, ◌+◌, ◌⊎◌, ◌++◌, List, [], ◌∷◌, Option, All, IfSome, length}
 use Rattle.plan_terms.specs.Terms.{graph_in, case_of}
-use Rattle.separator.specs.Terms.{RouteAnswer}
+use Rattle.separator.specs.Terms.{RouteAnswer, IsFinding, cut_answered}
 use Rattle.board_desk.specs.declared.caller.Caller.{Caller}
 use Rattle.board_desk.specs.Turns.{IsAtDesk, board_made}
-use Rattle.separator.specs.Findings.{IsFinding}
-use Rattle.separator.specs.Separators.{cut_answered}
 use Rattle.separator.specs.declared.answers.StateAnswer.{StateAnswer}
 use Rattle.separation_workers.specs.Callers.{HasSeenHistory}
 use Rattle.separation_workers.specs.declared.round.Round.{Round}

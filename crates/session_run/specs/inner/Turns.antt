@@ -14,8 +14,7 @@ use Rattle.separation_workers.specs.Terms.{IsCutEntry, SeesMore}
 use Rattle.session_script.specs.declared.script.Act.{Act}
 use Rattle.session_script.specs.declared.script.Act.TheVariants.{Change, Plan}
 use Rattle.session_script.specs.declared.script.Command.{Command}
-use Rattle.turn_lock.specs.Histories.{IsPrefix}
-use Rattle.turn_lock.specs.Passes.{Seen}
+use Rattle.turn_lock.specs.Terms.{IsPrefix, Seen}
 use Rattle.board_desk.specs.declared.caller.Caller.{Caller}
 use Rattle.board_desk.specs.Turns.{caller_seen}
 use Rattle.session_run.specs.Transcripts.{IsOutcomeAfter, IsPlanned}

@@ -1,8 +1,7 @@
 use Rattle.std.proofs.Common.{◌≡◌, ◌≤◌, unsigned_abs, subst, arith}
-use Rattle.net_core.proofs.Library.{ints, IsGcd}
+use Rattle.net_core.proofs.Library.{ints, IsGcd, positive_divisor}
 use Rattle.std.proofs.lemmas.Nat.Gcd.{le_of_dvd}
 use Rattle.checked_fraction.proofs.pivot.factor_of.Goals as goal
-use Rattle.net_core.proofs.Numbers.{positive_divisor}
 
 pub returns-clause-gcd : goal.returns-clause-gcd
 returns-clause-gcd c =

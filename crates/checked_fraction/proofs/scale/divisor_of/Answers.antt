@@ -1,10 +1,9 @@
 use Rattle.std.proofs.Common.{◌≡◌, unsigned_abs, arith}
-use Rattle.net_core.proofs.Library.{ints, IsGcd-swap}
+use Rattle.net_core.proofs.Library.{ints, IsGcd-swap, positive_divisor}
 use Rattle.std.proofs.lemmas.Nat.Gcd.{le_of_dvd}
 use Rattle.checked_fraction.specs.Rows.{num}
 use Rattle.checked_fraction.proofs.Divisors.{row_gcd_more, row_gcd_one}
 use Rattle.checked_fraction.proofs.scale.divisor_of.Goals as goal
-use Rattle.net_core.proofs.Numbers.{positive_divisor}
 
 pub returns-then-common-eq1-clause-gcd : goal.returns-then-common-eq1-clause-gcd
 returns-then-common-eq1-clause-gcd c = row_gcd_one (num c.args.nums.now) _ _ _ _ c.loop-num.auto.num-index-end c.if-common-eq1.true c.loop-num.invariant

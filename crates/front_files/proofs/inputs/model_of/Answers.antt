@@ -2,8 +2,7 @@ use Rattle.std.proofs.Common.{List, codes, ℕ}
 use Rattle.model_reader.specs.Terms.{model_word, model_of, SpellsModel}
 use Rattle.model_reader.specs.declared.model.Model.{Model}
 use Rattle.check_answers.specs.declared.status.Status.TheVariants.{BadModel}
-use Rattle.fault_messages.specs.ModelMessages.{model_message}
-use Rattle.fault_messages.specs.Notes.{AreModelNotes}
+use Rattle.fault_messages.specs.Terms.{model_message, AreModelNotes}
 use Rattle.input_files.specs.Refusals.{refusal_line}
 use Rattle.front_files.specs.Messages.{ShowsPlace}
 use Rattle.front_files.proofs.Causing.{not_reading}

@@ -2,8 +2,7 @@ use Rattle.std.proofs.Common.{List, codes, subst, ◌∙◌, ℕ}
 use Rattle.model_reader.specs.Terms.{SpellsFailures, failures_of, failures_word}
 use Rattle.plan_terms.specs.Terms.{Link, States}
 use Rattle.check_answers.specs.declared.status.Status.TheVariants.{BadFailures}
-use Rattle.fault_messages.specs.FailuresMessages.{failures_message}
-use Rattle.fault_messages.specs.Notes.{AreFailuresNotes}
+use Rattle.fault_messages.specs.Terms.{failures_message, AreFailuresNotes}
 use Rattle.input_files.specs.Refusals.{refusal_line}
 use Rattle.front_files.specs.Messages.{ShowsPlace}
 use Rattle.front_files.proofs.Causing.{not_reading}

@@ -1,7 +1,6 @@
 use Rattle.std.proofs.Common.{◌≡◌, ◌∙◌, ◌+◌, ◌<◌, ◌++◌, true, false, [], ◌∷◌, All, ap, arith, length, refl, subst, sym, take}
 use Rattle.std.proofs.lemmas.List.{take_all, take_more}
-use Rattle.std.proofs.lemmas.List.Elements.{All-push}
-use Rattle.net_core.proofs.Library.{slice_get_read}
+use Rattle.net_core.proofs.Library.{slice_get_read, All-push}
 use Rattle.plan_terms.specs.Terms.{Link, Module}
 use Rattle.front_plans.specs.FrontPlans.{IsDearLink}
 use Rattle.front_plans.proofs.free.first_free.Goals as goal

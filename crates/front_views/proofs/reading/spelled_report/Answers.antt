@@ -6,8 +6,7 @@ use Rattle.report_words.specs.Terms.{report_kind_word}
 use Rattle.report_words.specs.declared.fault.ReportKind.{ReportKind}
 use Rattle.report_reader.specs.ReadingReport.{report_of}
 use Rattle.check_answers.specs.declared.status.Status.TheVariants.{BadReport}
-use Rattle.fault_messages.specs.Notes.{AreReportNotes}
-use Rattle.fault_messages.specs.ReportMessages.{report_message}
+use Rattle.fault_messages.specs.Terms.{AreReportNotes, report_message}
 use Rattle.front_files.proofs.Showing.{fault_shown, notes_at}
 use Rattle.view_text.specs.Terms.{problem_case}
 use Rattle.front_views.proofs.reading.spelled_report.Goals as goal

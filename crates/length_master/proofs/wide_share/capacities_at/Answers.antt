@@ -1,7 +1,5 @@
 use Rattle.std.proofs.Common.{◌≡◌, ℕ, ◌<◌, ◌++◌, [], ◌∷◌, map, ap, sym, ◌∙◌, subst, arith}
-use Rattle.std.proofs.lemmas.List.FromFn.{map-range_with_len_more}
-use Rattle.std.specs.List.{range_with_len}
-use Rattle.net_core.proofs.Library.{get_or-map}
+use Rattle.net_core.proofs.Library.{get_or-map, map-range_with_len_more, range_with_len}
 use Rattle.plan_terms.specs.Terms.{Link}
 use Rattle.module_prices.specs.declared.cheapest.UnitPair.{UnitPair}
 use Rattle.length_master.specs.inner.Capacities.{given_at, given_by}

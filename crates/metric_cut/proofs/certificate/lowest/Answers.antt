@@ -1,8 +1,7 @@
 use Rattle.std.proofs.Common.{sym}
-use Rattle.net_core.proofs.Library.{div-mul_cancel}
+use Rattle.net_core.proofs.Library.{div-mul_cancel, positive_divisor}
 use Rattle.plan_terms.proofs.Lemmas.{lowest_terms}
 use Rattle.metric_cut.proofs.certificate.lowest.Goals as goal
-use Rattle.net_core.proofs.Numbers.{positive_divisor}
 
 pub nonzero_div-result : goal.nonzero_div-result
 nonzero_div-result c = positive_divisor c.gcd-common.result c.args.den c.requires c.gcd-common.ensures.1

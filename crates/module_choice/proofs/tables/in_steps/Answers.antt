@@ -1,8 +1,7 @@
 use Rattle.std.proofs.Common.{sym}
-use Rattle.net_core.proofs.Library.{mul-div_cancel'}
+use Rattle.net_core.proofs.Library.{mul-div_cancel', positive_divisor}
 use Rattle.module_choice.proofs.Steps.{quotient_sound}
 use Rattle.module_choice.proofs.tables.in_steps.Goals as goal
-use Rattle.net_core.proofs.Numbers.{positive_divisor}
 
 pub nonzero_div-result : goal.nonzero_div-result
 nonzero_div-result c = positive_divisor c.args.step c.args.m.now.capacity c.requires.sound.carries c.requires.divides

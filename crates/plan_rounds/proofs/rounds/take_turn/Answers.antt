@@ -1,6 +1,5 @@
 use Rattle.std.proofs.Common.{inl}
-use Rattle.net_core.proofs.Library.{∥∥₁_elim, ∥∥₁_map, props}
-use Rattle.net_core.proofs.Networks.{modules_sound}
+use Rattle.net_core.proofs.Library.{∥∥₁_elim, ∥∥₁_map, props, modules_sound}
 use Rattle.plan_terms.specs.Terms.{case_of}
 use Rattle.plan_rounds.proofs.Bounding.{have_bounds}
 use Rattle.plan_rounds.proofs.Results.{if_ok}

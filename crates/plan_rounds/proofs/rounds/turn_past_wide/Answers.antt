@@ -1,6 +1,5 @@
 use Rattle.std.proofs.Common.{◌+◌, ◌-◌, ◌∙◌, ap, inl, inr, Some, None, IfSome, arith, sym, subst, is_some}
-use Rattle.net_core.proofs.Library.{∥∥₁_elim, ∥∥₁_map, props}
-use Rattle.net_core.proofs.Networks.{modules_sound}
+use Rattle.net_core.proofs.Library.{∥∥₁_elim, ∥∥₁_map, props, modules_sound}
 use Rattle.plan_terms.specs.Terms.{case_of}
 use Rattle.master_bound.specs.Answers.{IsBestOf}
 use Rattle.plan_rounds.specs.inner.Alone.{IsPoolAfterTurn, IsPoolAsFar}

@@ -1,8 +1,7 @@
 use Rattle.std.proofs.Common.{arith, refl}
-use Rattle.net_core.proofs.Library.{le_of_dvd}
+use Rattle.net_core.proofs.Library.{le_of_dvd, positive_divisor}
 use Rattle.plan_rounds.proofs.Undividing.{undivided_of}
 use Rattle.plan_rounds.proofs.undivided.undivided.Goals as goal
-use Rattle.net_core.proofs.Numbers.{positive_divisor}
 
 pub overflow_cast-common : goal.overflow_cast-common
 overflow_cast-common c = let le = le_of_dvd c.requires.positive c.gcd-common.ensures.1 in omega (arith, le, c.ranges.divisor.fits)

@@ -1,6 +1,5 @@
 use Rattle.std.proofs.Common.{◌+◌, ◌≤◌, ◌∙◌, length}
-use Rattle.net_core.proofs.Library.{∥∥₁_elim, ∥∥₁_map, props}
-use Rattle.net_core.proofs.Networks.{modules_sound}
+use Rattle.net_core.proofs.Library.{∥∥₁_elim, ∥∥₁_map, props, modules_sound}
 use Rattle.plan_terms.specs.Terms.{case_of}
 use Rattle.separator.specs.Separators.{cuts_answered}
 use Rattle.plan_rounds.proofs.Listing.{listed_later}

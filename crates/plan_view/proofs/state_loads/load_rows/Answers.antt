@@ -1,6 +1,5 @@
 use Rattle.std.proofs.Common.{◌≡◌, List, ℕ, get_or, length, ap, ◌∙◌, arith}
-use Rattle.net_core.proofs.Library.{IfOk-weaker}
-use Rattle.net_core.proofs.Networks.{few_links}
+use Rattle.net_core.proofs.Library.{IfOk-weaker, few_links}
 use Rattle.module_choice.proofs.Pairs.{capacities_long}
 use Rattle.plan_terms.specs.Terms.{Routing, capacities, case_of}
 use Rattle.plan_view.specs.Loads.{routing_in}

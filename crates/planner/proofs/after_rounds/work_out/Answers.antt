@@ -1,5 +1,4 @@
-use Rattle.net_core.proofs.Library.{∥∥₁_map}
-use Rattle.std.proofs.lemmas.Result.{IfOk-weaker}
+use Rattle.net_core.proofs.Library.{∥∥₁_map, IfOk-weaker}
 use Rattle.planner.proofs.SnapshotGiven.{bounds_known, multipliers_known, shares_known, worked_for}
 use Rattle.planner.proofs.after_rounds.work_out.Goals as goal
 

@@ -1,8 +1,7 @@
 use Rattle.std.proofs.Common.{inl, inr, subst}
 use Rattle.net_core.proofs.Library.{err_from_is_err_and}
-use Rattle.input_files.specs.Inputs.{RefusesScriptFile, StopsAtFile, input_limit}
+use Rattle.input_files.specs.Terms.{RefusesScriptFile, StopsAtFile, input_limit, named}
 use Rattle.planner_commands.specs.Run.{EndsSession}
-use Rattle.input_files.specs.Stops.{named}
 use Rattle.check_answers.specs.declared.status.Status.TheVariants.{BadScript}
 use Rattle.planner_commands.proofs.Answering.{after_inputs, last_ends}
 use Rattle.planner_commands.proofs.run.session_files.Goals as goal

@@ -1,7 +1,5 @@
 use Rattle.std.proofs.Common.{◌≡◌, ◌∙◌, ◌+◌, ◌<◌, ◌++◌, inl, true, false, [], ◌∷◌, All, ap, arith, length, refl, subst, sym, take, take_all}
-use Rattle.std.proofs.lemmas.List.{take_more}
-use Rattle.std.proofs.lemmas.List.Elements.{All-push}
-use Rattle.net_core.proofs.Library.{∥∥₁_elim, props}
+use Rattle.net_core.proofs.Library.{∥∥₁_elim, props, take_more, All-push}
 use Rattle.plan_terms.specs.Terms.{CutLine, IsCut, case_of}
 use Rattle.branch_tree.specs.Terms.{line_of_cut, IsMadeOf, names_by}
 use Rattle.proof_report.proofs.handed.work_out.Goals as goal

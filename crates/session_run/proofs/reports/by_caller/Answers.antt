@@ -1,10 +1,9 @@
 use Rattle.std.proofs.Common.{◌≤◌, AllPairs, length, rules, arith, ap, subst, sym, ◌∙◌}
-use Rattle.net_core.proofs.Library.{IsNonDecreasingBy-from_sort_by_key}
+use Rattle.net_core.proofs.Library.{IsNonDecreasingBy-from_sort_by_key, all_written}
 use Rattle.std.proofs.lemmas.List.Sorted.{answers_always}
 use Rattle.session_run.specs.Transcripts.{outcome_caller, outcomes_of}
 use Rattle.session_run.proofs.Callers.{stays_same}
 use Rattle.session_run.proofs.reports.by_caller.Goals as goal
-use Rattle.net_core.proofs.Lists.{all_written}
 
 pub returns-clause-ordered : goal.returns-clause-ordered
 returns-clause-ordered c =

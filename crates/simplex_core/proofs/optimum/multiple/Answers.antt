@@ -1,8 +1,7 @@
 use Rattle.std.proofs.Common.{◌/◌}
-use Rattle.net_core.proofs.Library.{dvd-mul_left}
+use Rattle.net_core.proofs.Library.{dvd-mul_left, positive_divisor}
 use Rattle.simplex_core.proofs.Multiples.{multiple_some, multiple_first, multiple_least}
 use Rattle.simplex_core.proofs.optimum.multiple.Goals as goal
-use Rattle.net_core.proofs.Numbers.{positive_divisor}
 
 pub returns-clause-some : goal.returns-clause-some
 returns-clause-some c = multiple_some c.args.a c.args.b c.gcd.result c.requires.a.0 c.requires.b.0 c.gcd.ensures

@@ -1,6 +1,5 @@
 use Rattle.std.proofs.Common.{◌≡◌, ◌<◌, ◌≤◌, ◌∙◌, ◌++◌, AllPairs, List, get_or, length, rules, arith, ap, subst, sym}
-use Rattle.net_core.proofs.Library.{IsNonDecreasingBy-from_sort_by_key}
-use Rattle.net_core.proofs.Lists.{all_written}
+use Rattle.net_core.proofs.Library.{IsNonDecreasingBy-from_sort_by_key, all_written}
 use Rattle.plan_terms.specs.Terms.{Link}
 use Rattle.trim_plan.specs.Dearest.{priced_modules}
 use Rattle.trim_plan.specs.Trimmed.{price_rank}

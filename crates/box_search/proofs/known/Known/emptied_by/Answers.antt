@@ -1,6 +1,5 @@
 use Rattle.std.proofs.Common.{◌≡◌, ℕ, ◌≤◌, ◌<◌, ⊎_elim, arith, subst}
-use Rattle.std.proofs.lemmas.Bool.{both_ways}
-use Rattle.net_core.proofs.Library.{cases_lt}
+use Rattle.net_core.proofs.Library.{cases_lt, both_ways}
 use Rattle.tree_check.specs.Terms.{EmptiesBox, names_in}
 use Rattle.box_search.specs.Searches.{aimed}
 use Rattle.box_search.proofs.Knowing.{empties_told, none_empties, tests_length}

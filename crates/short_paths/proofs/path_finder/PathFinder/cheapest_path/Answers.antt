@@ -1,6 +1,5 @@
 use Rattle.std.proofs.Common.{Err, ap, arith, length}
-use Rattle.net_core.proofs.Library.{slice_get_within}
-use Rattle.net_core.proofs.Networks.{few_nodes}
+use Rattle.net_core.proofs.Library.{slice_get_within, few_nodes}
 use Rattle.plan_terms.specs.Terms.{Joins, graph_of}
 use Rattle.plan_terms.proofs.Lemmas.{path_links_known, path_few, joins_below, joins_inside}
 use Rattle.short_paths.proofs.Pricing.{least_priced, scaled_long, scaled_short}
