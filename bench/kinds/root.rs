@@ -1,4 +1,4 @@
-use line_check::tested::{tested_line, tested_lines};
+use line_check::tested_lines::{tested_line, tested_lines};
 use line_check::{Inequality, Line, Tested};
 use plan_swaps::swap;
 use table_maker::{Part, TableTask, narrow_lines, set_cuts, table_lines};

@@ -36,7 +36,7 @@ def measure(program, nodes, seed):
         network.write(subprocess.run(made, check=True, capture_output=True, text=True).stdout)
         network.flush()
         plan, _ = count(program, ["plan", network.name, MODEL], "plan_once")
-        _, swap = count(program, ["prove", "1", network.name, MODEL], "plan_swaps::swapping::swap ")
+        _, swap = count(program, ["prove", "1", network.name, MODEL], "plan_swaps::cheaper_plan::swap ")
     return plan, swap
 
 

@@ -17,7 +17,7 @@ use Rattle.net_core.proofs.network.Network.TheSendSync as networks
 use Rattle.net_core.proofs.states.States.TheSendSync as all_states
 use Rattle.turn_lock.proofs.desk.Desk.TheSendSync as desks
 use Rattle.turn_lock.proofs.desk.Pass.TheSendSync as passes
-use Rattle.cut_pool.proofs.pooled.PooledCut.TheSendSync as pools
+use Rattle.cut_pool.proofs.pooled_cut.PooledCut.TheSendSync as pools
 use Rattle.cut_pool.specs.contracts.board.Board as board
 use Rattle.cut_pool.specs.contracts.entries.Told as told
 use Rattle.cut_pool.specs.contracts.board.BoardChronicle.TheImpl.{ghosts}

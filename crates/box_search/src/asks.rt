@@ -7,7 +7,7 @@ ghost use Rattle.box_search.specs.Searches.{aimed};
 use crate::aim::Aim;
 use crate::found::Cheaper;
 use crate::large::stop_anywhere;
-use crate::lowered::lowered_counts;
+use crate::lowered_counts::lowered_counts;
 use module_choice::cost;
 use net_core::{Copied, Counts, NoMemory};
 use plan_swaps::able_counts::{AbleTest, Stop};

@@ -21,7 +21,7 @@ use net_core::{Counts, NoMemory};
 use plan_swaps::able_counts::Stop;
 use plan_swaps::limits::are_within_limits;
 use std::alloc::Global;
-use tree_check::fixed::fixed_counts;
+use tree_check::fixed_counts::fixed_counts;
 use tree_check::{BoxCert, Boxed, Node};
 
 /// What is found at a box of one choice of counts that no known cut empties, and whose best certificate doesn't close it.

@@ -7,7 +7,7 @@ ghost use Rattle.tree_check.specs.Proofs.{EmptiesBox};
 ghost use Rattle.box_search.specs.Searches.{Extends, IsKnown, aimed};
 
 use crate::aim::Aim;
-use line_check::tested::{tested_cut, tested_line, tested_lines};
+use line_check::tested_lines::{tested_cut, tested_line, tested_lines};
 use line_check::{Line, Tested};
 use line_maker::box_program::{Lines, Solution, common_unit, divisor_of, solved};
 use net_core::{CutLine, Instance, List, NoMemory};

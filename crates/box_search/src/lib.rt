@@ -18,7 +18,7 @@ mod found;
 mod known;
 mod large;
 mod lines;
-mod lowered;
+mod lowered_counts;
 mod search;
 mod twigs;
 mod whole;

@@ -13,11 +13,11 @@ mod choice;
 mod growth;
 pub mod law;
 mod own_cert;
-mod proving;
+mod proof_search;
 mod tree;
 
 pub use box_search::index_of;
 pub use line_check;
-pub use proving::{prove, prove_instance};
+pub use proof_search::{prove, prove_instance};
 pub use tree_check;
 pub use tree_check::{BoxCert, Node, Proof, Verdict};

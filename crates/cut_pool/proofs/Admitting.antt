@@ -4,7 +4,7 @@ use Rattle.plan_terms.specs.Terms.{Pooled, graph_in}
 use Rattle.metric_cut.specs.Cuts.{IsCutOf}
 use Rattle.metric_cut.specs.declared.cut.Cut.{Cut}
 use Rattle.cut_pool.specs.declared.board.Board.{Board}
-use Rattle.cut_pool.specs.declared.pooled.PooledCut.{PooledCut}
+use Rattle.cut_pool.specs.declared.pooled_cut.PooledCut.{PooledCut}
 use Rattle.cut_pool.specs.Boards.{IsNew, opening_case}
 use Rattle.cut_pool.specs.Histories.{IsLegalAfter, cuts_of}
 use Rattle.cut_pool.specs.inner.Pooling.{is_pooled_cut}

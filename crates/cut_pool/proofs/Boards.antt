@@ -5,7 +5,7 @@ use Rattle.plan_terms.specs.Terms.{Demand, Edit, Entry, Edited, Pooled, Reply, C
 use Rattle.demand_book.specs.declared.book.Book.{Book}
 use Rattle.metric_cut.specs.Cuts.{IsCutOf}
 use Rattle.metric_cut.specs.declared.cut.Cut.{Cut}
-use Rattle.cut_pool.specs.declared.pooled.PooledCut.{PooledCut}
+use Rattle.cut_pool.specs.declared.pooled_cut.PooledCut.{PooledCut}
 use Rattle.cut_pool.specs.Histories.{Dated, IsBoardAfter, IsLegalAfter, cut_of_line, cuts_of, demands_left, left_by, left_by_entry, version_left}
 use Rattle.cut_pool.specs.Pools.{ArePooledCuts, line_of_pooled}
 use Rattle.cut_pool.specs.inner.Pooling.{StandsAt}

@@ -10,7 +10,7 @@ use Rattle.metric_cut.specs.declared.cut.Cut.{Cut}
 use Rattle.metric_cut.specs.Cuts.{IsCutOf}
 use Rattle.metric_cut.specs.inner.Rights.{part_of}
 use Rattle.metric_cut.proofs.Sides.{sum_is_right}
-use Rattle.cut_pool.specs.declared.pooled.PooledCut.{PooledCut}
+use Rattle.cut_pool.specs.declared.pooled_cut.PooledCut.{PooledCut}
 use Rattle.cut_pool.specs.declared.shares.NeedChange.{NeedChange}
 use Rattle.cut_pool.specs.inner.Pooling.{CanFollow, IsSomeCut, StandsAmong, StandsAt, followed}
 use Rattle.cut_pool.specs.inner.Shares.{IsShareIn, asked_by}

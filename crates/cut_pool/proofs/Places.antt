@@ -4,7 +4,7 @@ use Rattle.std.specs.List.{position_from}
 use Rattle.net_core.proofs.Library.{false≢true, Decides-and, Decides-eqb, get_or-map, length-map, position-Some, slice_get-get_or, slice_get-map, bytes_eq-Decides}
 use Rattle.std.proofs.lemmas.Iterator.Adapters.{position_from-zero}
 use Rattle.metric_cut.specs.declared.cut.Cut.{Cut}
-use Rattle.cut_pool.specs.declared.pooled.PooledCut.{PooledCut}
+use Rattle.cut_pool.specs.declared.pooled_cut.PooledCut.{PooledCut}
 use Rattle.cut_pool.specs.inner.Pooling.{is_pooled_cut}
 
 -- a cut by its state and lengths

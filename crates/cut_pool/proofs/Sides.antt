@@ -2,7 +2,7 @@
 use Rattle.std.specs.Prelude.{◌<◌, ◌^◌, List}
 use Rattle.plan_terms.specs.Terms.{Demand, Graph, Joins, IsRight}
 use Rattle.metric_cut.specs.Cuts.{IsCutOf}
-use Rattle.cut_pool.specs.declared.pooled.PooledCut.{PooledCut}
+use Rattle.cut_pool.specs.declared.pooled_cut.PooledCut.{PooledCut}
 
 -- the cut has its right side at the demands
 pub record IsAtDemands (demands : List Demand) (c : PooledCut) : Type 0 where

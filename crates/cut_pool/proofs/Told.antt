@@ -3,7 +3,7 @@ use Rattle.std.proofs.Common.{◌≡◌, ◌≢◌, ◌∙◌, ℕ, ◌<◌, ◌
 use Rattle.net_core.proofs.Library.{∥∥₁_elim, props, get_or-map, length-map, All-map, get_or_from_slice_get, slice_get-get_or, slice_get-map, slice_get_within}
 use Rattle.plan_terms.specs.Terms.{Demand, Entry, CutLine, Case, graph_in, Joins, IsCut, IsRight}
 use Rattle.metric_cut.specs.declared.cut.Cut.{Cut}
-use Rattle.cut_pool.specs.declared.pooled.PooledCut.{PooledCut}
+use Rattle.cut_pool.specs.declared.pooled_cut.PooledCut.{PooledCut}
 use Rattle.cut_pool.specs.declared.board.Board.{Board}
 use Rattle.cut_pool.specs.Boards.{AreLinesNow, opening_case}
 use Rattle.cut_pool.specs.Histories.{IsBoardAfter, IsPoolAfter, cut_of_line, cuts_of, demands_left}

@@ -2,7 +2,7 @@
 use Rattle.std.specs.Prelude.{List, All}
 use Rattle.plan_terms.specs.Terms.{CutLine, Case, graph_in}
 use Rattle.metric_cut.specs.Cuts.{IsCutOf}
-use Rattle.cut_pool.specs.declared.pooled.PooledCut.{PooledCut}
+use Rattle.cut_pool.specs.declared.pooled_cut.PooledCut.{PooledCut}
 
 -- the line of a pooled cut
 abbrev pub line_of_pooled : PooledCut → CutLine

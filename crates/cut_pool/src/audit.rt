@@ -2,7 +2,7 @@ ghost use Rattle.std.specs.Prelude.{◌≡◌, All, IfOk, map};
 ghost use Rattle.cut_pool.specs.Pools.{line_of_pooled};
 ghost use Rattle.cut_pool.specs.inner.Pooling.{StandsAmong};
 
-use crate::pooled::PooledCut;
+use crate::pooled_cut::PooledCut;
 use net_core::{CutLine, Demands, List, NoMemory};
 use rayon::prelude::*;
 use std::alloc::Global;

@@ -8,7 +8,7 @@ use crate::answers::{AdmitAnswer, EditAnswer};
 use crate::audit::{lines_with, rights_of};
 use crate::entries::Told;
 use crate::history::History;
-use crate::pooled::{PooledCut, lines_of, place_of};
+use crate::pooled_cut::{PooledCut, lines_of, place_of};
 use crate::snapshot::Snapshot;
 use demand_book::Book;
 use metric_cut::Cut;

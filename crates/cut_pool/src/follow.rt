@@ -3,7 +3,7 @@ ghost use Rattle.demand_book.specs.Book.{IsAdd};
 ghost use Rattle.plan_terms.specs.Terms.{edit_need, edit_reply, version_after};
 ghost use Rattle.cut_pool.specs.inner.Pooling.{StandsAt};
 
-use crate::pooled::{PooledCut, follow_all};
+use crate::pooled_cut::{PooledCut, follow_all};
 use crate::shares::{NeedChange, name_of, share_of};
 use demand_book::Book;
 use net_core::{Edit, List, NoMemory, Reply};

@@ -6,7 +6,7 @@ ghost use Rattle.cut_pool.specs.inner.Pooling.{StandsAt};
 
 use crate::entries::Told;
 use crate::follow::make_edit;
-use crate::pooled::PooledCut;
+use crate::pooled_cut::PooledCut;
 use crate::shares::sets_known;
 use demand_book::Book;
 use metric_cut::Cut;

@@ -7,7 +7,7 @@ mod board;
 mod entries;
 mod follow;
 mod history;
-mod pooled;
+mod pooled_cut;
 mod shares;
 mod snapshot;
 

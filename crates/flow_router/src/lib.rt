@@ -11,8 +11,8 @@
 #![tactic(auto)]
 
 mod answer;
-mod cutting;
 mod flows;
+mod link_lengths;
 mod lowest_terms;
 mod numbers;
 mod prices;

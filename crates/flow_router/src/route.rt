@@ -7,8 +7,8 @@ ghost use Rattle.flow_router.specs.inner.Flowing.{LeavesNeed};
 ghost use Rattle.flow_router.specs.inner.Solutions.{ArePricesBelow, IsSolution};
 
 use crate::answer::RouteAnswer;
-use crate::cutting::{LinkLengths, common_price, lengths_of};
 use crate::flows::{basis_flows, leaves_need};
+use crate::link_lengths::{LinkLengths, common_price, lengths_of};
 use crate::lowest_terms::lowest;
 use crate::numbers::wide_row;
 use crate::prices::link_prices;

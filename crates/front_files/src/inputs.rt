@@ -5,7 +5,7 @@ ghost use Rattle.front_files.specs.Endings.{FailsReading, Halts, halt_status};
 ghost use Rattle.front_files.specs.FrontInputs.{FailsAtFailures, FailsAtInputs, HasCase, HasListed, named_case};
 ghost use Rattle.front_files.specs.Messages.{FailsAtFile, ShowsFailuresFault, ShowsModelFault};
 
-use crate::fetching::{fetch_file, load_network, load_placed_network};
+use crate::loaded_files::{fetch_file, load_network, load_placed_network};
 use crate::refusal::{FaultyFile, place_in, refused, unused};
 use crate::stop::Halt;
 use crate::words::CaseFiles;

@@ -8,15 +8,15 @@
 //! ```
 #![tactic(auto)]
 
-mod fetching;
 mod inputs;
+mod loaded_files;
 mod refusal;
 mod stop;
 mod words;
 
-pub use fetching::{fetch_report, load_network};
 pub use input_files;
 pub use inputs::{load_case, load_placed_case};
+pub use loaded_files::{fetch_report, load_network};
 pub use refusal::{FaultyFile, place_in, refused, told};
 pub use stop::{Halt, Told};
 pub use words::CaseFiles;

@@ -8,9 +8,9 @@
 
 mod answer;
 mod free;
-mod planned;
+mod planned_answer;
 mod plans;
-mod separated;
+mod separated_answer;
 mod splits;
 
 pub use answer::PlanAnswer;

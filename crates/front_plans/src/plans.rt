@@ -6,8 +6,8 @@ ghost use Rattle.front_plans.specs.FrontPlans.{EndsChargedPlan, EndsPlanForPeopl
 
 use crate::answer::PlanAnswer;
 use crate::free::{first_free, free_answer};
-use crate::planned::planned_answer;
-use crate::separated::separated_answer;
+use crate::planned_answer::planned_answer;
+use crate::separated_answer::separated_answer;
 use crate::splits::limit_of;
 use net_core::{Instance, Link, Name, NoMemory, Problem, StateId};
 use outside_io::Gate;

@@ -7,15 +7,15 @@
 //! ```
 #![tactic(auto)]
 
-mod accepted;
-mod checking;
+mod accepted_form;
 mod plan_proof;
-mod reading;
+mod report_check;
+mod spelled_report;
 mod states;
 mod trees;
 mod views;
 
-pub use accepted::put_accepted;
+pub use accepted_form::put_accepted;
 pub use states::{picture_form, state_form};
 pub use view_forms;
 pub use views::view_report;

@@ -5,10 +5,10 @@ ghost use Rattle.view_forms.specs.Terms.{IsFormOf};
 ghost use Rattle.front_views.specs.AcceptedReports.{IsAcceptedReport};
 ghost use Rattle.front_views.specs.ReportEnds.{EndsReport, ViewsAccepted, ViewsReport};
 
-use crate::accepted::put_accepted_form;
-use crate::checking::accept;
+use crate::accepted_form::put_accepted_form;
 use crate::plan_proof::read_proof;
-use crate::reading::spelled_report;
+use crate::report_check::accept;
+use crate::spelled_report::spelled_report;
 use front_files::Halt;
 use net_core::{Bytes, List, Problem};
 use plan_types::Report;

@@ -7,10 +7,10 @@
 #![tactic(auto)]
 
 mod draft;
-mod left;
-mod opening;
+mod greedy;
+mod open_paths;
 mod order;
 mod routes;
-mod sending;
+mod sent_flows;
 
-pub use left::{Left, greedy, greedy_after, greedy_in};
+pub use greedy::{Left, greedy, greedy_after, greedy_in};

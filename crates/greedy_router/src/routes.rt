@@ -4,8 +4,8 @@ ghost use Rattle.greedy_router.specs.Blocked.{IsBlocked};
 ghost use Rattle.greedy_router.specs.inner.Drafts.{Adds};
 
 use crate::draft::Draft;
-use crate::opening::open_path;
-use crate::sending::send;
+use crate::open_paths::open_path;
+use crate::sent_flows::send;
 use net_core::{Demand, NoMemory};
 use short_paths::PathFinder;
 use std::alloc::Global;

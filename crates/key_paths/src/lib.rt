@@ -6,13 +6,13 @@
 
 mod carrier;
 mod change_key;
-mod collecting;
 mod entering;
 mod exchange;
 mod finish;
-mod known;
+mod known_carriers;
 mod move_rest;
 mod numbers;
+mod path_offers;
 mod pricing;
 mod solver;
 mod start;

@@ -5,7 +5,7 @@ ghost use Rattle.key_rows.specs.Terms.{IsShortPath};
 ghost use Rattle.key_paths.specs.inner.Gaining.{cost_at, IsCarrier, IsGaining, NoneGains};
 
 use crate::carrier::Carrier;
-use crate::collecting::find;
+use crate::path_offers::find;
 use checked_fraction::first_negative;
 use key_rows::{Keyed, path_sum};
 use net_core::{LinkId, List, NoMemory, RouteColumn, RouteTask};

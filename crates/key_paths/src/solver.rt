@@ -10,7 +10,7 @@ ghost use Rattle.key_paths.specs.inner.Gaining.{IsCarrier};
 use crate::carrier::Carrier;
 use crate::entering::enter;
 use crate::finish::{finish, names_of};
-use crate::known::known_carriers;
+use crate::known_carriers::known_carriers;
 use crate::numbers::links_of;
 use crate::pricing::price;
 use crate::start::{room_of, slack_keyed};

@@ -8,10 +8,10 @@ ghost use Rattle.length_master.specs.inner.Slots.{ArePlacedRows, IsSlotInside, s
 ghost use Rattle.length_master.specs.inner.Tests.{AreBasicValues, AreBestPrices, AreNamesBelow};
 
 use crate::amounts::Numbers;
-use crate::priced::{are_even, none_gains};
+use crate::priced_lengths::{are_even, none_gains};
 use crate::row::KeptRow;
 use crate::slot::Slot;
-use crate::tested::{are_filled, are_inverse, are_placed, cut_of, row_at};
+use crate::tested_basis::{are_filled, are_inverse, are_placed, cut_of, row_at};
 use checked_fraction::{Row, first_negative, lower};
 use module_prices::UnitPair;
 use net_core::{Copied, CutLine, LinkId, List, MasterColumn, Network, NoMemory};

@@ -10,16 +10,16 @@
 #![tactic(auto)]
 
 mod amounts;
-mod entering;
+mod basis;
+mod entrant;
 mod guess;
-pub mod kept;
-mod leaving;
+pub mod kept_master;
+mod leaving_row;
 mod line;
-mod priced;
+mod priced_lengths;
 mod row;
 mod slot;
-mod tested;
-mod turning;
+mod tested_basis;
 mod wide_share;
 
-pub use kept::KeptMaster;
+pub use kept_master::KeptMaster;

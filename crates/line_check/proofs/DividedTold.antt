@@ -7,7 +7,7 @@ use Rattle.line_check.specs.Inequalities.{AreNamedBy, WeightedLine, module_numbe
 use Rattle.line_check.specs.Lines.{IsDividedLine, divided_line, divided_up}
 use Rattle.line_check.specs.Testing.{names_by, says, test_at, weighed}
 use Rattle.line_check.specs.declared.inequality.Inequality.{Inequality}
-use Rattle.line_check.specs.declared.tested.Tested.{Tested}
+use Rattle.line_check.specs.declared.tested_lines.Tested.{Tested}
 use Rattle.line_check.specs.inner.Dividing.{AreDividedCoefs, KeepsLimits}
 
 same_weighted : (t : WeightedLine) (line : Inequality) (num : ℕ) → t.line ≡ line → t.num ≡ num → t ≡ record { line = line; num = num }

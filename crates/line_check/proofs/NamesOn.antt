@@ -6,7 +6,7 @@ use Rattle.line_check.specs.Inequalities.{line_of_cut}
 use Rattle.line_check.specs.Lines.{IsMadeAt, IsMadeOf, Source, names_among}
 use Rattle.line_check.specs.Testing.{AreTested, names_by, no_test, says, test_at}
 use Rattle.line_check.specs.declared.inequality.Inequality.{Inequality}
-use Rattle.line_check.specs.declared.tested.Tested.{Tested}
+use Rattle.line_check.specs.declared.tested_lines.Tested.{Tested}
 
 -- the index of a source names the line that it makes
 pub source_names : (p : Case) (sources : List Source) (n i : ℕ) (robust : Bool) (source : Source) (made : Inequality) → i < n

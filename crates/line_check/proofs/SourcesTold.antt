@@ -8,7 +8,7 @@ use Rattle.line_check.specs.Testing.{IsSoundAt, IsTestedAs, names_by, no_test, t
 use Rattle.line_check.specs.declared.inequality.Inequality.{Inequality}
 use Rattle.line_check.specs.declared.line.Line.TheVariants.{Divided, Table}
 use Rattle.line_check.specs.declared.line.TableKind.TheVariants.{Plain, Failing}
-use Rattle.line_check.specs.declared.tested.Tested.{Tested}
+use Rattle.line_check.specs.declared.tested_lines.Tested.{Tested}
 use Rattle.line_check.specs.inner.Dividing.{IsRobustAt}
 use Rattle.line_check.proofs.DividedTold.{divided_is, divided_need, divided_prices, named_all, terms_told}
 use Rattle.line_check.proofs.TestedMore.{made_of_robust}

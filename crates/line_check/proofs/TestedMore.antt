@@ -10,7 +10,7 @@ use Rattle.line_check.specs.declared.inequality.Inequality.{Inequality}
 use Rattle.line_check.specs.declared.line.Line.{Line}
 use Rattle.line_check.specs.declared.line.Line.TheVariants.{Divided, Table}
 use Rattle.line_check.specs.declared.line.TableKind.TheVariants.{Plain, Failing}
-use Rattle.line_check.specs.declared.tested.Tested.{Tested}
+use Rattle.line_check.specs.declared.tested_lines.Tested.{Tested}
 
 -- ---- what is made of lines is made under each naming that names these lines
 

@@ -5,7 +5,7 @@ use Rattle.master_bound.specs.declared.answer.Multiplier.{Multiplier}
 use Rattle.line_check.specs.Inequalities.{WeightedLine}
 use Rattle.line_check.specs.Lines.{IsMadeOf, Source, names_among}
 use Rattle.line_check.specs.declared.inequality.Inequality.{Inequality}
-use Rattle.line_check.specs.declared.tested.Tested.{Tested}
+use Rattle.line_check.specs.declared.tested_lines.Tested.{Tested}
 
 -- a test that nothing passed
 abbrev pub no_test : Tested

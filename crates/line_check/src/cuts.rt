@@ -3,7 +3,7 @@ ghost use Rattle.plan_terms.specs.Terms.{AreKept, IsCut, IsRight, Joins, case_of
 
 use metric_cut::{Cut, CutFault};
 use net_core::{Copied, CutLine, Instance, NoMemory, Surviving};
-use plan_checker::kept::is_kept;
+use plan_checker::local_cuts::is_kept;
 use std::alloc::Global;
 
 /// Whether a cut's right side is its own at the demands.

@@ -7,17 +7,17 @@
 #![tactic(auto)]
 
 mod cuts;
-mod divided;
+mod divided_line;
 pub mod inequality;
 mod kinds;
 pub mod law;
 pub mod line;
 mod sums;
 mod tables;
-pub mod tested;
+pub mod tested_lines;
 
 pub use inequality::Inequality;
 pub use line::{Line, TableKind};
 pub use master_bound::Multiplier;
 pub use sums::{line_in, module_price, times};
-pub use tested::Tested;
+pub use tested_lines::Tested;

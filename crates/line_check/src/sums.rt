@@ -3,7 +3,7 @@ ghost use Rattle.line_check.specs.Inequalities.{module_price, summed_need};
 ghost use Rattle.line_check.specs.Testing.{test_at, weighed};
 
 use crate::inequality::{Inequality, coefficient};
-use crate::tested::Tested;
+use crate::tested_lines::Tested;
 use master_bound::Multiplier;
 
 /// A product that 128 bits don't hold is the greatest number. It takes constant time.

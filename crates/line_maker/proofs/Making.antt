@@ -5,7 +5,7 @@ use Rattle.plan_terms.specs.Terms.{Link}
 use Rattle.line_check.specs.Terms.{WeightedLine, need_of, summed_need, IsDividedLine, divided_line, divided_up, IsSoundAt, names_by, test_at, weighed, Multiplier}
 use Rattle.line_check.specs.declared.line.Line.{Line}
 use Rattle.line_check.specs.declared.line.Line.TheVariants.{Divided}
-use Rattle.line_check.specs.declared.tested.Tested.{Tested}
+use Rattle.line_check.specs.declared.tested_lines.Tested.{Tested}
 use Rattle.line_check.proofs.DividedTold.{IsSaidAt, named_all}
 use Rattle.line_maker.specs.Made.{IsCoarseLine, IsMadeLine}
 use Rattle.line_maker.specs.declared.candidate.Candidate.{Candidate}

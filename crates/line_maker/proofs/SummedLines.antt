@@ -3,7 +3,7 @@ use Rattle.std.proofs.Common.{◌≡◌, ◌≢◌, ℕ, ◌+◌, ◌*◌, ◌/�
 use Rattle.net_core.proofs.Library.{cases_eq}
 use Rattle.plan_terms.specs.Terms.{Link}
 use Rattle.line_check.specs.Terms.{module_number, need_of, summed_need, divided_up, test_at, weighed, Multiplier}
-use Rattle.line_check.specs.declared.tested.Tested.{Tested}
+use Rattle.line_check.specs.declared.tested_lines.Tested.{Tested}
 use Rattle.line_check.proofs.DividedLines.{up_is}
 use Rattle.line_check.proofs.WeighedSums.{need_more}
 use Rattle.line_maker.specs.inner.Candidates.{IsNarrowLink}

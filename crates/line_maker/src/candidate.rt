@@ -9,7 +9,7 @@ use crate::numbers::{Lowest, Numbers, are_same, in_lowest};
 use crate::pairs::{Pair, pairs_among, sum_of};
 use crate::point::Point;
 use crate::score::best_divisor;
-use line_check::tested::is_sound;
+use line_check::tested_lines::is_sound;
 use line_check::{Multiplier, Tested};
 use net_core::{List, NoMemory};
 use std::alloc::Global;

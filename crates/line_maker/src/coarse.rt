@@ -10,7 +10,7 @@ use crate::numbers::{
 };
 use crate::sums::is_narrow;
 use checked_fraction::cmp;
-use line_check::tested::is_sound;
+use line_check::tested_lines::is_sound;
 use line_check::{Inequality, Line, Multiplier, Tested, line_in};
 use net_core::{Link, List, NoMemory};
 use std::alloc::Global;

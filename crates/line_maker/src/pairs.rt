@@ -6,7 +6,7 @@ use crate::known::Known;
 use crate::numbers::Numbers;
 use checked_fraction::gcd;
 use line_check::Tested;
-use line_check::tested::is_sound;
+use line_check::tested_lines::is_sound;
 use master_bound::Multiplier;
 use net_core::{List, NoMemory};
 use std::alloc::Global;

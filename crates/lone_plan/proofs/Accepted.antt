@@ -10,7 +10,7 @@ use Rattle.acceptance.specs.Reports.{IsSoundOutcomeOf, IsSoundPlanOf}
 use Rattle.acceptance.proofs.Reports.{outcome_none}
 use Rattle.acceptance.proofs.Sound.{none_prop}
 use Rattle.acceptance.proofs.Transcripts.{transcript_accepted, transcript_sound}
-use Rattle.lone_plan.specs.declared.planned.PlannedReport.{PlannedReport}
+use Rattle.lone_plan.specs.declared.planned_report.PlannedReport.{PlannedReport}
 use Rattle.lone_plan.specs.Laws.{IsAcceptable, LonePlansAreAccepted, RedesignsAreAccepted}
 use Rattle.lone_plan.specs.LonePlans.{IsSoundDesign, plan_commands, redesigned, redesigned_plan, whole_report}
 use Rattle.lone_plan.proofs.Alone.{unmoved}

@@ -12,7 +12,7 @@ use Rattle.acceptance.specs.Terms.{IsSnapshotPlan, IsOutcomeAfter, IsPlanBetween
 use Rattle.session_script.specs.declared.script.Act.{Act}
 use Rattle.session_script.specs.declared.script.Act.TheVariants as acts
 use Rattle.plan_types.specs.Terms.{outcome_position}
-use Rattle.lone_plan.specs.declared.planned.PlannedReport.{PlannedReport}
+use Rattle.lone_plan.specs.declared.planned_report.PlannedReport.{PlannedReport}
 use Rattle.lone_plan.specs.Designs.{CheaperRedesignsArePlans}
 use Rattle.lone_plan.specs.LonePlans.{IsSoundDesign, plan_commands, redesigned, redesigned_plan, whole_report}
 use Rattle.lone_plan.proofs.Accepted.{redesigns_are_accepted}

@@ -7,7 +7,7 @@ use Rattle.plan_report.specs.Terms.{IsOutcomeInForm, known_to, Plan, Planned}
 use Rattle.route_law.specs.Terms.{IsLowestRouting}
 use Rattle.session_script.specs.declared.script.Act.TheVariants as acts
 use Rattle.acceptance.specs.Terms.{IsPlanBetween, IsTranscript, RunsFrom}
-use Rattle.lone_plan.specs.declared.planned.PlannedReport.{PlannedReport}
+use Rattle.lone_plan.specs.declared.planned_report.PlannedReport.{PlannedReport}
 use Rattle.lone_plan.specs.Designs.{IsMadePlan, LonePlansCarry}
 use Rattle.lone_plan.specs.LonePlans.{plan_commands, whole_report}
 use Rattle.lone_plan.proofs.Alone.{unmoved}

@@ -9,7 +9,7 @@ use Rattle.session_script.specs.declared.script.Command.{Command}
 use Rattle.acceptance.specs.Terms.{IsTranscript}
 use Rattle.lone_plan.specs.declared.lone.LonePlan.{LonePlan}
 use Rattle.lone_plan.specs.declared.lone.LonePlan.TheVariants.{Planned, Separated}
-use Rattle.lone_plan.specs.declared.planned.PlannedReport.{PlannedReport}
+use Rattle.lone_plan.specs.declared.planned_report.PlannedReport.{PlannedReport}
 
 -- the script of a plan: one plan command, of caller 1
 abbrev pub plan_commands : List Command

@@ -4,8 +4,8 @@
 pub mod design_law;
 pub mod law;
 mod lone;
-mod planned;
+mod planned_report;
 
 pub use acceptance::session_run;
 pub use lone::{LonePlan, plan_once};
-pub use planned::PlannedReport;
+pub use planned_report::PlannedReport;

@@ -3,7 +3,7 @@ ghost use Rattle.plan_terms.specs.Terms.{Case, case_of, Notes as Noted};
 ghost use Rattle.acceptance.specs.Terms.{IsTranscript};
 ghost use Rattle.lone_plan.specs.LonePlans.{IsLoneAnswer, plan_commands};
 
-use crate::planned::PlannedReport;
+use crate::planned_report::PlannedReport;
 use acceptance::session_run::{run_session, single_plan};
 use net_core::{Copied, Instance, Name, NoMemory, StateId};
 use outside_io::Gate;

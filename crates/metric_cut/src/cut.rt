@@ -4,7 +4,7 @@ ghost use Rattle.metric_cut.specs.Bounded.{HaveBound};
 ghost use Rattle.metric_cut.specs.Cuts.{IsCutOf, MayKeepCut};
 ghost use Rattle.metric_cut.specs.inner.Rights.{part_of};
 
-use crate::keep::keep;
+use crate::kept_lengths::keep;
 use net_core::{
     Copied, Demand, Demands, Lengths, Network, NoMemory, NodeId, StateId, States, Surviving,
 };

@@ -3,7 +3,7 @@
 
 pub mod certificate;
 pub mod cut;
-pub mod keep;
+pub mod kept_lengths;
 pub mod multiplier;
 pub mod openings;
 pub mod own_bounds;
@@ -12,7 +12,7 @@ pub mod violation;
 
 pub use certificate::{OwnCertificate, RawValue, own_certificate};
 pub use cut::{Cut, CutFault};
-pub use keep::divisor_of_lengths;
+pub use kept_lengths::divisor_of_lengths;
 pub use multiplier::{OwnMultiplier, greatest_multiplier};
 pub use net_core::CutLine;
 pub use openings::opening;

@@ -6,7 +6,7 @@ ghost use Rattle.plan_checker.specs.Certified.{HoldsBoundDiffers, HoldsCertifica
 ghost use Rattle.plan_checker.specs.inner.Tests.{Tells, TellFirst};
 
 use crate::finding::Finding;
-use crate::kept::first_local;
+use crate::local_cuts::first_local;
 use crate::prices::overpriced;
 use crate::rights::check_rights;
 use crate::stop::{Stop, Test};

@@ -1,13 +1,13 @@
 //! A plain walk through a plan that trusts nothing of whoever made it.
 #![tactic(auto)]
 
-mod carried;
 mod certificate;
 mod cost;
 mod demands;
 pub mod finding;
-pub mod kept;
+pub mod local_cuts;
 mod mixed;
+mod overloads;
 mod paths;
 mod place;
 pub mod plan;

@@ -5,8 +5,8 @@ ghost use Rattle.plan_checker.specs.Carried.{HoldsBadPath, HoldsNotCarried, Hold
 ghost use Rattle.plan_checker.specs.inner.Routes.{FollowPaths};
 ghost use Rattle.plan_checker.specs.inner.Tests.{Tells, TellFirst};
 
-use crate::carried::{overloaded, uncarried};
 use crate::finding::Finding;
+use crate::overloads::{overloaded, uncarried};
 use crate::routes::bad_path;
 use crate::stop::{Stop, Test};
 use module_choice::capacities;

@@ -4,8 +4,8 @@ ghost use Rattle.plan_report.specs.Terms.{known_of, AreRoutingsInForm, IsQuality
 ghost use Rattle.plan_checker.specs.Shares.{AreCarried, HoldsNotTight, IsTight};
 ghost use Rattle.plan_checker.specs.inner.Tests.{Tells};
 
-use crate::carried::{overloaded, uncarried};
 use crate::finding::Finding;
+use crate::overloads::{overloaded, uncarried};
 use crate::routes::bad_path;
 use crate::share::whole_share;
 use crate::stop::{Stop, Test};

@@ -9,7 +9,7 @@ use Rattle.flow_import.specs.declared.fault.ImportFault.{ImportFault}
 use Rattle.flow_import.specs.declared.fault.ImportFault.TheVariants.{NoMemory}
 use Rattle.flow_import.specs.declared.imported.Imported.{Imported}
 use Rattle.flow_import.specs.Imports.{IsImportFault, IsImported}
-use Rattle.lone_plan.specs.declared.planned.PlannedReport.{PlannedReport}
+use Rattle.lone_plan.specs.declared.planned_report.PlannedReport.{PlannedReport}
 use Rattle.lone_plan.proofs.Accepted.{redesigns_are_accepted}
 use Rattle.plan_import.specs.ImportedPlans.{HasImportFault, IsImportedReport, with_design}
 use Rattle.plan_import.proofs.Designs.{sound_design}

@@ -8,7 +8,7 @@ use Rattle.flow_import.specs.declared.fault.ImportFault.{ImportFault}
 use Rattle.flow_import.specs.declared.fault.ImportFault.TheVariants.{NoMemory}
 use Rattle.flow_import.specs.declared.imported.Imported.{Imported}
 use Rattle.flow_import.specs.Imports.{IsFirstStateFault, IsImported}
-use Rattle.lone_plan.specs.declared.planned.PlannedReport.{PlannedReport}
+use Rattle.lone_plan.specs.declared.planned_report.PlannedReport.{PlannedReport}
 use Rattle.plan_import.specs.declared.ending.ImportEnding.{ImportEnding}
 use Rattle.plan_import.specs.declared.ending.ImportEnding.TheVariants as ending
 

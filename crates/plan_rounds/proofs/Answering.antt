@@ -10,7 +10,7 @@ use Rattle.separator.specs.declared.answers.Separated.TheVariants.{Routed, Viola
 use Rattle.separator.specs.declared.answers.StateAnswer.{StateAnswer}
 use Rattle.plan_rounds.specs.WorkedRounds.{StandAtSpots}
 use Rattle.plan_rounds.specs.inner.Answered.{AnswersShort, AreSorted, IsEvidenceOfState, IsRoutedOrWide, PutsAnswer}
-use Rattle.plan_rounds.specs.declared.sorting.Answered.{Answered}
+use Rattle.plan_rounds.specs.declared.sorted_answers.Answered.{Answered}
 use Rattle.separator.proofs.Seeing.{get_more}
 use Rattle.plan_rounds.proofs.Seeing.{stand_more}
 

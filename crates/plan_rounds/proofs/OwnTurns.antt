@@ -23,7 +23,7 @@ use Rattle.plan_rounds.specs.inner.Turns.{AddsFirst, AddsFound, Judges}
 use Rattle.plan_rounds.specs.declared.candidates.Candidates.{Candidates}
 use Rattle.plan_rounds.specs.declared.rounds.Turn.{Turn}
 use Rattle.plan_rounds.specs.declared.rounds.Turn.TheVariants.{Further, Last}
-use Rattle.plan_rounds.specs.declared.sorting.Answered.{Answered}
+use Rattle.plan_rounds.specs.declared.sorted_answers.Answered.{Answered}
 use Rattle.plan_rounds.proofs.OwnPool.{IsRoundOfPool, all_cuts, alone_since, few_within, pool_round}
 use Rattle.plan_rounds.proofs.Turning.{GivesNoLess, found_of}
 

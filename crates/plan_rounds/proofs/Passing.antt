@@ -23,7 +23,7 @@ use Rattle.plan_rounds.specs.inner.Sharing.{IsDividedCaps}
 use Rattle.plan_rounds.specs.declared.shares.ShareCaps.{ShareCaps}
 use Rattle.plan_rounds.specs.declared.rounds.Turn.{Turn}
 use Rattle.plan_rounds.specs.declared.rounds.Turn.TheVariants.{Further, Last}
-use Rattle.plan_rounds.specs.declared.sorting.Answered.{Answered}
+use Rattle.plan_rounds.specs.declared.sorted_answers.Answered.{Answered}
 use Rattle.plan_rounds.proofs.Sharing.{capacities_count}
 use Rattle.plan_rounds.proofs.Turning.{GivesNoLess, IsWorking, divided_gives, further_room, listed_round, proper, round, taken_few, taken_some, working_ends, working_on}
 

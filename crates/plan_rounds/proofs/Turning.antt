@@ -26,7 +26,7 @@ use Rattle.plan_rounds.specs.declared.candidates.Candidates.{Candidates}
 use Rattle.plan_rounds.specs.declared.rounds.Turn.{Turn}
 use Rattle.plan_rounds.specs.declared.rounds.Turn.TheVariants.{Last}
 use Rattle.plan_rounds.specs.declared.shares.ShareCaps.{ShareCaps}
-use Rattle.plan_rounds.specs.declared.sorting.Answered.{Answered}
+use Rattle.plan_rounds.specs.declared.sorted_answers.Answered.{Answered}
 use Rattle.master_law.proofs.PairsOnce.{links_once}
 use Rattle.plan_rounds.proofs.Rights.{right_low}
 

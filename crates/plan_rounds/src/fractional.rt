@@ -7,7 +7,7 @@ ghost use Rattle.plan_rounds.specs.inner.Answered.{AreRoutedStates, IsEvidenceOf
 ghost use Rattle.plan_rounds.specs.inner.Sharing.{AreSlackNames, HasWideNeed, IsQualityAt, at_caps};
 
 use crate::shares::ShareCaps;
-use crate::undivided::undivided_all;
+use crate::whole_routings::undivided_all;
 use net_core::{
     Caps, Copied, Demand, Evidence, Instance, LinkId, List, NoMemory, RouteColumn, Routing,
     StateId, WideKind, discard,

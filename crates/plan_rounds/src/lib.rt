@@ -11,15 +11,15 @@
 //! ```
 #![tactic(auto)]
 
-mod adding;
 mod candidates;
 mod certificates;
+mod cut_items;
 mod fractional;
 mod openings;
 mod rounds;
 mod shares;
-mod sorting;
-mod undivided;
+mod sorted_answers;
+mod whole_routings;
 mod wide_rounds;
 
 pub use master_bound;

@@ -14,13 +14,13 @@ ghost use Rattle.plan_rounds.specs.declared.rounds.Turn.TheVariants.{Further, La
 ghost use Rattle.plan_types.specs.declared.quality.Cause.TheVariants.{Wide};
 ghost use Rattle.plan_types.specs.declared.quality.Quality.TheVariants.{Loose};
 
-use crate::adding::{add_first, take_back};
 use crate::candidates::Candidates;
 use crate::certificates::best_so_far;
+use crate::cut_items::{add_first, take_back};
 use crate::fractional::quality_at;
 use crate::openings::open_states;
 use crate::shares::{ShareCaps, share_caps};
-use crate::sorting::{Answered, sorted};
+use crate::sorted_answers::{Answered, sorted};
 use crate::wide_rounds::pass_wide;
 use length_master::KeptMaster;
 use master_bound::{Best, MasterFault, unit_pairs};

@@ -8,12 +8,12 @@ ghost use Rattle.plan_rounds.specs.inner.Alone.{PoolsAsFar};
 ghost use Rattle.plan_rounds.specs.inner.Listing.{AreListed, GoesOn};
 ghost use Rattle.plan_rounds.specs.inner.Turns.{AddsFound, AddsRound, ArePassed, Extends};
 
-use crate::adding::add_first;
 use crate::candidates::Candidates;
 use crate::certificates::best_so_far;
+use crate::cut_items::add_first;
 use crate::rounds::answers_at;
 use crate::shares::divided_caps;
-use crate::sorting::{Answered, sorted};
+use crate::sorted_answers::{Answered, sorted};
 use length_master::KeptMaster;
 use master_bound::{Best, MasterFault};
 use module_prices::UnitPair;

@@ -1,16 +1,16 @@
 //! Makes a plan cheaper by exchanging modules: one for a cheaper one, or one more for others that can then be spared.
 #![tactic(auto)]
 
+mod cheaper_plan;
 mod kept;
 pub mod limits;
 mod moves;
-mod raised;
+mod raised_counts;
 mod refusals;
 mod search;
-mod sparing;
-mod swapping;
+mod spared_modules;
 mod swaps;
 
-pub use swapping::swap;
+pub use cheaper_plan::swap;
 pub use trim_plan;
 pub use trim_plan::able_counts;

@@ -5,9 +5,9 @@ ghost use Rattle.plan_swaps.specs.inner.Searching.{AreAskedCounts, AreCarryingCo
 
 use crate::kept::{Kept, keep_cheaper};
 use crate::moves::{Move, Trying, in_use, next_move};
-use crate::raised::one_more;
+use crate::raised_counts::one_more;
 use crate::search::{Search, refuses};
-use crate::sparing::spare_others;
+use crate::spared_modules::spare_others;
 use net_core::{Copied, Counts, Instance, NoMemory};
 use std::alloc::Global;
 use trim_plan::{Place, Priced, module_count, one_less};

@@ -4,7 +4,7 @@ ghost use Rattle.trimmed_report.specs.TrimmedReports.{IsTrimEnding};
 ghost use Rattle.branch_tree.specs.FewSplits.{AreCharged};
 ghost use Rattle.proof_report.specs.ProvedReports.{IsLinedEnding, IsLinedReport, IsProofEnding, IsTrimmedOnce};
 
-use crate::handed::{handed_cuts, work_out};
+use crate::handed_cuts::{handed_cuts, work_out};
 use branch_tree::prove_instance;
 use branch_tree::tree_check::Proof;
 use net_core::{CutLine, Entry, Instance, List, Name, NoMemory, Notes, StateId};

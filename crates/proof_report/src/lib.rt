@@ -3,7 +3,7 @@
 
 mod charged;
 mod ending;
-mod handed;
+mod handed_cuts;
 mod writer;
 
 pub use charged::{are_charged, are_dear};

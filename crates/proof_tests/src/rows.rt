@@ -1,4 +1,4 @@
-use line_check::tested::tested_lines;
+use line_check::tested_lines::tested_lines;
 use line_check::{Inequality, Line, Multiplier, TableKind, Tested};
 use net_core::{CutLine, Instance, List, NoMemory, Problem, StateId};
 use std::alloc::Global;

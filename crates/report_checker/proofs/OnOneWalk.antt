@@ -14,7 +14,7 @@ use Rattle.report_checker.specs.inner.Along.{AreChecked, AreSoundBefore, IsFirst
 use Rattle.report_checker.specs.inner.Outcomes.{IsFirstOfOutcomes, TellOutcomes}
 use Rattle.report_checker.specs.inner.Said.{IsSaid, findings_there}
 use Rattle.plan_types.specs.Terms.{outcome_position}
-use Rattle.report_checker.specs.declared.along.Checked.{Checked}
+use Rattle.report_checker.specs.declared.outcomes_along.Checked.{Checked}
 use Rattle.report_checker.proofs.PoolLines.{some_item}
 use Rattle.report_checker.proofs.There.{accepted, all_there}
 

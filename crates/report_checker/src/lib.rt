@@ -1,9 +1,9 @@
 //! A plain walk through a report that trusts nothing of whoever made it.
 #![tactic(auto)]
 
-mod along;
 mod journal;
 mod outcomes;
+mod outcomes_along;
 mod pool;
 mod report;
 mod walk;

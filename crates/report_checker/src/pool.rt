@@ -6,7 +6,7 @@ ghost use Rattle.plan_checker.specs.Terms.{HoldsAt, Tells};
 ghost use Rattle.report_checker.specs.Pools.{HoldsBadCut, HoldsPoolCount, HoldsPoolDiffers, IsBadCut};
 
 use net_core::{CutLine, Instance, Surviving};
-use plan_checker::kept::is_kept;
+use plan_checker::local_cuts::is_kept;
 use plan_checker::rights::right_of;
 use plan_checker::{Finding, Stop, Test};
 use std::alloc::Global;

@@ -6,8 +6,8 @@ ghost use Rattle.report_checker.specs.Outcomes.{IsAcceptedOutcome, IsBelowAllAbl
 ghost use Rattle.report_checker.specs.ReportFindings.{AnswersReport, whole_findings};
 ghost use Rattle.report_checker.specs.inner.Outcomes.{TellOutcomes, answer_to};
 
-use crate::along::check_outcomes;
 use crate::journal::{check_entries, check_notes};
+use crate::outcomes_along::check_outcomes;
 use crate::pool::{check_count, check_cuts, check_rights};
 use net_core::{Demands, Instance, Network, States};
 use plan_checker::{CheckAnswer, Stop, Test};

@@ -2,7 +2,7 @@
 #![tactic(auto)]
 
 mod edit;
-mod filling;
+mod filled_entries;
 mod journal;
 mod notes;
 mod outcome;

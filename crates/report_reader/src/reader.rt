@@ -6,7 +6,7 @@ ghost use Rattle.text_kit.specs.Terms.{AnswersAs, ReadsAllAs, ReadsAs, IsNotTooE
 ghost use Rattle.report_words.specs.Terms.{known_in};
 ghost use Rattle.report_reader.specs.ReadingReport.{last_sections_at, report_at, report_of, section_at, sections_at};
 
-use crate::filling::fill;
+use crate::filled_entries::fill;
 use crate::journal::entries;
 use crate::notes::notes;
 use crate::outcome::outcomes;

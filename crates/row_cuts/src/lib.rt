@@ -2,6 +2,6 @@
 #![tactic(auto)]
 
 mod of_rows;
-mod violated;
+mod violation;
 
 pub use of_rows::row_cut;

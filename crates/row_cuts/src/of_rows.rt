@@ -4,7 +4,7 @@ ghost use Rattle.row_prices.specs.PathRows.{ArePricedNumbers, path_row};
 ghost use Rattle.row_cuts.specs.FoundCuts.{IsRowCut};
 ghost use Rattle.row_cuts.specs.inner.Kept.{IsKeptCut};
 
-use crate::violated::is_violated;
+use crate::violation::is_violated;
 use metric_cut::Cut;
 use net_core::{Lengths, NoMemory, Path, RouteTask};
 use row_prices::{PathRow, priced_numbers};

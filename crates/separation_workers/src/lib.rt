@@ -8,11 +8,11 @@
 //! ```
 #![tactic(auto)]
 
-mod beside;
 mod depths;
 mod hints;
 mod hold;
-mod lending;
+mod lent_columns;
+mod parallel_search;
 mod round;
 mod some_states;
 mod spot;

@@ -6,8 +6,8 @@ ghost use Rattle.separator.specs.inner.Working.{AddsCut, AreCutsAnswered, AreCut
 ghost use Rattle.separation_workers.specs.Callers.{SeesOn};
 ghost use Rattle.separation_workers.specs.inner.Rounds.{AreFound, IsInRound, IsPutApart};
 
-use crate::beside::find_states;
 use crate::hold::Hold;
+use crate::parallel_search::find_states;
 use crate::round::{Round, StateFound};
 use crate::workers::{answer_at, answer_cut};
 use board_desk::Caller;

@@ -7,9 +7,9 @@ ghost use Rattle.hint_board.specs.Hints.{hint_links};
 ghost use Rattle.separation_workers.specs.Callers.{HasSeenHistory, SeesOn, caller_frame};
 ghost use Rattle.separation_workers.specs.inner.Rounds.{AreFound, IsFoundOf, IsInRound, IsStateFound};
 
-use crate::beside::{find_state, find_states};
 use crate::hints::post;
 use crate::hold::Hold;
+use crate::parallel_search::{find_state, find_states};
 use crate::round::{KeptState, Round, StateFound};
 use crate::some_states::answer_some;
 use crate::spot::spot_in_turn;

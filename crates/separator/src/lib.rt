@@ -16,14 +16,14 @@
 
 mod admission;
 pub mod answers;
-mod found;
+mod found_answer;
 mod known_state;
 pub mod one_by_one;
 mod one_state;
 pub mod question;
 mod ranges;
 pub mod roomy_sets;
-pub mod separating;
+pub mod separate;
 mod some_states;
 mod warm_start;
 
@@ -35,7 +35,7 @@ pub use one_state::{separate_from, separate_state};
 pub use question::StateQuestion;
 pub use ranges::are_narrow;
 pub use roomy_sets::{NO_ROOM, RoomySets, set_in_state, sets_of_round};
-pub use separating::Separate;
+pub use separate::Separate;
 pub use some_states::{answers_of_both, is_cut};
 pub use warm_routing;
 pub use warm_routing::{flow_mending, flow_router};

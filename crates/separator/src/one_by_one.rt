@@ -6,7 +6,7 @@ ghost use Rattle.separator.specs.inner.Working.{AreAnswersBelow, PoolsBelow};
 use crate::admission::spot_of;
 use crate::answers::StateAnswer;
 use crate::question::StateQuestion;
-use crate::separating::Separate;
+use crate::separate::Separate;
 use crate::some_states::{answer_some, answer_state};
 use crate::warm_start::KnownStates;
 use cut_pool::Board;

@@ -5,7 +5,7 @@ ghost use Rattle.separator.specs.inner.Working.{AddsCut, AreCutsAnswered, AreOth
 ghost use Rattle.separator.specs.Rooms.{HasRoomOver};
 
 use crate::answers::{Separated, StateAnswer};
-use crate::found::{answer_cut, answer_found};
+use crate::found_answer::{answer_cut, answer_found};
 use crate::question::StateQuestion;
 use crate::roomy_sets::{NO_ROOM, RoomySets, set_in_state, sets_of_round};
 use crate::warm_start::KnownStates;

@@ -5,7 +5,7 @@ use Rattle.line_check.specs.Terms.{need_of, IsTestedAs}
 use Rattle.line_check.specs.declared.line.Line.{Line}
 use Rattle.line_check.specs.declared.line.Line.TheVariants.{Table}
 use Rattle.line_check.specs.declared.line.TableKind.{TableKind}
-use Rattle.line_check.specs.declared.tested.Tested.{Tested}
+use Rattle.line_check.specs.declared.tested_lines.Tested.{Tested}
 use Rattle.table_maker.specs.Made.{IsMissedTable, IsNarrowLine, MayCarryTable, given_at, line_over}
 use Rattle.table_maker.specs.inner.Weighing.{IsLightTable}
 use Rattle.table_maker.specs.declared.task.Part.{Part}

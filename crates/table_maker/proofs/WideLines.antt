@@ -5,7 +5,7 @@ use Rattle.plan_terms.specs.Terms.{Case, Link}
 use Rattle.line_check.specs.Terms.{WeightedLine, entry, module_price, need_of, summed_need, IsDividedLine, divided_line, divided_up, IsTestedAs, names_by, test_at, weighed, Multiplier}
 use Rattle.line_check.specs.declared.inequality.Inequality.{Inequality}
 use Rattle.line_check.specs.declared.line.Line.{Line}
-use Rattle.line_check.specs.declared.tested.Tested.{Tested}
+use Rattle.line_check.specs.declared.tested_lines.Tested.{Tested}
 use Rattle.table_maker.specs.Made.{HasLineOver, IsWideLine, MayCarryTable, line_over}
 
 -- a quotient that is rounded up is between 1 and what it is of

@@ -8,7 +8,7 @@ ghost use Rattle.table_maker.specs.inner.Weighing.{IsNarrowDivisor};
 use crate::kinds::need_of;
 use checked_fraction::gcd;
 use line_check::inequality::coefficient;
-use line_check::tested::tested_line;
+use line_check::tested_lines::tested_line;
 use line_check::{Inequality, Line, Tested, line_in};
 use master_bound::Multiplier;
 use net_core::{Instance, Link, List, NoMemory};

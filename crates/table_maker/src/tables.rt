@@ -9,7 +9,7 @@ use crate::kinds::{costs_of, need_of, weights_of};
 use crate::missed::missed;
 use crate::narrow::{MOST_LINES, MOST_NEED};
 use crate::task::TableTask;
-use line_check::tested::tested_line;
+use line_check::tested_lines::tested_line;
 use line_check::{Inequality, Line, TableKind, Tested, line_in};
 use net_core::{Copied, List, NoMemory};
 use std::alloc::Global;

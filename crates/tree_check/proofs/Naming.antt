@@ -5,7 +5,7 @@ use Rattle.line_check.specs.Terms.{Multiplier, AreNamedBy, WeightedLine, IsSound
 use Rattle.plan_terms.proofs.Lemmas.{bound_unique}
 use Rattle.plan_terms.specs.Terms.{Case, Link}
 use Rattle.line_check.specs.declared.inequality.Inequality.{Inequality}
-use Rattle.line_check.specs.declared.tested.Tested.{Tested}
+use Rattle.line_check.specs.declared.tested_lines.Tested.{Tested}
 use Rattle.tree_check.specs.BoxValues.{HasBoxValue, IsBoxValue, value_gains, value_losses}
 use Rattle.tree_check.specs.Proofs.{HasOpenValue, HoldsNode}
 use Rattle.tree_check.specs.Trees.{TreeBox}

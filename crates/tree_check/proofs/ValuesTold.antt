@@ -3,9 +3,9 @@ use Rattle.std.proofs.Common.{◌≡◌, ℕ, ◌+◌, ◌*◌, ◌-◌, ◌<◌
 use Rattle.net_core.proofs.Library.{All-from_recursion, All-map, recursion_from_All, AllByRecursion}
 use Rattle.line_check.specs.Terms.{Multiplier, WeightedLine, test_at, weighed}
 use Rattle.plan_terms.specs.Terms.{IsBound}
-use Rattle.line_check.specs.declared.tested.Tested.{Tested}
+use Rattle.line_check.specs.declared.tested_lines.Tested.{Tested}
 use Rattle.tree_check.specs.BoxValues.{AreNear, all_gains, all_losses, asked_right, certain_setups, given_free, value_gains, value_losses}
-use Rattle.tree_check.specs.declared.bounded.Gains.{Gains}
+use Rattle.tree_check.specs.declared.gains.Gains.{Gains}
 use Rattle.tree_check.specs.declared.weighing.Weighing.{Weighing}
 use Rattle.tree_check.specs.inner.Weighing.{AreGainsOf, IsValueIn, total_of}
 

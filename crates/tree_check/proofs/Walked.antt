@@ -5,7 +5,7 @@ use Rattle.line_check.specs.Terms.{IsLeastPlace, sources_of, AreTested, names_by
 use Rattle.plan_terms.specs.Terms.{AreCounts, Case, Link, case_of}
 use Rattle.tree_check.specs.Boxes.{beyond, least_counts, lower_side, span_at, up_to, upper_side, whole_box}
 use Rattle.line_check.specs.declared.inequality.Inequality.{Inequality}
-use Rattle.line_check.specs.declared.tested.Tested.{Tested}
+use Rattle.line_check.specs.declared.tested_lines.Tested.{Tested}
 use Rattle.tree_check.specs.Proofs.{FailsAtNode, HasOpenValue, HoldsAtNode, HoldsNode, IsAcceptedProof, IsLeastValue, IsOpenAt, IsUnfounded, VerdictFollows, names_of}
 use Rattle.tree_check.specs.Trees.{IsNodeOf, IsWhole, TreeBox, boxes_left, sides_of}
 use Rattle.tree_check.specs.declared.nodes.Held.{Held}

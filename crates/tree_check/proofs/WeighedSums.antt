@@ -3,7 +3,7 @@ use Rattle.std.proofs.Common.{◌≡◌, ℕ, ◌+◌, ◌*◌, ◌<◌, List, [
 use Rattle.net_core.proofs.Library.{sum_by-cons, sum_by_more}
 use Rattle.line_check.specs.Terms.{Multiplier, WeightedLine, test_at, weighed}
 use Rattle.tree_check.specs.BoxValues.{asked_right, given_free}
-use Rattle.line_check.specs.declared.tested.Tested.{Tested}
+use Rattle.line_check.specs.declared.tested_lines.Tested.{Tested}
 
 sum_mapped : {X Y : Type 0} (f : Y → ℕ) (g : X → Y) (xs : List X) → sum_by f (map g xs) ≡ sum_by (λ x. f (g x)) xs
 sum_mapped f g [] = refl

@@ -7,7 +7,7 @@ use crate::proof::{Proof, TreeAnswer, Verdict};
 use crate::stop::Stop;
 use crate::tests::Tests;
 use crate::walk::walk;
-use line_check::tested::tested_lines;
+use line_check::tested_lines::tested_lines;
 use net_core::{Demands, Instance, Network, States};
 use std::alloc::Global;
 

@@ -1,12 +1,12 @@
 //! Branch trees that show a plan to be cheapest, read by a walk that trusts nothing of whoever made them.
 #![tactic(auto)]
 
-mod bounded;
 pub mod boxes;
 pub mod check;
-mod emptied;
+mod empty_box;
 mod evidence;
-pub mod fixed;
+pub mod fixed_counts;
+mod gains;
 pub mod law;
 pub mod nodes;
 pub mod proof;

@@ -6,14 +6,14 @@ ghost use Rattle.tree_check.specs.Testing.{HasValueIn, names_in};
 ghost use Rattle.tree_check.specs.inner.Walking.{IsHeldIn};
 
 use crate::boxes::{Boxed, is_split};
-use crate::emptied::is_emptied;
+use crate::empty_box::is_emptied;
 use crate::evidence::is_evidence_at;
-use crate::fixed::fixed_counts;
+use crate::fixed_counts::fixed_counts;
 use crate::proof::{BoxCert, Node};
 use crate::tests::Tests;
 use crate::value::cert_value;
 use line_check::line_in;
-use line_check::tested::is_sound;
+use line_check::tested_lines::is_sound;
 use net_core::{Evidence, NoMemory};
 use std::alloc::Global;
 

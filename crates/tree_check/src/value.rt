@@ -4,14 +4,14 @@ ghost use Rattle.tree_check.specs.BoxValues.{AreNear, IsBoxValue, certain_setup,
 ghost use Rattle.line_check.specs.Testing.{IsSoundAt, weighed};
 ghost use Rattle.tree_check.specs.inner.Weighing.{AreGainsOf, IsValueIn, total_of};
 
-use crate::bounded::{Gains, WIDE, all_gains};
 use crate::boxes::Span;
+use crate::gains::{Gains, WIDE, all_gains};
 use crate::proof::BoxCert;
 use crate::sums::{are_narrow, asked_right, given_free};
 use crate::total::Total;
 use crate::weighing::Weighing;
 use line_check::Tested;
-use line_check::tested::are_sound;
+use line_check::tested_lines::are_sound;
 use module_prices::bound_of;
 use net_core::{Link, List};
 

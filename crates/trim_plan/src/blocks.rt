@@ -4,9 +4,9 @@ ghost use Rattle.able_counts.specs.AbleTests.{AreRoutedCounts};
 ghost use Rattle.trim_plan.specs.Trimmed.{AreAtMost, IsTrimmedBy, modules_in_use, IsBlockAt};
 ghost use Rattle.trim_plan.specs.inner.Sparing.{LowersCounts, block_places};
 
-use crate::lowered::{Place, module_count};
-use crate::sparing::take_off;
-use crate::trimming::Block;
+use crate::lowered_counts::{Place, module_count};
+use crate::spared_modules::take_off;
+use crate::trim::Block;
 use able_counts::AbleTest;
 use net_core::{Counts, Instance, LinkId, List, NoMemory};
 use std::alloc::Global;

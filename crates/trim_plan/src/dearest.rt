@@ -3,7 +3,7 @@ ghost use Rattle.std.specs.List.Sorted.{IsPermutation};
 ghost use Rattle.trim_plan.specs.Dearest.{priced_links, priced_modules};
 ghost use Rattle.trim_plan.specs.Trimmed.{price_rank};
 
-use crate::lowered::Place;
+use crate::lowered_counts::Place;
 use net_core::{List, Module, Network, NoMemory};
 use std::alloc::Global;
 

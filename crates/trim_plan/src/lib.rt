@@ -14,13 +14,13 @@
 mod blocks;
 mod dearest;
 pub mod law;
-mod lowered;
-mod sparing;
-mod trimming;
+mod lowered_counts;
+mod spared_modules;
+mod trim;
 
 pub use able_counts;
 pub use able_counts::Stop;
 pub use dearest::{Priced, dearest_first};
-pub use lowered::{Place, module_count, one_less};
-pub use sparing::spare_modules;
-pub use trimming::{Block, Trimmed, trim};
+pub use lowered_counts::{Place, module_count, one_less};
+pub use spared_modules::spare_modules;
+pub use trim::{Block, Trimmed, trim};

@@ -2,6 +2,6 @@
 pub use Rattle.lone_plan.specs.Laws.{IsAcceptable}
 pub use Rattle.lone_plan.specs.LonePlans.{IsSeparationOf, IsSoundDesign, plan_commands, redesigned_plan, whole_report}
 pub use Rattle.lone_plan.specs.Terms.{IsSoundOutcomeOf, IsSoundPlanOf, IsTranscript}
-pub use Rattle.lone_plan.specs.declared.planned.PlannedReport.{PlannedReport}
+pub use Rattle.lone_plan.specs.declared.planned_report.PlannedReport.{PlannedReport}
 pub use Rattle.trim_plan.specs.Trimmed.{IsRoutedPlan}
-pub use Rattle.trim_plan.specs.declared.trimming.Block.{Block}
+pub use Rattle.trim_plan.specs.declared.trim.Block.{Block}

@@ -1,8 +1,8 @@
 use crate::basis::Basis;
+use crate::basis_turn::{set_products, turn};
 use crate::column::Column;
-use crate::leaving::{fixed_point, leaving, points_of};
+use crate::leaving_role::{fixed_point, leaving, points_of};
 use crate::share::{Share, set_losses};
-use crate::turning::{set_products, turn};
 use net_core::NoMemory;
 use std::alloc::Global;
 

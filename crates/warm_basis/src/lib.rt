@@ -14,16 +14,16 @@
 #![tactic(auto)]
 
 mod basis;
+mod basis_turn;
 mod column;
 mod entrant;
-mod leaving;
+mod leaving_role;
 mod numbers;
 mod one_row;
 mod routing;
 mod row;
 mod share;
 mod shortage;
-mod turning;
 
 pub use basis::Basis;
 pub use column::{Column, along, beyond_key};

@@ -1,9 +1,9 @@
 use crate::basis::Basis;
-use crate::leaving::fixed_point;
+use crate::basis_turn::{exchange, key_row, row_of};
+use crate::leaving_role::fixed_point;
 use crate::row::BasisRow;
 use crate::share::Share;
 use crate::shortage::weigh_all;
-use crate::turning::{exchange, key_row, row_of};
 use net_core::NoMemory;
 use std::alloc::Global;
 

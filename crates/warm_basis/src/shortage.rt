@@ -1,4 +1,4 @@
-use crate::leaving::fixed_point;
+use crate::leaving_role::fixed_point;
 use crate::numbers::{common_multiple, over};
 use crate::row::BasisRow;
 use crate::share::Share;

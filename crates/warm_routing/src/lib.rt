@@ -13,9 +13,9 @@
 
 mod answer;
 mod cut_of_row;
-mod entering;
+mod entering_path;
+mod path_search;
 mod router;
-mod searching;
 mod start;
 
 pub use answer::WarmAnswer;

@@ -6,8 +6,8 @@ ghost use Rattle.warm_routing.specs.inner.Steps.{IsSoundChoice, IsSoundStep};
 
 use crate::answer::WarmAnswer;
 use crate::cut_of_row::cut_at;
-use crate::entering::{entering_path, entering_slack};
-use crate::searching::{Waiting, collect, given, set_lengths};
+use crate::entering_path::{entering_path, entering_slack};
+use crate::path_search::{Waiting, collect, given, set_lengths};
 use crate::start::{Amounts, amounts_of, first_basis};
 use flow_mending::flow_router::lowest;
 use flow_mending::if_routed;

@@ -8,7 +8,7 @@ use Rattle.simplex_law.specs.Terms.{dot, int_sum, unit_vector}
 use Rattle.master_law.specs.Terms.{cut_gain, master_bound}
 use Rattle.master_bound.specs.Answers.{cut_at}
 use Rattle.master_bound.specs.Narrow.{length_entry}
-use Rattle.length_master.specs.declared.priced.Balance.{Balance}
+use Rattle.length_master.specs.declared.priced_lengths.Balance.{Balance}
 use Rattle.length_master.specs.declared.row.KeptRow.{KeptRow}
 use Rattle.length_master.specs.inner.Slots.{ArePlacedRows, row_at, slot_entry, slot_gain, slot_lengths, slot_name}
 

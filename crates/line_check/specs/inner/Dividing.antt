@@ -6,7 +6,7 @@ use Rattle.plan_terms.specs.Terms.{Link}
 use Rattle.line_check.specs.Inequalities.{WeightedLine, module_number, module_price}
 use Rattle.line_check.specs.Lines.{divided_up}
 use Rattle.line_check.specs.Testing.{says, test_at}
-use Rattle.line_check.specs.declared.tested.Tested.{Tested}
+use Rattle.line_check.specs.declared.tested_lines.Tested.{Tested}
 
 -- a divisor and numerators keep their limits
 pub record KeepsLimits (divisor : ℕ) (terms : List Multiplier) : Type 0 where

@@ -3,7 +3,7 @@ use Rattle.std.specs.Prelude.{◌≡◌, ℕ, ◌≤◌, ◌<◌, ◌^◌, List,
 use Rattle.plan_terms.specs.Terms.{Link}
 use Rattle.line_check.specs.Terms.{module_number, module_price, need_of, summed_need, divided_up, IsSoundAt, weighed, Multiplier}
 use Rattle.line_check.specs.declared.inequality.Inequality.{Inequality}
-use Rattle.line_check.specs.declared.tested.Tested.{Tested}
+use Rattle.line_check.specs.declared.tested_lines.Tested.{Tested}
 use Rattle.line_maker.specs.declared.numbers.Lowest.{Lowest}
 use Rattle.line_maker.specs.declared.pairs.Pair.{Pair}
 use Rattle.line_maker.specs.declared.candidate.Candidate.{Candidate}

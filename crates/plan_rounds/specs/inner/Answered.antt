@@ -5,7 +5,7 @@ use Rattle.separator.specs.Terms.{IsEvidenceHere, IsRouted, IsSeparatingCut}
 use Rattle.separator.specs.declared.answers.Separated.{Separated}
 use Rattle.separator.specs.declared.answers.Separated.TheVariants.{Routed, Violated, Wide}
 use Rattle.plan_rounds.specs.WorkedRounds.{StandAtSpots}
-use Rattle.plan_rounds.specs.declared.sorting.Answered.{Answered}
+use Rattle.plan_rounds.specs.declared.sorted_answers.Answered.{Answered}
 
 -- the answer of one state goes to those before it
 abbrev pub PutsAnswer : Separated → Answered → Answered → Type 0

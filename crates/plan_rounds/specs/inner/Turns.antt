@@ -14,7 +14,7 @@ use Rattle.plan_rounds.specs.declared.candidates.Candidates.{Candidates}
 use Rattle.plan_rounds.specs.declared.rounds.Turn.{Turn}
 use Rattle.plan_rounds.specs.declared.rounds.Turn.TheVariants.{Further, Last}
 use Rattle.plan_rounds.specs.declared.rounds.Worked.{Worked}
-use Rattle.plan_rounds.specs.declared.sorting.Answered.{Answered}
+use Rattle.plan_rounds.specs.declared.sorted_answers.Answered.{Answered}
 
 -- the first cuts, as many as there is room for, have been added to the list with their spots
 pub record AddsFirst (room : ℕ) (found old new : Candidates) : Type 0 where

@@ -6,7 +6,7 @@ use Rattle.plan_checker.specs.Terms.{HoldNone, IsFirstFinding, HoldsAt}
 use Rattle.plan_checker.specs.declared.finding.Finding.{Finding}
 use Rattle.report_checker.specs.Outcomes.{IsAcceptedOutcome, outcome_findings}
 use Rattle.plan_types.specs.Terms.{outcome_position}
-use Rattle.report_checker.specs.declared.along.Checked.{Checked}
+use Rattle.report_checker.specs.declared.outcomes_along.Checked.{Checked}
 
 -- the number of entries before an outcome, which are all where its position is past the journal
 abbrev pub outcome_place : Report → Outcome → ℕ

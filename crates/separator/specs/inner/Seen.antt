@@ -4,7 +4,7 @@ use Rattle.std.proofs.Common.{◌∙◌, ap, inl, inr, subst, sym}
 use Rattle.std.proofs.Math.Logic.{∥∥₁_map}
 use Rattle.std.proofs.lemmas.List.{length-map}
 use Rattle.plan_terms.specs.Terms.{Demand, Entry, Edited, Pooled, Network, States, case}
-use Rattle.cut_pool.specs.declared.pooled.PooledCut.{PooledCut}
+use Rattle.cut_pool.specs.declared.pooled_cut.PooledCut.{PooledCut}
 use Rattle.cut_pool.specs.Terms.{IsBoardAfter, IsLegalAfter, cut_of_line, line_of_pooled}
 use Rattle.separator.specs.Separators.{IsCutEntry, IsPartOf, IsSeenHistory}
 

@@ -3,8 +3,8 @@ use Rattle.std.specs.Prelude.{◌≡◌, ℕ, ◌+◌, ◌*◌, ◌<◌, ◌≤�
 use Rattle.plan_terms.specs.Terms.{sum_below}
 use Rattle.tree_check.specs.BoxValues.{IsBounded, IsBoxValue, IsModuleBounded, gain_by, loss_by, module_gain, module_loss}
 use Rattle.line_check.specs.Terms.{module_number, weighed}
-use Rattle.tree_check.specs.declared.bounded.Gain.{Gain}
-use Rattle.tree_check.specs.declared.bounded.Gains.{Gains}
+use Rattle.tree_check.specs.declared.gains.Gain.{Gain}
+use Rattle.tree_check.specs.declared.gains.Gains.{Gains}
 use Rattle.tree_check.specs.declared.weighing.Weighing.{Weighing}
 use Rattle.tree_check.specs.declared.boxes.Span.{Span}
 use Rattle.tree_check.specs.declared.total.Total.{Total}

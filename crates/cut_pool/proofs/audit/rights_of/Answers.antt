@@ -1,6 +1,6 @@
 use Rattle.std.proofs.Common.{ap, ◌∙◌}
 use Rattle.rayon.proofs.ToStd.{slice-map}
-use Rattle.cut_pool.specs.declared.pooled.PooledCut.{PooledCut}
+use Rattle.cut_pool.specs.declared.pooled_cut.PooledCut.{PooledCut}
 use Rattle.cut_pool.proofs.audit.rights_of.Goals as goal
 
 pub collect-requires-clause-ready : goal.collect-requires-clause-ready

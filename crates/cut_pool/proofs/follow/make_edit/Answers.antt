@@ -1,6 +1,6 @@
 use Rattle.std.proofs.Common.{◌≡◌, ◌∙◌, All, List, ap, length, map, sym, subst}
 use Rattle.plan_terms.specs.Terms.{Answered, without}
-use Rattle.cut_pool.specs.declared.pooled.PooledCut.{PooledCut}
+use Rattle.cut_pool.specs.declared.pooled_cut.PooledCut.{PooledCut}
 use Rattle.cut_pool.specs.declared.shares.NeedChange.{NeedChange}
 use Rattle.cut_pool.specs.inner.Pooling.{StandsAt}
 use Rattle.cut_pool.specs.inner.Shares.{IsShareIn, edit_name}

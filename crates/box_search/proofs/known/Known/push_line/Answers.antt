@@ -1,7 +1,7 @@
 use Rattle.std.proofs.Common.{List, inr, subst}
 use Rattle.plan_terms.specs.Terms.{case_of}
 use Rattle.line_check.specs.Terms.{IsTestedAs}
-use Rattle.line_check.specs.declared.tested.Tested.{Tested}
+use Rattle.line_check.specs.declared.tested_lines.Tested.{Tested}
 use Rattle.proof_order.specs.declared.entry.Entry.TheVariants as entry
 use Rattle.box_search.proofs.Knowing.{known_more}
 use Rattle.box_search.proofs.known.Known.push_line.Goals as goal

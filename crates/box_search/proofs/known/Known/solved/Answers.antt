@@ -1,7 +1,7 @@
 use Rattle.std.proofs.Common.{List, IfOk, IfSome, length, subst, ◌∙◌}
 use Rattle.line_maker.specs.Terms.{IsSolutionOf}
 use Rattle.plan_terms.specs.Terms.{Link}
-use Rattle.line_check.specs.declared.tested.Tested.{Tested}
+use Rattle.line_check.specs.declared.tested_lines.Tested.{Tested}
 use Rattle.box_search.proofs.known.Known.solved.Goals as goal
 
 pub returns : goal.returns

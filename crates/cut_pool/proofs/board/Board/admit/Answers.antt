@@ -1,7 +1,7 @@
 use Rattle.std.proofs.Common.{◌∙◌, ◌<◌, ◌≤◌, ◌^◌, ◌++◌, ◌∷◌, [], All, List, ap, length, map, refl, sym, subst, arith, position, length-append}
 use Rattle.net_core.proofs.Library.{All-push}
 use Rattle.plan_terms.specs.Terms.{Demand, Entry, Pooled}
-use Rattle.cut_pool.specs.declared.pooled.PooledCut.{PooledCut}
+use Rattle.cut_pool.specs.declared.pooled_cut.PooledCut.{PooledCut}
 use Rattle.cut_pool.specs.Boards.{opening_case}
 use Rattle.cut_pool.specs.Histories.{IsBoardAfter}
 use Rattle.cut_pool.specs.Pools.{ArePooledCuts, line_of_pooled}

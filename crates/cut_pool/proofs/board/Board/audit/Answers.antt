@@ -1,7 +1,7 @@
 use Rattle.std.proofs.Common.{◌≡◌, ◌∙◌, All, ap, length, map, sym}
 use Rattle.net_core.proofs.Library.{length-map, IfOk-weaker}
 use Rattle.plan_terms.specs.Terms.{case}
-use Rattle.cut_pool.specs.declared.pooled.PooledCut.{PooledCut}
+use Rattle.cut_pool.specs.declared.pooled_cut.PooledCut.{PooledCut}
 use Rattle.cut_pool.specs.Boards.{IsAudit, opening_case}
 use Rattle.cut_pool.specs.inner.Pooling.{StandsAmong}
 use Rattle.cut_pool.proofs.Boards.{standing}

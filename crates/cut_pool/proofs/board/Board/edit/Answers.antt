@@ -1,7 +1,7 @@
 use Rattle.std.proofs.Common.{◌≡◌, ◌∙◌, All, List, length, sym, subst, refl, ap, true, arith, IfOk}
 use Rattle.net_core.proofs.Library.{length-map}
 use Rattle.plan_terms.specs.Terms.{Demand, case, edit_reply}
-use Rattle.cut_pool.specs.declared.pooled.PooledCut.{PooledCut}
+use Rattle.cut_pool.specs.declared.pooled_cut.PooledCut.{PooledCut}
 use Rattle.cut_pool.specs.Boards.{opening_case}
 use Rattle.cut_pool.specs.Rooms.{left_spare, sets_known}
 use Rattle.cut_pool.proofs.Boards.{edit_committed, one_more, reply_told, standing, still_told}

@@ -1,6 +1,0 @@
-use Rattle.metric_cut.proofs.Keepings.{AreDividedBelow}
-use Rattle.metric_cut.proofs.keep.divide.Given as goal
-
--- the lengths so far are divided
-abbrev pub invariant-loop-e : goal.invariant-loop-e
-invariant-loop-e l = AreDividedBelow l.common l.e l.initial.lengths l.lengths

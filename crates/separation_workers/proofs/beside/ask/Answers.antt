@@ -1,6 +1,0 @@
-use Rattle.std.proofs.Common.{arith}
-use Rattle.separation_workers.proofs.beside.ask.Goals as goal
-
-pub separate-requires-clause-joined : goal.separate-requires-clause-joined
-separate-requires-clause-joined c = λ k d at needed apart.
-    c.args.round.now.survivable c.args.state.0 k (omega (arith, c.requires)) (record { demand = d; at = at; needed = needed; apart = apart })
