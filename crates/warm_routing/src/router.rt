@@ -369,13 +369,14 @@ impl WarmRouter {
 
     /// Begins anew where the basis has another shape than the network and the demands.
     fn prepare(&mut self, task: &RouteTask) -> Result<Question, NoMemory> {
+        let mut reach = Reach::new(self.alloc, &task.graph)?;
         if !self.fits(task) {
-            self.basis = first_basis(self.alloc, task)?;
+            self.basis = first_basis(self.alloc, task, &mut reach)?;
         }
         Ok(Question {
             amounts: self.set_values(task)?,
             waiting: List::new(self.alloc),
-            reach: Reach::new(self.alloc, &task.graph)?,
+            reach,
             alone: false,
         })
     }

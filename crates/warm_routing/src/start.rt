@@ -86,9 +86,12 @@ fn first_keys(alloc: Global, task: &RouteTask, reach: &mut Reach) -> Result<List
     Ok(keys)
 }
 
-/// Keys of fewest links, and the slacks of the links.
-pub(crate) fn first_basis(alloc: Global, task: &RouteTask) -> Result<Basis, NoMemory> {
-    let mut reach = Reach::new(alloc, &task.graph)?;
-    let keys = first_keys(alloc, task, &mut reach)?;
+/// Keys of fewest links, found by searches of the task's graph, and the slacks of the links.
+pub(crate) fn first_basis(
+    alloc: Global,
+    task: &RouteTask,
+    reach: &mut Reach,
+) -> Result<Basis, NoMemory> {
+    let keys = first_keys(alloc, task, reach)?;
     Basis::of_slacks(alloc, keys, task.graph.net.links().len())
 }
