@@ -8,3 +8,4 @@ pub mod NearNames
 pub mod NetworkMessages
 pub mod Notes
 pub mod ReportMessages
+pub mod Terms

@@ -7,3 +7,4 @@ pub mod DemandLaws
 pub mod CertificateLaws
 pub mod PartsOnline
 pub mod Once
+pub mod Lemmas

@@ -1,3 +1,4 @@
 pub mod Histories
 pub mod Passes
+pub mod Terms
 pub mod inner
