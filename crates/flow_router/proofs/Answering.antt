@@ -4,7 +4,7 @@ use Rattle.net_core.proofs.Library.{◌∣◌, cases_eq, get_or-map, length-map,
 use Rattle.checked_fraction.specs.Terms.{num, IsNarrow}
 use Rattle.plan_terms.specs.Terms.{RouteColumn, DemandSlack, Carry, Demand, Caps, Flow, Routing, Graph, Joins, Carries, IsFlow, sent, IsPath}
 use Rattle.greedy_router.specs.Left.{IsLeft}
-use Rattle.greedy_router.specs.declared.greedy.Left.{Left}
+use Rattle.greedy_router.specs.declared.greedy_flows.Left.{Left}
 use Rattle.simplex_law.specs.Terms.{dot, IsSlack, AreNames}
 use Rattle.simplex_core.specs.Terms.{Solves}
 use Rattle.simplex_core.specs.declared.optimum.Optimum.{Optimum}

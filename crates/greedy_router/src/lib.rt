@@ -7,10 +7,10 @@
 #![tactic(auto)]
 
 mod draft;
-mod greedy;
+mod greedy_flows;
 mod open_paths;
 mod order;
 mod routes;
 mod sent_flows;
 
-pub use greedy::{Left, greedy, greedy_after, greedy_in};
+pub use greedy_flows::{Left, greedy, greedy_after, greedy_in};

@@ -7,8 +7,8 @@ mod lengths;
 mod nearness;
 mod path_row;
 mod paths;
-mod priced_numbers;
+mod row_numbers;
 mod sums;
 
 pub use path_row::PathRow;
-pub use priced_numbers::priced_numbers;
+pub use row_numbers::priced_numbers;

@@ -5,7 +5,7 @@ use Rattle.plan_terms.specs.Terms.{AreDemands, Caps, Carries, Case, Demand, Flow
 use Rattle.route_law.specs.Terms.{IsLowestRouting, flow_times, over_times}
 use Rattle.route_law.proofs.Lemmas.{carried_lowest}
 use Rattle.greedy_router.specs.Left.{IsLeft}
-use Rattle.greedy_router.specs.declared.greedy.Left.{Left}
+use Rattle.greedy_router.specs.declared.greedy_flows.Left.{Left}
 use Rattle.flow_mending.specs.Terms.{IsCommonDivisor, IsRouted}
 use Rattle.module_prices.specs.declared.cheapest.UnitPair.{UnitPair}
 use Rattle.plan_types.specs.declared.quality.Fractional.{Fractional}

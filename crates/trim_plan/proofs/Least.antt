@@ -7,7 +7,7 @@ use Rattle.able_counts.specs.declared.stop.Stop.{Stop}
 use Rattle.able_counts.specs.declared.stop.Stop.TheVariants.{Cut, Wide}
 use Rattle.module_choice.proofs.Pairs.{capacities_long}
 use Rattle.route_law.proofs.Lemmas.{violated_carries_nothing}
-use Rattle.trim_plan.specs.declared.trim.Block.{Block}
+use Rattle.trim_plan.specs.declared.trimmed_plan.Block.{Block}
 use Rattle.trim_plan.specs.Trimmed.{IsBlockAt, one_less}
 use Rattle.trim_plan.specs.Laws.{IsCutStop, TrimmedAreLeast}
 use Rattle.trim_plan.proofs.Lowering.{place_used}

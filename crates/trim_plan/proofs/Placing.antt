@@ -1,7 +1,7 @@
 -- blocks, one module and one link after another
 use Rattle.std.proofs.Common.{◌≡◌, ◌∙◌, ℕ, ◌+◌, ◌≤◌, ◌<◌, List, [], ◌∷◌, ◌++◌, length, slice_index, take, sym, ap, append_assoc, take_all}
 use Rattle.net_core.proofs.Library.{map-append}
-use Rattle.trim_plan.specs.declared.trim.Block.{Block}
+use Rattle.trim_plan.specs.declared.trimmed_plan.Block.{Block}
 use Rattle.trim_plan.specs.Trimmed.{modules_in_use}
 use Rattle.trim_plan.specs.inner.Sparing.{block_places}
 use Rattle.trim_plan.proofs.Lowering.{module_added, module_skipped}

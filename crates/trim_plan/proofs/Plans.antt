@@ -7,7 +7,7 @@ use Rattle.route_law.specs.Terms.{IsLowestRouting}
 use Rattle.able_counts.specs.AbleTests.{AreRoutedCounts, AreRoutingsWithin}
 use Rattle.able_counts.specs.declared.able_test.AbleTest.{AbleTest}
 use Rattle.trim_plan.specs.Trimmed.{AreAtMost, IsRoutedPlan, IsTrimmedBy, IsTrimming}
-use Rattle.trim_plan.specs.declared.trim.Block.{Block}
+use Rattle.trim_plan.specs.declared.trimmed_plan.Block.{Block}
 use Rattle.trim_plan.proofs.AtMost.{total_at_most}
 
 -- the routings of a plan are within the capacities of its counts

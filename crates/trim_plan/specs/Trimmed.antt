@@ -7,8 +7,8 @@ use Rattle.plan_report.specs.Terms.{IsPlanInForm, known_to, Plan}
 use Rattle.route_law.specs.Terms.{IsLowestRouting}
 use Rattle.able_counts.specs.AbleTests.{IsStopAt, whole_caps}
 use Rattle.trim_plan.specs.declared.dearest.Priced.{Priced}
-use Rattle.trim_plan.specs.declared.trim.Block.{Block}
-use Rattle.trim_plan.specs.declared.trim.Trimmed.{Trimmed}
+use Rattle.trim_plan.specs.declared.trimmed_plan.Block.{Block}
+use Rattle.trim_plan.specs.declared.trimmed_plan.Trimmed.{Trimmed}
 
 -- ---- counts
 

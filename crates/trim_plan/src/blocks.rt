@@ -6,7 +6,7 @@ ghost use Rattle.trim_plan.specs.inner.Sparing.{LowersCounts, block_places};
 
 use crate::lowered_counts::{Place, module_count};
 use crate::spared_modules::take_off;
-use crate::trim::Block;
+use crate::trimmed_plan::Block;
 use able_counts::AbleTest;
 use net_core::{Counts, Instance, LinkId, List, NoMemory};
 use std::alloc::Global;

@@ -16,11 +16,11 @@ mod dearest;
 pub mod law;
 mod lowered_counts;
 mod spared_modules;
-mod trim;
+mod trimmed_plan;
 
 pub use able_counts;
 pub use able_counts::Stop;
 pub use dearest::{Priced, dearest_first};
 pub use lowered_counts::{Place, module_count, one_less};
 pub use spared_modules::spare_modules;
-pub use trim::{Block, Trimmed, trim};
+pub use trimmed_plan::{Block, Trimmed, trim};

@@ -5,7 +5,7 @@ use Rattle.plan_terms.specs.Terms.{Caps, Case, Evidence, Route, Master, graph_in
 use Rattle.flow_router.specs.Answers.{IsEvidenceHere}
 use Rattle.trim_plan.specs.Terms.{IsStopAt, Stop, Cut, Wide}
 use Rattle.trim_plan.specs.Trimmed.{IsBlockAt, IsTrimmedBy}
-use Rattle.trim_plan.specs.declared.trim.Block.{Block}
+use Rattle.trim_plan.specs.declared.trimmed_plan.Block.{Block}
 use Rattle.report_comments.specs.ReportComments.{IsOfRouting}
 use Rattle.trimmed_report.specs.BlockLines.{IsTold}
 

@@ -4,7 +4,7 @@ use Rattle.plan_terms.specs.Terms.{Demand, Notes, Case}
 use Rattle.plan_report.specs.Terms.{AreRoutingsInForm, known_to, Plan}
 use Rattle.lone_plan.specs.Terms.{IsTranscript, IsSoundDesign, plan_commands, redesigned_plan, whole_report}
 use Rattle.trim_plan.specs.Trimmed.{IsRoutedPlan, IsTrimming}
-use Rattle.trim_plan.specs.declared.trim.Trimmed.{Trimmed}
+use Rattle.trim_plan.specs.declared.trimmed_plan.Trimmed.{Trimmed}
 use Rattle.lone_plan.specs.declared.planned_report.PlannedReport.{PlannedReport}
 use Rattle.lone_plan.proofs.Accepted.{lone_plans_are_accepted}
 use Rattle.lone_plan.proofs.CheaperKept.{cheaper_redesigns_are_plans}

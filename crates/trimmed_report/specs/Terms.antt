@@ -4,4 +4,4 @@ pub use Rattle.lone_plan.specs.LonePlans.{IsSeparationOf, IsSoundDesign, plan_co
 pub use Rattle.lone_plan.specs.Terms.{IsSoundOutcomeOf, IsSoundPlanOf, IsTranscript}
 pub use Rattle.lone_plan.specs.declared.planned_report.PlannedReport.{PlannedReport}
 pub use Rattle.trim_plan.specs.Trimmed.{IsRoutedPlan}
-pub use Rattle.trim_plan.specs.declared.trim.Block.{Block}
+pub use Rattle.trim_plan.specs.declared.trimmed_plan.Block.{Block}

@@ -2,7 +2,7 @@
 use Rattle.std.specs.Prelude.{List}
 use Rattle.plan_terms.specs.Terms.{Notes, Case}
 use Rattle.lone_plan.specs.Terms.{IsTranscript, IsAcceptable, IsSeparationOf, plan_commands, whole_report}
-use Rattle.trim_plan.specs.declared.trim.Block.{Block}
+use Rattle.trim_plan.specs.declared.trimmed_plan.Block.{Block}
 use Rattle.trim_plan.specs.Trimmed.{IsTrimmedBy}
 use Rattle.lone_plan.specs.declared.planned_report.PlannedReport.{PlannedReport}
 use Rattle.trimmed_report.specs.declared.ending.TrimEnding.{TrimEnding}

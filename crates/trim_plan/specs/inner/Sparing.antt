@@ -1,7 +1,7 @@
 -- counts of which modules are taken off, and the blocks of those that are left
 use Rattle.std.specs.Prelude.{ℕ, ◌<◌, List, map, sum, sum_by}
 use Rattle.trim_plan.specs.Trimmed.{AreAtMost}
-use Rattle.trim_plan.specs.declared.trim.Block.{Block}
+use Rattle.trim_plan.specs.declared.trimmed_plan.Block.{Block}
 
 -- the places of blocks: the link and the module of each
 abbrev pub block_places : List Block → List (ℕ × ℕ)

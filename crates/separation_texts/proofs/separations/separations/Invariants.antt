@@ -1,7 +1,0 @@
-use Rattle.plan_terms.specs.Terms.{case_of}
-use Rattle.separation_texts.specs.inner.SeparationsSoFar.{AreSeparationsBefore}
-use Rattle.separation_texts.proofs.separations.separations.Given as goal
-
--- those of the states so far
-abbrev pub invariant-loop-s : goal.invariant-loop-s
-invariant-loop-s l = AreSeparationsBefore (case_of l.instance) l.s 0 l.found
