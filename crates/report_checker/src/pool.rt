@@ -5,7 +5,7 @@ ghost use Rattle.cut_pool.specs.Terms.{cut_of_line, cuts_of};
 ghost use Rattle.plan_checker.specs.Terms.{HoldsAt, Tells};
 ghost use Rattle.report_checker.specs.Pools.{HoldsBadCut, HoldsPoolCount, HoldsPoolDiffers, IsBadCut};
 
-use net_core::{CutLine, Instance, Surviving};
+use net_core::{CutLine, Instance};
 use plan_checker::local_cuts::is_kept;
 use plan_checker::rights::right_of;
 use plan_checker::{Finding, Stop, Test};
@@ -56,11 +56,7 @@ fn is_bad(instance: &Instance, pool: &[CutLine], k: usize) -> bool
     ensures bad { (line : Line) → slice_get pool.now k ≡ Some line → IsTrue result ↔ IsBadCut (case_of instance.now) pool.now k line }
     ensures kept { (line : Line) → slice_get pool.now k ≡ Some line → IsFalse result → AreKept (graph_in (case_of instance.now) line.state.0) line.lengths }
 {
-    let graph = Surviving {
-        net: instance.net,
-        states: instance.states,
-        state: pool[k].state,
-    };
+    let graph = instance.in_state(pool[k].state);
     !is_kept(&graph, pool[k].lengths.items()) || stands_before(pool, k)
 }
 
