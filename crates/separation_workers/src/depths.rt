@@ -4,10 +4,10 @@ ghost use Rattle.plan_terms.specs.Terms.{AreDemands};
 use crate::round::Round;
 use net_core::{Demand, LinkId, NodeId, Surviving};
 
-/// Whether lengths are tried in a state: they are positive on a link that it fails. Where no link fails, all are tried.
+/// Whether lengths are tried in a state: if it fails links, only lengths that are positive on one of them.
 ///
-/// A set of nodes that a failed link doesn't leave has one cut in all of the states, so that trying all lengths in all states
-/// fills the pool with copies of one inequality.
+/// A set of nodes that no failed link leaves has the same cut in this state as in `none`. Trying all lengths in all states would fill the
+/// pool with copies of one inequality.
 fn are_tried(graph: &Surviving, lengths: &[u32]) -> bool
     requires { length lengths.now ≡ length graph.now.net.now.links }
 {
@@ -22,7 +22,7 @@ fn are_tried(graph: &Surviving, lengths: &[u32]) -> bool
     false
 }
 
-/// What the surviving links give along lengths, over the scale.
+/// The sum of capacity times length over the surviving links, as a numerator over the scale of the capacities.
 fn given(graph: &Surviving, lengths: &[u32], nums: &[u128]) -> u128
     requires lengths { length lengths.now ≡ length graph.now.net.now.links }
     requires nums { length nums.now ≡ length lengths.now }
@@ -36,7 +36,7 @@ fn given(graph: &Surviving, lengths: &[u32], nums: &[u128]) -> u128
     sum
 }
 
-/// Makes one part of the parts of two nodes.
+/// Merges the parts that two nodes are in. It takes time in the number of nodes.
 fn join_parts(parts: &mut [u32], a: NodeId, b: NodeId)
     requires first { a.0 < length parts.old }
     requires second { b.0 < length parts.old }
@@ -51,7 +51,7 @@ fn join_parts(parts: &mut [u32], a: NodeId, b: NodeId)
     }
 }
 
-/// Numbers the parts of the graph that surviving links of length 0 join, for each node.
+/// Gives each node the number of its part: nodes that are joined by surviving links of length 0 are in one part.
 fn number_parts(graph: &Surviving, lengths: &[u32], parts: &mut [u32])
     requires lengths { length lengths.now ≡ length graph.now.net.now.links }
     requires nodes { length parts.old ≡ length graph.now.net.now.nodes }
@@ -68,7 +68,8 @@ fn number_parts(graph: &Surviving, lengths: &[u32], parts: &mut [u32])
     }
 }
 
-/// What demands between different parts need, each over a distance of 1 or more.
+/// The sum of the needs of demands between different parts. Their ends are at a distance of at least 1, so the lengths ask for no less than
+/// this.
 fn needed(demands: &[Demand], parts: &[u32]) -> u128
     requires { AreDemands (length parts.now) demands.now }
 {
@@ -81,8 +82,11 @@ fn needed(demands: &[Demand], parts: &[u32]) -> u128
     sum
 }
 
-/// What the links of a state give along lengths for each unit that demands need at least, where that is too little; `None` where it
-/// may be enough, or where the lengths aren't tried there. It takes no memory but `parts`, which has a number for each node.
+/// How little the surviving links of a state give along lengths: the sum of capacity times length over the sum of the needs that cross it,
+/// as a whole number over the scale of the capacities, rounded down. `None` where that may be enough, or where the lengths aren't tried in
+/// the state.
+///
+/// `parts` has one number per node. It takes time in links times nodes, and no further memory.
 pub fn depth(round: &Round, graph: &Surviving, lengths: &[u32], parts: &mut [u32]) -> Option<u128>
     requires net { graph.now.net.now ≡ round.now.instance.net.now }
     requires lengths { length lengths.now ≡ length graph.now.net.now.links }

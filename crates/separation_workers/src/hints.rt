@@ -14,10 +14,10 @@ use route_law::law::zeros_and_ones_are_priced;
 use separator::{are_narrow, line_of};
 use std::sync::Wait;
 
-/// The most shown vectors that are looked at.
+/// The most vectors of the hint board that are looked at.
 const MOST_HINTS: u64 = 8192;
 
-/// Whether there is a depth, and it is less than the least so far.
+/// Whether there is a depth, and it is less than the least one so far, if any.
 fn is_deeper(depth: Option<u128>, least: Option<u128>) -> bool {
     match (depth, least) {
         (Some(depth), Some(least)) => depth < least,
@@ -26,8 +26,8 @@ fn is_deeper(depth: Option<u128>, least: Option<u128>) -> bool {
     }
 }
 
-/// Of the lengths that are shown and positive on a link that the state fails (any lengths where none fails), those along which the
-/// links give least for what they ask for. `parts` has a number for each node.
+/// The lengths of the hint board of least `depth` in a state, the first of them where several have it; `None` where none has a depth.
+/// `parts` has one number per node.
 fn deepest<'r>(round: &'r Round, graph: &Surviving, parts: &mut [u32]) -> Option<&'r Lengths>
     requires net { graph.now.net.now ≡ round.now.instance.net.now }
     requires nodes { length parts.old ≡ length graph.now.net.now.nodes }
@@ -48,7 +48,7 @@ fn deepest<'r>(round: &'r Round, graph: &Surviving, parts: &mut [u32]) -> Option
     best
 }
 
-/// A copy of the deepest lengths of a state.
+/// A copy of the lengths of the hint board that have the least depth in a state.
 fn deepest_in(round: &Round, state: StateId) -> Result<Option<Lengths>, NoMemory>
     requires { state.0 < length round.now.instance.states.now.listed + 1 }
     ensures { IfOk result (λ o. IfSome o (AreHintLengths (hint_links round.now.hints.now))) }
@@ -61,7 +61,7 @@ fn deepest_in(round: &Round, state: StateId) -> Result<Option<Lengths>, NoMemory
     }
 }
 
-/// The cut, where the capacities violate it.
+/// The cut of the lengths in the state, if the capacities violate it.
 fn if_violated(round: &Round, state: StateId, lengths: Lengths) -> Result<Option<Cut>, NoMemory>
     requires state { state.0 < length round.now.instance.states.now.listed + 1 }
     requires narrow { All (λ n. n < 2 ^ 62) round.now.caps.now.nums }
@@ -84,8 +84,9 @@ fn if_violated(round: &Round, state: StateId, lengths: Lengths) -> Result<Option
     }
 }
 
-/// The cut of lengths that are shown, where the capacities violate one. A vector is tested cheaply before its cut is made, which takes
-/// a search from each node.
+/// A cut of lengths from the hint board that the capacities violate in a state, if the lengths of least depth have one.
+///
+/// Each vector of lengths is tested cheaply by its depth; a cut, which takes a search from each node, is made of one only.
 pub fn hinted_cut(round: &Round, state: StateId) -> Result<Option<Cut>, NoMemory>
     requires { state.0 < length round.now.instance.states.now.listed + 1 }
     ensures { IfOk result (λ o. IfSome o (IsFoundCutOf (graph_in (case_of round.now.instance) state.0) round.now.instance.demands.now round.now.caps.now)) }
@@ -99,21 +100,21 @@ pub fn hinted_cut(round: &Round, state: StateId) -> Result<Option<Cut>, NoMemory
     }
 }
 
-/// Whether the lengths are shown.
+/// Whether the lengths are on the hint board.
 fn is_shown(hints: &HintBoard, lengths: &[u32]) -> bool {
     (0..MOST_HINTS)
         .map_while(|at| hints.get(at))
         .any(|shown| shown.items() == lengths)
 }
 
-/// Whether the lengths are zeros and ones, with a one.
+/// Whether each length is 0 or 1, and at least one is 1.
 fn are_zeros_and_ones(lengths: &[u32]) -> bool
     ensures { IsTrue result → All (λ l. l ≤ 1) lengths.now × Contains lengths.now 1 }
 {
     lengths.iter().all(|l| *l <= 1) && lengths.contains(&1)
 }
 
-/// Shows lengths of 0 and 1, if they aren't shown. Where memory runs out, they stay unshown.
+/// Posts lengths on the hint board if they are zeros and ones, and not there yet. Where memory runs out they aren't posted.
 pub fn post<R: Wait>(rt: &R, hints: &HintBoard, lengths: &Lengths)
     requires count { length lengths.now ≡ hint_links hints.now }
     requires few { length lengths.now ≤ 256 }

@@ -2,17 +2,20 @@ use outside_io::{Gate, RoundFigures, TreeFigures};
 use std::sync::atomic::{AtomicU64, Ordering};
 use std::thread;
 
-/// How often a held worker looks whether it may go on. Where nobody lets it, it goes on after this number of looks.
+/// How often a held worker looks at most whether it may go on. After that it goes on by itself.
 const LOOKS: u64 = 1 << 22;
 
-/// A hold on the worker that has one state of a round, until a worker has solved another one. It shows that workers go on beside each
-/// other; the program holds nobody.
+/// Keeps the worker of one state of a round waiting until another worker has solved another state. A test shows with it that workers run in
+/// parallel; the program itself holds nobody.
 #[derive(Drop)]
 pub struct Hold {
-    /// The state of the worker that waits, and the one that it waits for.
+    /// The state whose worker waits, and the state that it waits for.
     pair: Option<(u32, u32)>,
+    /// How many states are solved.
     solved: AtomicU64,
+    /// 1 once the state that is waited for is solved.
     let_go: AtomicU64,
+    /// 1 once the waiting worker has noticed it.
     kept: AtomicU64,
 }
 
@@ -36,7 +39,7 @@ impl Hold {
         }
     }
 
-    /// Whether the other state was solved while the worker of the first one waited for it. It takes constant time.
+    /// Whether the other state was solved while the worker of the held state waited for it. It takes constant time.
     pub fn was_kept(&self) -> bool {
         self.kept.load(Ordering::SeqCst) != 0
     }
@@ -47,7 +50,7 @@ impl Hold {
     }
 }
 
-/// A caller isn't held.
+/// A hold keeps workers waiting, and never a caller.
 impl Gate for Hold {
     fn editing(&self, _caller: u32) {}
 

@@ -4,7 +4,7 @@ use crate::round::Round;
 use net_core::{NoMemory, StateId};
 use separator::KnownState;
 
-/// Nothing of a state but the basis of another one, where that has one.
+/// A state of which nothing is known but a copy of this state's basis, if this state has one and no worker has it in hand.
 fn begun_of(round: &Round, state: u32) -> Result<Option<KnownState>, NoMemory> {
     if let Some(kept) = round.kept.get(state as usize) {
         if let Some(known) = kept.try_lock() {
@@ -16,7 +16,8 @@ fn begun_of(round: &Round, state: u32) -> Result<Option<KnownState>, NoMemory> {
     Ok(None)
 }
 
-/// So it is with the basis of the state before one in the ring, else with the first one that there is.
+/// A state of which nothing is known but a copy of the basis of the state before `from` in the ring, or else of the first basis that there
+/// is.
 fn begun_before(round: &Round, from: u32) -> Result<Option<KnownState>, NoMemory> {
     let states = round.instance.states.count();
     let before = from.checked_sub(1).unwrap_or(states.saturating_sub(1));
@@ -31,7 +32,7 @@ fn begun_before(round: &Round, from: u32) -> Result<Option<KnownState>, NoMemory
     Ok(None)
 }
 
-/// Whether a question has left a basis of some state.
+/// Whether some state has a basis from an earlier question.
 pub(crate) fn is_begun(round: &Round) -> bool {
     for kept in round.kept {
         if let Some(known) = kept.try_lock() {
@@ -43,7 +44,7 @@ pub(crate) fn is_begun(round: &Round) -> bool {
     false
 }
 
-/// Gives a state a copy of this basis, where less is short with it than with its own.
+/// Gives a state a copy of the lent basis, if less is short with it than with the state's own.
 fn lend_to(round: &Round, lent: &KnownState, state: u32) -> Result<(), NoMemory>
     requires { state < length round.now.instance.states.now.listed + 1 }
 {
@@ -56,7 +57,7 @@ fn lend_to(round: &Round, lent: &KnownState, state: u32) -> Result<(), NoMemory>
     Ok(())
 }
 
-/// Gives each state from one on to before another a copy of this basis, where less is short with it than with its own.
+/// Gives each state in `from..to` a copy of the lent basis, if less is short with it than with the state's own.
 fn lend_to_all(round: &Round, lent: &KnownState, from: u32, to: u32) -> Result<(), NoMemory>
     requires { to ≤ length round.now.instance.states.now.listed + 1 }
 {
@@ -66,9 +67,9 @@ fn lend_to_all(round: &Round, lent: &KnownState, from: u32, to: u32) -> Result<(
     Ok(())
 }
 
-/// Gives each state from one on to before another the basis of the state before the first of them in the ring, or else the first one that
-/// there is, where less is short with it than with its own. It is called while no worker has a state in hand, so that it doesn't hang on
-/// which of them is ahead.
+/// Gives each state in `from..to` a copy of the basis of the state before `from` in the ring, or else of the first basis that there is, if
+/// less is short with it than with the state's own. It is called while no worker has a state in hand, so that the outcome doesn't depend on
+/// which worker is ahead.
 pub(crate) fn lend(round: &Round, from: u32, to: u32) -> Result<(), NoMemory>
     requires { to ≤ length round.now.instance.states.now.listed + 1 }
 {

@@ -1,5 +1,5 @@
-//! A separator for a caller at a desk. Its workers separate the states of a round beside each other; the caller puts each cut that they
-//! find into the pool in a turn of its own, so that other callers may edit and plan meanwhile.
+//! A separator for a caller at a desk. Its workers separate the states of a round in parallel; the caller puts each cut that they find into
+//! the pool in a turn of its own, so that other callers may edit and plan meanwhile.
 //!
 //! ```text
 //! let mut separator = Workers::new(&rt, alloc, &gate, &Hold::open(), &hints, caller);

@@ -13,10 +13,10 @@ use separator::{KnownState, StateQuestion, separate_state};
 use std::thread;
 use std::thread::Threads;
 
-/// The number of threads that work for a caller beside its own.
+/// The most threads that work for a caller beside its own.
 const HELPERS: u32 = 3;
 
-/// What is found of a state with what is kept of it.
+/// Asks a state, beginning with what is kept of it.
 fn ask(round: &Round, state: StateId, known: &mut KnownState) -> Result<RouteAnswer, NoMemory>
     requires { state.0 < length round.now.instance.states.now.listed + 1 }
     ensures { IfOk result (IsFoundOf round.now state.0) }
@@ -30,7 +30,7 @@ fn ask(round: &Round, state: StateId, known: &mut KnownState) -> Result<RouteAns
     )
 }
 
-/// Routes a state with what is kept of it. Where another worker has that in hand, it is routed without.
+/// Asks a state, beginning with what is kept of it, or with nothing where another worker has that in hand.
 fn route(round: &Round, state: StateId) -> Result<RouteAnswer, NoMemory>
     requires { state.0 < length round.now.instance.states.now.listed + 1 }
     ensures { IfOk result (IsFoundOf round.now state.0) }
@@ -49,7 +49,7 @@ fn route(round: &Round, state: StateId) -> Result<RouteAnswer, NoMemory>
     )
 }
 
-/// What is found of a state: first by the lengths that are shown, if it isn't asked by routing alone, then by routing.
+/// The answer of a state. Unless the round asks by routing alone, the lengths of the hint board are tried first.
 pub fn find_state(round: &Round, state: StateId) -> Result<RouteAnswer, NoMemory>
     requires { state.0 < length round.now.instance.states.now.listed + 1 }
     ensures { IfOk result (IsFoundOf round.now state.0) }
@@ -63,7 +63,7 @@ pub fn find_state(round: &Round, state: StateId) -> Result<RouteAnswer, NoMemory
     }
 }
 
-/// What is found of a state. Where memory runs out, no worker takes a further state.
+/// The answer of a state. Where memory runs out, no worker takes a further state.
 fn find_or_stop(round: &Round, work: &Work, state: StateId) -> Result<RouteAnswer, NoMemory>
     requires { state.0 < length round.now.instance.states.now.listed + 1 }
     ensures { IfOk result (IsFoundOf round.now state.0) }
@@ -75,8 +75,7 @@ fn find_or_stop(round: &Round, work: &Work, state: StateId) -> Result<RouteAnswe
     found
 }
 
-/// Puts what is found of the next state after what is found, if there is one that nobody has taken. Whether there is. The gate, which is
-/// a hold, hears of it.
+/// Takes the next state that nobody has taken, and adds its answer to those found; `false` if no state is left. The gate is a hold here.
 fn find_next<G: Gate>(
     gate: &G,
     round: &Round,
@@ -97,7 +96,7 @@ fn find_next<G: Gate>(
     Ok(true)
 }
 
-/// What one worker finds of the states that it takes. The gate, which is a hold, hears of each.
+/// The answers of the states that one worker takes. The gate is a hold here.
 fn find_some<G: Gate>(gate: &G, round: &Round, work: &Work) -> Result<Vec<StateFound>, NoMemory>
     requires { work.now.end ≤ length round.now.instance.states.now.listed + 1 }
     ensures { IfOk result (λ found. All (IsStateFound round.now) found.items) }
@@ -111,7 +110,7 @@ fn find_some<G: Gate>(gate: &G, round: &Round, work: &Work) -> Result<Vec<StateF
     Ok(found)
 }
 
-/// What two groups of workers find.
+/// The answers of two groups of workers, those of the first before those of the second.
 fn both(
     one: Result<Vec<StateFound>, NoMemory>,
     two: Result<Vec<StateFound>, NoMemory>,
@@ -124,8 +123,8 @@ fn both(
     Ok(all)
 }
 
-/// What this thread and a number of helpers find, each on a thread of its own. A worker takes the next state that nobody has taken, so
-/// that one slow state holds nobody up. Where a thread can't be started, its work is done by this one.
+/// The answers that this thread and a number of helpers find, each helper on a thread of its own. A worker takes the next state that nobody
+/// has taken, so that one slow state holds nobody up. Where a thread can't be started, this one does its work.
 fn find_beside<R: Threads, G: Gate + Sync>(
     rt: &R,
     gate: &G,
@@ -154,7 +153,7 @@ fn find_beside<R: Threads, G: Gate + Sync>(
     both(one, rest)
 }
 
-/// Puts what is found of a state at the state's place.
+/// Puts an answer at the place of its state.
 fn place(round: &Round, places: &mut [Option<StateFound>], found: StateFound)
     requires found { IsStateFound round.now found }
     requires before { AreFound round.now places.old }
@@ -168,7 +167,7 @@ fn place(round: &Round, places: &mut [Option<StateFound>], found: StateFound)
     }
 }
 
-/// A place for each state, with nothing found.
+/// An empty place for each state.
 fn no_places(round: &Round) -> Result<List<Option<StateFound>>, NoMemory>
     ensures { IfOk result (AreFound round.now) }
 {
@@ -180,7 +179,7 @@ fn no_places(round: &Round) -> Result<List<Option<StateFound>>, NoMemory>
     Ok(places)
 }
 
-/// Puts what is found each at the place of its state.
+/// Puts each answer at the place of its state.
 fn place_all(round: &Round, places: &mut [Option<StateFound>], found: Vec<StateFound>)
     requires found { All (IsStateFound round.now) found.items }
     requires before { AreFound round.now places.old }
@@ -191,7 +190,7 @@ fn place_all(round: &Round, places: &mut [Option<StateFound>], found: Vec<StateF
     }
 }
 
-/// What is found, each at the place of its state.
+/// The answers, each at the place of its state.
 fn by_state(round: &Round, found: Vec<StateFound>) -> Result<List<Option<StateFound>>, NoMemory>
     requires { All (IsStateFound round.now) found.items }
     ensures { IfOk result (AreFound round.now) }
@@ -201,7 +200,7 @@ fn by_state(round: &Round, found: Vec<StateFound>) -> Result<List<Option<StateFo
     Ok(places)
 }
 
-/// What is found of the first state, on this thread, where no state has a basis: the others begin with the one that it leaves.
+/// The answer of the first state, found on this thread, if no state has a basis yet: the others begin with the basis that it leaves.
 fn find_first<G: Gate>(gate: &G, round: &Round, from: u32) -> Result<Vec<StateFound>, NoMemory>
     requires { from < length round.now.instance.states.now.listed + 1 }
     ensures { IfOk result (λ found. All (IsStateFound round.now) found.items) }
@@ -212,8 +211,8 @@ fn find_first<G: Gate>(gate: &G, round: &Round, from: u32) -> Result<Vec<StateFo
     find_some(gate, round, &Work::of(from, from + 1))
 }
 
-/// What the workers of a round find of the states from one on to before another. They begin with the basis of the state
-/// before these where that is nearer to an answer than their own.
+/// The answers of the states in `from..to`. They begin with the basis of the state before them where that is nearer to an answer than their
+/// own.
 fn find_others<R: Threads, G: Gate + Sync>(
     rt: &R,
     gate: &G,
@@ -230,11 +229,11 @@ fn find_others<R: Threads, G: Gate + Sync>(
     find_beside(rt, gate, round, &Work::of(from, to), helpers)
 }
 
-/// What the workers of a round find of the states from one on to before another, each at the place of its state. They begin with the basis
-/// of the state before these where that is nearer to an answer than their own; in the first round one state is asked before the others,
-/// which begin with its basis.
+/// The answers of the states in `from..to`, each at the place of its state. They begin with the basis of the state before them where that
+/// is nearer to an answer than their own. As long as no state has a basis, the first one is asked alone, and the others begin with its
+/// basis.
 ///
-/// The gate is a hold, which hears of a state on the thread that works on it; the caller's own gate hears of it elsewhere.
+/// The gate is a hold, which hears of a state on the thread that works on it. The caller's own gate isn't told here.
 pub fn find_states<R: Threads, G: Gate + Sync>(
     rt: &R,
     gate: &G,

@@ -10,7 +10,7 @@ use std::alloc::Global;
 use std::sync::Mutex;
 use std::sync::atomic::{AtomicU32, Ordering};
 
-/// What is kept of a state, for the worker that has the state.
+/// What is kept of a state from round to round, for the worker that asks it.
 pub type KeptState = Mutex<KnownState>;
 
 /// A round of separation: what all its workers share.
@@ -22,9 +22,9 @@ pub struct Round<'i, 'c, 'h, 'k> {
     /// The caller's number.
     pub caller: u32,
     pub hints: &'h HintBoard,
-    /// What is kept of each state, from state 0 on; where there is nothing, a state is routed without.
+    /// What is kept of each state, from state 0 on. A state beyond the end of the list is asked without.
     pub kept: &'k [KeptState],
-    /// How states are asked. By routing alone the lengths that are shown aren't looked at either.
+    /// How states are asked. When they are asked by routing alone, the hint board isn't looked at either.
     pub question: StateQuestion,
     pub ghost survivable: { IsSurvivable (case_of instance) },
     pub ghost scale: { 0 < caps.now.scale },
@@ -32,14 +32,14 @@ pub struct Round<'i, 'c, 'h, 'k> {
     pub ghost links: { hint_links hints.now ≡ length instance.net.now.links },
 }
 
-/// What is found of a state of a round.
+/// A state of a round, with its answer.
 #[derive(Drop)]
 pub struct StateFound {
     pub state: StateId,
     pub answer: RouteAnswer,
 }
 
-/// States of a round that its workers take, one after another, from one on to before another.
+/// The states in `next..end` of a round, which its workers take one after another.
 #[derive(Drop)]
 pub struct Work {
     /// The first state that nobody has taken.
@@ -48,7 +48,7 @@ pub struct Work {
 }
 
 impl Work {
-    /// The states from the first one on to before the end.
+    /// The states in `first..end`.
     pub fn of(first: u32, end: u32) -> Work
         ensures { result.end ≡ end }
     {

@@ -19,10 +19,10 @@ use separator::{
 use std::sync::Wait;
 use std::thread::Threads;
 
-/// How many states of a ring are asked beside each other. It doesn't change with the processors, so that the answers don't.
+/// How many states of a ring are asked in parallel. It doesn't depend on the number of processors, so that the answers don't either.
 const BATCH: u32 = 4;
 
-/// Puts the cut of a violated set of nodes of a state to the answers, if one is found, and into the pool.
+/// Looks for a violated set of nodes in a state. If there is one, its cut goes into the pool and to the answers.
 fn answer_set<R: Wait, G: Gate>(
     rt: &R,
     gate: &G,
@@ -52,7 +52,7 @@ fn answer_set<R: Wait, G: Gate>(
     }
 }
 
-/// The cuts of violated sets of nodes, one of each state of which one is found, put into the pool.
+/// Cuts of violated sets of nodes, one for each state in which one is found, all put into the pool.
 fn answer_all_sets<R: Wait, G: Gate>(
     rt: &R,
     gate: &G,
@@ -75,7 +75,7 @@ fn answer_all_sets<R: Wait, G: Gate>(
     Ok(answers)
 }
 
-/// The cuts of sets of nodes that are violated with the room of a level, one of each state of which one is found, put into the pool.
+/// Cuts of sets of nodes that are violated with the room of a level, one for each state in which one is found, all put into the pool.
 fn answer_sets<R: Wait, G: Gate>(
     rt: &R,
     gate: &G,
@@ -94,7 +94,8 @@ fn answer_sets<R: Wait, G: Gate>(
     answer_all_sets(rt, gate, round, &sets, caller)
 }
 
-/// The cuts of violated sets of nodes, with the most room from a level on with which some are found.
+/// Cuts of sets of nodes that are violated with the most room, from the room of `level` down, with which some are found; `level` becomes
+/// the one of that room.
 fn answer_roomy_sets<R: Wait, G: Gate>(
     rt: &R,
     gate: &G,
@@ -117,7 +118,7 @@ fn answer_roomy_sets<R: Wait, G: Gate>(
     Ok(cuts)
 }
 
-/// Puts an answer to the cuts, or to the others.
+/// Adds an answer to the cuts if it is one, else to the others.
 fn put_answer(
     answer: StateAnswer,
     cuts: &mut List<StateAnswer>,
@@ -133,7 +134,7 @@ fn put_answer(
     Ok(())
 }
 
-/// Puts what is answered of the states that were asked into the pool where it is a cut, and the others to `others`. The cuts are answered.
+/// The answers of the states in `from..to` that are cuts, all put into the pool. The other answers are added to `others`.
 fn answer_places<R: Wait, G: Gate>(
     rt: &R,
     gate: &G,
@@ -162,7 +163,7 @@ fn answer_places<R: Wait, G: Gate>(
     Ok(cuts)
 }
 
-/// Asks states beside each other. The cuts that are found of them are answered; the others go to `others`.
+/// Asks the states in `from..to` in parallel. The cuts are returned, and the other answers are added to `others`.
 fn answer_batch<R: Threads + Wait, G: Gate>(
     rt: &R,
     gate: &G,
@@ -198,7 +199,7 @@ fn answer_batch<R: Threads + Wait, G: Gate>(
     )
 }
 
-/// Asks states, a batch after another, until cuts are found of one: these. The answers before go to `others`.
+/// Asks the states in `from..to`, batch after batch, until one gives cuts, and returns these. The other answers are added to `others`.
 fn ask_until_cuts<R: Threads + Wait, G: Gate>(
     rt: &R,
     gate: &G,
@@ -230,7 +231,7 @@ fn ask_until_cuts<R: Threads + Wait, G: Gate>(
     Ok(List::new(round.alloc))
 }
 
-/// The state of the first answer.
+/// The state of the first answer; 0 if there is none.
 fn first_state(answers: &[StateAnswer]) -> u32 {
     match answers {
         [answer, ..] => answer.state.0,
@@ -238,7 +239,7 @@ fn first_state(answers: &[StateAnswer]) -> u32 {
     }
 }
 
-/// Asks the states before one, until cuts are found; `later` are the answers of the states from that one on.
+/// Asks the states in `0..start` until cuts are found. `later` has the answers of the states from `start` on, none of which is a cut.
 fn ask_before<R: Threads + Wait, G: Gate>(
     rt: &R,
     gate: &G,
@@ -267,7 +268,7 @@ fn ask_before<R: Threads + Wait, G: Gate>(
     Ok(cuts)
 }
 
-/// Asks the states from the first one on, and then those before it, until cuts are found.
+/// Asks the states from `first` on, and then those before it, until cuts are found.
 fn ask_ring<R: Threads + Wait, G: Gate>(
     rt: &R,
     gate: &G,
@@ -294,9 +295,10 @@ fn ask_ring<R: Threads + Wait, G: Gate>(
     Ok(cuts)
 }
 
-/// The cuts of those violated sets of nodes that growing finds, one of each state that has one. They grow with the room of a level, and with
-/// less where none is violated. Where there is none without room either, the states are asked in a ring, four beside each other, from the one
-/// that was violated last when states were asked, until cuts are found: these, and where none is, the answers of all states.
+/// A round that stops early. It looks for violated sets of nodes, with the room of `level` and then with less, until some are found, and
+/// answers their cuts, one for each state that has one. Where no set is violated even without room, the states are asked in a ring, four in
+/// parallel, beginning with `first`, the one that was violated last when states were asked. The first batch with cuts ends it, and those
+/// cuts are the answer; where there are none, the answers of all states are.
 pub fn answer_some<R: Threads + Wait, G: Gate>(
     rt: &R,
     gate: &G,

@@ -14,7 +14,7 @@ use plan_types::Spot;
 use separator::spot_after;
 use std::sync::Wait;
 
-/// Puts a cut of the desk's network and states into the pool in a turn, where there is room for it, and tells its place. It may
+/// Puts a cut of the desk's network and states into the pool in a turn of the caller, if there is room for it, and tells its spot. It may
 /// never return.
 pub fn spot_in_turn<R: Wait>(rt: &R, caller: &mut Caller, cut: Cut) -> Result<Spot, NoMemory>
     requires own { IsAtDesk caller.old }

@@ -27,22 +27,23 @@ use std::sync::{Mutex, Wait};
 use std::thread::Threads;
 use turn_lock::Desk;
 
-/// What no call of a separator at a desk changes. No value of it is made.
+/// What no call of a separator at a desk changes. It is used in contracts only; no value of it is made.
 pub struct DeskMark<'a> {
     pub desk: Desk<Board<'a>>,
     /// The caller's number.
     pub number: u32,
-    /// The units of its pass.
+    /// The units of the caller's pass.
     pub units: u64,
 }
 
-/// A separator for a caller at a desk, by up to four workers. They separate the states of a round beside each other, and the caller then
-/// puts their cuts into the pool, in the order of the states and in a turn for each, so that other callers edit and plan meanwhile. It
-/// waits for these turns, and may never return.
+/// A separator for a caller at a desk, with up to four workers. They separate the states of a round in parallel. Then the caller puts their
+/// cuts into the pool, in the order of the states and each in a turn of its own, so that other callers edit and plan meanwhile. It waits
+/// for these turns, and may never return.
 ///
-/// The gate hears on the caller's own thread: of each state that is asked, before its worker begins, and again when this worker and those
-/// beside it are done and before a cut of the state is put into the pool. In a round that stops early it hears of no other state, but of one
-/// with a violated set of nodes, both times before the cut is put into the pool. A hold hears of a state on the thread that works on it.
+/// The gate is told on the caller's own thread: of each state that is asked, before any worker of its batch begins, and again when all of
+/// them are done and before a cut of the state goes into the pool. In a round that stops early it is told only of states that are asked,
+/// and of those with a violated set of nodes, in both cases twice, before the cut goes into the pool. The hold is told of a state on the
+/// thread that works on it.
 #[derive(Drop)]
 pub struct Workers<'r, 'd, 'a, R, G> {
     rt: &'r R,
@@ -52,9 +53,10 @@ pub struct Workers<'r, 'd, 'a, R, G> {
     hints: &'r HintBoard,
     caller: Caller<'d, 'a>,
     kept: List<KeptState>,
-    /// How little room sets of nodes are violated with; all of it at the first round.
+    /// The level of room that a round that stops early begins with: 0, the most room, at first, and higher levels after rounds that found
+    /// nothing with so much.
     level: u32,
-    /// The state that was violated last when states were asked in a ring. The next ring begins with it.
+    /// The state that gave the first cut when a ring of states was asked last. The next ring begins with it.
     first: u32,
     pub ghost own: { ∥ IsAtDesk caller ∥₁ },
     pub ghost seen: { HasSeenHistory caller },
@@ -62,9 +64,8 @@ pub struct Workers<'r, 'd, 'a, R, G> {
 }
 
 impl<'r, 'd, 'a, R, G> Workers<'r, 'd, 'a, R, G> {
-    /// A separator for the caller, with a board of hints that has as many lengths as the network has links. What the separator has seen
-    /// and committed goes on from what the caller has. A hold may keep one of its workers waiting in a round. It takes constant time, and asks for no
-    /// memory.
+    /// A separator for the caller, with a hint board for as many links as the network has. What it has seen and committed goes on from the
+    /// caller's. The hold may keep one of its workers waiting in a round. It takes constant time, and asks for no memory.
     pub fn new(
         rt: &'r R,
         alloc: Global,
@@ -101,7 +102,7 @@ impl<'r, 'd, 'a, R, G> Workers<'r, 'd, 'a, R, G> {
     }
 }
 
-/// A place for what is kept of each of a number of states.
+/// Makes `kept` as long as the number of states, with nothing known of the new ones.
 fn reach(alloc: Global, kept: &mut List<KeptState>, states: u32) -> Result<(), NoMemory> {
     for _ in kept.len()..states as usize {
         kept.push(Mutex::new(KnownState::new(alloc)))?;
@@ -109,7 +110,7 @@ fn reach(alloc: Global, kept: &mut List<KeptState>, states: u32) -> Result<(), N
     Ok(())
 }
 
-/// What is kept at the place of a state, taken out of it.
+/// The answer at the place of a state, taken out of it.
 fn taken(round: &Round, places: &mut [Option<StateFound>], state: StateId) -> Option<StateFound>
     requires { AreFound round.now places.old }
     ensures found { IfSome result (IsStateFound round.now) }
@@ -123,7 +124,7 @@ fn taken(round: &Round, places: &mut [Option<StateFound>], state: StateId) -> Op
     }
 }
 
-/// What is found of a state of the round, also where no worker has told of it.
+/// The answer of a state. It is searched for here if no worker has left it at its place.
 fn found_of(
     round: &Round,
     places: &mut [Option<StateFound>],
@@ -145,7 +146,7 @@ fn found_of(
     }
 }
 
-/// The answer of a state that a cut is found of, the cut put into the pool, and its lengths shown.
+/// Puts the cut of a state into the pool, posts its lengths on the hint board, and gives the state's answer.
 pub fn answer_cut<R: Wait>(
     rt: &R,
     round: &Round,
@@ -171,7 +172,7 @@ pub fn answer_cut<R: Wait>(
     })
 }
 
-/// What is answered of a state, its cut put into the pool, and its lengths shown.
+/// The answer of a state. If it is a cut, that goes into the pool, and its lengths on the hint board.
 fn answer_state<R: Wait, G: Gate>(
     rt: &R,
     gate: &G,
@@ -203,7 +204,7 @@ fn answer_state<R: Wait, G: Gate>(
     }
 }
 
-/// What is answered of a state by what is found of it at its place.
+/// The answer of a state, from what the workers left at its place. A cut goes into the pool, and its lengths on the hint board.
 pub fn answer_at<R: Wait, G: Gate>(
     rt: &R,
     gate: &G,
@@ -226,7 +227,7 @@ pub fn answer_at<R: Wait, G: Gate>(
     answer_state(rt, gate, round, state, found, caller)
 }
 
-/// What is answered of each state, the cuts put into the pool in the order of the states.
+/// The answer of each state. The cuts go into the pool in the order of the states.
 fn answer_states<R: Wait, G: Gate>(
     rt: &R,
     gate: &G,
@@ -251,7 +252,7 @@ fn answer_states<R: Wait, G: Gate>(
     Ok(answers)
 }
 
-/// Separates the states of a round beside each other, and puts their cuts into the pool.
+/// Separates the states of a round in parallel, and puts their cuts into the pool.
 fn answer_round<R: Threads + Wait, G: Gate>(
     rt: &R,
     gate: &G,

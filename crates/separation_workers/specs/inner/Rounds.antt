@@ -9,15 +9,15 @@ use Rattle.separation_workers.specs.Callers.{HasSeenHistory}
 use Rattle.separation_workers.specs.declared.round.Round.{Round}
 use Rattle.separation_workers.specs.declared.round.StateFound.{StateFound}
 
--- it is found of state s of the round
+-- the answer is right for state s at the capacities of the round
 abbrev pub IsFoundOf : Round → ℕ → RouteAnswer → Type 0
 IsFoundOf r s answer = IsFinding (graph_in (case_of r.instance) s) r.instance.demands.now r.caps.now answer
 
--- it is found of a state of the round
+-- it is a state of the round, and its answer is right
 abbrev pub IsStateFound : Round → StateFound → Type 0
 IsStateFound r found = (found.state.0 < length r.instance.states.now.listed + 1) × IsFoundOf r found.state.0 found.answer
 
--- what is found of some states of the round, and nothing of others
+-- each place is empty, or has a right answer of a state of the round
 abbrev pub AreFound : Round → List (Option StateFound) → Type 0
 AreFound r places = All (λ place. IfSome place (IsStateFound r)) places
 
@@ -28,7 +28,7 @@ pub record IsInRound (r : Round) (c : Caller) : Type 0 where
   pub net : (board_made c).net.now ≡ r.instance.net.now
   pub states : (board_made c).states.now ≡ r.instance.states.now
 
--- a cut goes to the cuts, and another answer to the others
+-- an answer that is a cut goes to the end of the cuts, another one to the end of the others
 abbrev pub IsPutApart : StateAnswer → (cuts cuts_now others others_now : List StateAnswer) → Type 0
 IsPutApart a cuts cuts_now others others_now =
     ((length (cut_answered a.answer) ≡ 1) × (cuts_now ≡ cuts ++ a ∷ []) × (others_now ≡ others))
