@@ -74,9 +74,9 @@ module _ (p : Case) (pairs : List UnitPair) (cuts : List CutLine) where
     pub further : CutLine
     pub found : IsFoundCut p pairs best.share further
 
-  -- ---- how the rounds end; Full says that no cut may be added, and IsLast what is known of the best certificate before this list's.
-  -- Where no cut may be added, the end is loose by width in a state only if no state is refused for a cut.
+  -- ---- how the rounds end: Full says that no cut may be added, and IsLast what is known of the best certificate before this list's
 
+  -- Where no cut may be added, the end is loose by width in a state only if no state is refused for a cut.
   abbrev pub EndsByWidth : Type 0 → (Option Best → Type 0) → Option Best → Evidence → Type 0
   EndsByWidth Full IsLast best (Route state caps basis kind) = IsSomeAnd best (λ b. IsWideAt b state.0 caps basis kind × (Full → AreCarriedOrWide p pairs b))
   EndsByWidth Full IsLast best (Master basis kind) = IsMasterEvidence p.links pairs cuts basis kind × IsLast best
@@ -113,6 +113,6 @@ pub record IsWorkedPool (p : Case) (history : List Entry) : Type 0 where
   pub list : IsWorkedList p pairs [] rounds lines
   pub pooled : map cut_of_line lines ≡ cuts_of history
 
--- where the history was empty, and the separator alone has written it, it pools a worked list
+-- where the history was empty, and the separator alone has written it, what it pools is a worked list
 abbrev pub IsWorkedAlone : Case → (old new : Seen Entry) → Type 0
 IsWorkedAlone p old new = old.history ≡ [] → new.history ≡ new.own → ∥ IsWorkedPool p new.history ∥₁

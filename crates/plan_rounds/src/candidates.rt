@@ -12,14 +12,14 @@ use plan_types::Spot;
 use separator::{Separate, line_of};
 use std::alloc::Global;
 
-/// The cuts of a planning so far, each with its spot: as many spots as lines.
+/// The cuts that a planning has listed so far, each with its spot. `lines` and `spots` have the same length.
 #[derive(Drop)]
 pub struct Candidates {
     pub lines: List<CutLine>,
     pub spots: List<Spot>,
 }
 
-/// The first places of a pool.
+/// The spots of the first `cuts` cuts of a pool, in their order.
 pub fn pool_spots(alloc: Global, cuts: usize) -> Result<List<Spot>, NoMemory>
     requires { cuts ≤ 4096 }
     ensures { IfOk result (AreFirstSpots cuts) }
@@ -38,7 +38,7 @@ fn is_same(a: &CutLine, b: &CutLine) -> bool
     a.state == b.state && a.lengths.items() == b.lengths.items()
 }
 
-/// Whether a cut is among others.
+/// Whether a line of the list has the cut's state and lengths.
 fn stands(lines: &[CutLine], line: &CutLine) -> bool
     ensures there { IsTrue result → HasCut lines.now line.now.state.0 line.now.lengths }
     ensures lacks { result ≡ false → Lacks lines.now line.now }
@@ -51,7 +51,7 @@ fn stands(lines: &[CutLine], line: &CutLine) -> bool
     false
 }
 
-/// Puts a line after the others, with its spot, unless its cut is among them.
+/// Adds a line and its spot to the end of the list, unless its cut is listed.
 fn put_line(line: CutLine, spot: Spot, candidates: &mut Candidates) -> Result<(), NoMemory>
     ensures { OnOk result (PutsLine line spot candidates.old candidates.new) }
 {
@@ -63,7 +63,7 @@ fn put_line(line: CutLine, spot: Spot, candidates: &mut Candidates) -> Result<()
     Ok(())
 }
 
-/// Admits a cut to the pool, and puts it after the others, unless it is among them.
+/// Admits a cut to the pool, and adds it to the end of the list, unless it is listed.
 pub fn take_cut<S: Separate>(
     instance: &Instance,
     cut: Cut,

@@ -8,11 +8,11 @@ use master_bound::{Best, MasterFault, master};
 use net_core::{CutLine, List, Network};
 use std::alloc::Global;
 
-/// With fewer links the program is solved from the slacks.
+/// With fewer links than this the master program is solved from its slacks.
 const FEW_LINKS: usize = 24;
 
-/// The best certificate of the cuts so far. With few links it is found from the slacks, which takes little time and makes it
-/// depend on the cuts alone; with more it begins with the basis that the rounds before have left.
+/// The best certificate of the cuts so far. With few links the master program is solved from its slacks, which takes little time and makes
+/// the certificate depend on the cuts alone. With more links it begins with the basis that the rounds before have left in `kept`.
 pub(crate) fn best_so_far(
     alloc: Global,
     net: &Network,

@@ -6,7 +6,7 @@ use net_core::{List, NoMemory};
 use std::alloc::Global;
 use std::mem;
 
-/// Puts the first items of a list after those of another.
+/// Adds the first items of a list, `most` of them at most, to the end of another.
 fn add_items<T: Drop>(items: List<T>, most: usize, into: &mut List<T>) -> Result<(), NoMemory>
     ensures { OnOk result (into.new ≡ into.old ++ take most items) }
 {
@@ -18,7 +18,7 @@ fn add_items<T: Drop>(items: List<T>, most: usize, into: &mut List<T>) -> Result
     Ok(())
 }
 
-/// Puts the first cuts, as many as there is room for, after others, with their spots.
+/// Adds the first cuts that were found, as many as there is room for, to the end of the list, with their spots.
 pub fn add_first(
     found: Candidates,
     room: usize,
@@ -31,7 +31,7 @@ pub fn add_first(
     add_items(spots, room, &mut candidates.spots)
 }
 
-/// Takes off the cuts after a number of first ones, with their spots.
+/// Shortens the list to its first `count` cuts and their spots.
 pub fn take_back(alloc: Global, count: usize, candidates: &mut Candidates) -> Result<(), NoMemory>
     ensures lines { OnOk result (candidates.new.lines ≡ take count candidates.old.lines) }
     ensures spots { OnOk result (candidates.new.spots ≡ take count candidates.old.spots) }

@@ -15,10 +15,10 @@ use net_core::{
 use plan_types::{Cause, Fractional, Quality, Share};
 use std::alloc::Global;
 
-/// Numbers of a routing program are below this.
+/// The numbers of a routing program have to be below this.
 const WIDE: u128 = 1 << 62;
 
-/// The first demand whose need over a scale is 2^62 or more.
+/// The first demand whose need times the scale is 2^62 or more.
 fn wide_demand(demands: &[Demand], scale: u64) -> Option<u32>
     requires { length demands.now ≤ 2048 }
     ensures { MatchOption result (All (λ d. d.need * scale < 2 ^ 62) demands.now) (HasWideNeed demands.now scale) }
@@ -31,7 +31,7 @@ fn wide_demand(demands: &[Demand], scale: u64) -> Option<u32>
     None
 }
 
-/// The name of a row's slack.
+/// The name of a row's slack: the first rows belong to links, and those after them to demands.
 fn slack_of(links: u32, row: u32) -> RouteColumn
     ensures { result ≡ beside links (λ e. LinkSlack (record { 0 = e })) (λ k. DemandSlack k) row }
 {
@@ -54,7 +54,7 @@ fn slack_names(alloc: Global, links: u32, demands: u32) -> Result<List<RouteColu
     Ok(names)
 }
 
-/// Evidence that what a demand needs over a scale is 2^62 or more.
+/// Evidence that the need of a demand times the scale is 2^62 or more.
 fn need_evidence(
     alloc: Global,
     instance: &Instance,
@@ -73,7 +73,7 @@ fn need_evidence(
     })
 }
 
-/// Evidence at capacities over a divisor, as evidence at the capacities themselves.
+/// Evidence at the divided capacities of a share, as evidence at the whole ones.
 fn whole_evidence(evidence: Evidence, whole: Caps) -> Evidence
     ensures { result ≡ at_caps whole evidence }
 {
@@ -93,8 +93,8 @@ fn whole_evidence(evidence: Evidence, whole: Caps) -> Evidence
     }
 }
 
-/// The quality of a bound whose share carries the demands in each state. The routings are those within the share's capacities over
-/// a divisor.
+/// The quality of a bound whose share carries the demands in each state. The routings, one per state, are within the share's divided
+/// capacities; the quality has them within the whole ones, unless a need times the scale is too wide there.
 fn carried(
     alloc: Global,
     instance: &Instance,
@@ -125,8 +125,8 @@ fn carried(
     }))
 }
 
-/// The quality of a bound whose share violates no cut that was found: its share carries the demands in each state, or a number of a
-/// state is too wide there.
+/// The quality of a bound for whose share no violated cut was found: the share carries the demands in each state, or `wide` has evidence
+/// that a number of a state is too wide. `routings` and `wide` are those at the divided capacities.
 pub fn quality_at(
     alloc: Global,
     instance: &Instance,

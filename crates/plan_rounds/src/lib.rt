@@ -1,5 +1,5 @@
-//! The rounds of a planning: opening cuts, and then the best certificate of the cuts so far and the cuts that its share violates, turn
-//! by turn.
+//! The rounds of a planning: opening cuts first, and then, turn by turn, the best certificate of the cuts so far and the cuts that its
+//! share violates.
 //!
 //! ```text
 //! let worked = work_rounds(alloc, &instance, snapshot.cuts, &mut separator)?;

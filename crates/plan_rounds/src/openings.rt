@@ -13,7 +13,7 @@ use net_core::{CutLine, Instance, List, NoMemory, StateId};
 use separator::Separate;
 use std::alloc::Global;
 
-/// Takes cuts, in their order.
+/// Admits cuts to the pool, one after another, and lists those that aren't listed yet.
 fn take_cuts<S: Separate>(
     instance: &Instance,
     cuts: List<Cut>,
@@ -37,7 +37,7 @@ fn take_cuts<S: Separate>(
     Ok(())
 }
 
-/// Takes the opening cuts of a state.
+/// Admits the opening cuts of a state to the pool, and lists those that aren't listed yet.
 fn open_state<S: Separate>(
     alloc: Global,
     instance: &Instance,
@@ -60,7 +60,8 @@ fn open_state<S: Separate>(
     take_cuts(instance, cuts, separator, candidates)
 }
 
-/// The cuts of the pool, and the opening cuts of each state that they lack, in state order; each of these is admitted to the pool.
+/// A list of the pool's cuts, and after them the opening cuts of each state that aren't among these, in state order. All opening cuts are
+/// admitted to the pool.
 pub fn open_states<S: Separate>(
     alloc: Global,
     instance: &Instance,

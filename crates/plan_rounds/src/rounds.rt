@@ -31,17 +31,17 @@ use plan_types::{Cause, Quality, Spot};
 use separator::{Separate, StateAnswer};
 use std::alloc::Global;
 
-/// The most cuts that are added.
+/// The most cuts that are added to those of the pool.
 const MOST_ADDED: usize = 4096;
 
-/// How the rounds of a planning end.
+/// What the rounds of a planning have come to.
 #[derive(Drop)]
 pub struct Worked {
     /// The pool's cuts, and then those that were added.
     pub lines: List<CutLine>,
-    /// The spot of each of them.
+    /// The spot of each line.
     pub spots: List<Spot>,
-    /// The best certificate, if there is one: that of these cuts, or, where theirs is too wide, that of the cuts before the last round.
+    /// The best certificate, if there is one: that of `lines`, or, if theirs is too wide, that of the lines before the last round.
     pub best: Option<Best>,
     pub quality: Quality,
 }
@@ -55,7 +55,7 @@ pub enum Turn {
     Last(Option<Best>, Quality),
 }
 
-/// The end at a share, by what the states answer.
+/// The last turn, at a share for which there is no further cut to add: its quality tells what the states answer.
 fn ended(
     alloc: Global,
     instance: &Instance,
@@ -80,7 +80,7 @@ fn ended(
     Ok(Turn::Last(Some(best), quality))
 }
 
-/// Goes on with the cuts that were found, as many as there is room for.
+/// Adds the cuts that were found, as many as there is room for, for a further turn.
 fn go_on(
     best: Best,
     found: Candidates,
@@ -93,8 +93,8 @@ fn go_on(
     Ok(Turn::Further(best))
 }
 
-/// Goes on with the cuts that the share of the best certificate violates, as many as there is room for, or ends with what the states
-/// answer.
+/// What comes after the answers of a turn: a further turn with the cuts that the share violates, as many as there is room for, or the end
+/// where it violates none, there is no room, or a number is too wide.
 fn judge(
     alloc: Global,
     instance: &Instance,
@@ -134,7 +134,8 @@ fn judge(
     go_on(best, found, room, candidates)
 }
 
-/// What states answer at capacities: all of them in the first round, as tests of gates and of shown lengths want it, and later some.
+/// What states answer at capacities. In the first round all of them are asked, so that gates and hint boards see each state; later, states
+/// are asked until one gives a cut.
 pub(crate) fn answers_at<S: Separate>(
     instance: &Instance,
     caps: &Caps,
@@ -163,7 +164,7 @@ pub(crate) fn answers_at<S: Separate>(
     }
 }
 
-/// Asks states about the share of the best certificate of the cuts so far, all of them in round 1.
+/// Asks states about the share of the best certificate of the cuts so far: all of them in round 1, and until a cut is found later.
 fn ask<S: Separate>(
     alloc: Global,
     instance: &Instance,
@@ -200,7 +201,8 @@ fn ask<S: Separate>(
     judge(alloc, instance, room, best, caps, answered, candidates)
 }
 
-/// The end at a number of first cuts, since their certificate is too wide by this evidence: the cuts after them are taken off.
+/// The last turn, where the certificate of the first `count` cuts is too wide by this evidence. The cuts after them are taken off the list,
+/// and `before` is the best certificate.
 fn end_wide(
     alloc: Global,
     count: usize,
@@ -221,8 +223,9 @@ fn end_wide(
     }
 }
 
-/// One turn where the certificate of the cuts so far is too wide, by this evidence: further ones come at the capacities of their least
-/// shares, until a certificate isn't, and then a turn at that one. Where there never is one, the end at the cuts as they are.
+/// A turn where the certificate of the cuts so far is too wide, by this evidence. Rounds at the capacities of least shares add cuts until a
+/// certificate isn't too wide, and a turn at that certificate follows. If that never happens, the list stays as it was, and this is the
+/// last turn.
 fn turn_past_wide<S: Separate>(
     alloc: Global,
     instance: &Instance,
@@ -268,8 +271,9 @@ fn turn_past_wide<S: Separate>(
     }
 }
 
-/// One turn: the best certificate of the cuts so far, and what the states answer at its share. The one before is for the end where
-/// this one is too wide, and what is kept of its program is what this one begins with.
+/// One turn: the best certificate of the cuts so far, and what the states answer at its share. `before` is the certificate of the turn
+/// before, which is the best one if this turn's is too wide. `kept` has what is left of the last master program, with which this one
+/// begins.
 fn take_turn<S: Separate>(
     alloc: Global,
     instance: &Instance,
@@ -304,7 +308,7 @@ fn take_turn<S: Separate>(
     }
 }
 
-/// Turn by turn, until one is the last; the list may grow to `most` cuts.
+/// Takes turns until one is the last. The list may grow to `most` cuts.
 fn turns<S: Separate>(
     alloc: Global,
     instance: &Instance,
@@ -356,18 +360,19 @@ fn turns<S: Separate>(
     }
 }
 
-/// Works on the cuts of a pool: puts the opening cuts of each state after them, and then, turn by turn, the cuts that the share of the
-/// best certificate so far violates, until it violates none, a number is too wide, or 4,096 cuts were added and it violates a further one.
+/// Lists the cuts of a pool and then the opening cuts of each state. Then it adds, turn by turn, the cuts that the share of the best
+/// certificate so far violates, until the share violates none, a number is too wide, or 4,096 cuts were added and the share violates a
+/// further one.
 ///
-/// The separator is one of the instance's network and states, no state separates a demand, and the pool is what the separator's history
-/// had pooled at some time, with right sides at the instance's demands. Where that history was empty, and the separator
-/// alone has written it, what it has pooled is a worked list by itself, in its order.
+/// The separator is one of the instance's network and states, no state separates a demand, and the pool has the cuts that the separator's
+/// history had pooled at some time, with right sides at the instance's demands. If that history was empty, and the separator alone has
+/// written it, what it has pooled is a worked list by itself, in its order.
 ///
-/// In the triangle with a demand of 12.00 the unit cut of state `none` is the first opening cut. It asks for 12.00, its share costs
-/// 6.00, which carries the demand, and the quality is `Tight`.
+/// In the triangle with a demand of 12.00 the unit cut of state `none` is the first opening cut. It asks for 12.00, its share costs 6.00
+/// and carries the demand, and the quality is `Tight`.
 ///
-/// It takes at most a simplex run over the cuts and one over the paths of each state for each turn, and memory for two cuts of each state, for
-/// those of the turns, and for one routing of each state.
+/// Each turn takes at most one simplex run over the cuts, and one over the paths of each state. Memory is for two cuts of each state, the
+/// cuts of the turns, and one routing of each state. It fails only where memory runs out.
 pub fn work_rounds<S: Separate>(
     alloc: Global,
     instance: &Instance,

@@ -9,7 +9,7 @@ use net_core::{Caps, Link, List, Network, NoMemory};
 use plan_types::Share;
 use std::alloc::Global;
 
-/// Capacities of a share, and these in lowest terms: scale and numbers over the divisor.
+/// The capacities of a share, and the same in lowest terms: scale and numbers over their greatest common divisor.
 #[derive(Drop)]
 pub struct ShareCaps {
     pub whole: Caps,
@@ -17,7 +17,7 @@ pub struct ShareCaps {
     pub divisor: u64,
 }
 
-/// What a link has in a share, over its scale: the pre-installed capacity, and its units of the unit pair.
+/// The capacity of a link in a share, as a numerator over the share's scale: what is pre-installed, and the link's units of its unit pair.
 fn share_number(link: &Link, pair: &UnitPair, units: u64, scale: u64) -> u128
     requires fixed { link.now.fixed < 2 ^ 40 }
     requires units { units < 2 ^ 62 }
@@ -26,7 +26,7 @@ fn share_number(link: &Link, pair: &UnitPair, units: u64, scale: u64) -> u128
     link.fixed as u128 * scale as u128 + pair.capacity as u128 * units as u128
 }
 
-/// The capacity of each link in a share, over its scale.
+/// The capacity of each link in a share, as numerators over the share's scale.
 fn share_numbers(
     alloc: Global,
     links: &[Link],
@@ -59,7 +59,7 @@ fn common_divisor(scale: u64, nums: &[u128]) -> u64
     common as u64
 }
 
-/// Numbers over a divisor of theirs.
+/// The numbers over a divisor that all of them have.
 fn numbers_over(alloc: Global, nums: &[u128], divisor: u64) -> Result<List<u128>, NoMemory>
     requires positive { 0 < divisor }
     requires divides { All (λ n. divisor ∣ n) nums.now }
@@ -72,7 +72,7 @@ fn numbers_over(alloc: Global, nums: &[u128], divisor: u64) -> Result<List<u128>
     Ok(divided)
 }
 
-/// Capacities, and these in lowest terms. It takes time and memory in the number of links.
+/// Capacities, and the same in lowest terms. It takes time and memory in the number of links.
 pub fn divided_caps(alloc: Global, whole: Caps) -> Result<ShareCaps, NoMemory>
     requires { 0 < whole.scale }
     ensures { IfOk result (IsDividedCaps whole) }
@@ -87,7 +87,8 @@ pub fn divided_caps(alloc: Global, whole: Caps) -> Result<ShareCaps, NoMemory>
     })
 }
 
-/// The capacities of a share: each link has its pre-installed capacity and its units of its unit pair.
+/// The capacities of a share: each link has its pre-installed capacity, and its units of its unit pair. It takes time and memory in the
+/// number of links.
 pub fn share_caps(
     alloc: Global,
     net: &Network,

@@ -9,7 +9,8 @@ use net_core::{Evidence, List, NoMemory, Routing, discard};
 use separator::{Separated, StateAnswer};
 use std::alloc::Global;
 
-/// The answers of states, sorted: routings, cuts that the capacities violate, and evidence that a number of a state grew too wide.
+/// The answers of states, sorted: the routings, the cuts that the capacities violate, and evidence that a number of a state is too wide, if
+/// it is in one.
 #[derive(Drop)]
 pub struct Answered {
     pub routings: List<Routing>,
@@ -24,7 +25,7 @@ fn are_short(lengths: &[u32])
     let _ = lengths;
 }
 
-/// Puts the answer of one state to those of the states before it.
+/// Adds the answer of one state to those of the states before it. Of evidence only the last is kept.
 fn put_answer(answer: Separated, answered: &mut Answered) -> Result<(), NoMemory>
     ensures puts { OnOk result (PutsAnswer answer answered.old answered.new) }
     ensures short { OnOk result (AnswersShort answer) }
@@ -41,7 +42,7 @@ fn put_answer(answer: Separated, answered: &mut Answered) -> Result<(), NoMemory
     Ok(())
 }
 
-/// Puts the answers of states, in their order, to those of no state.
+/// Adds the answers of states, in their order, to an empty sorting.
 fn put_answers(answers: List<StateAnswer>, answered: &mut Answered) -> Result<(), NoMemory>
     requires { answered.old ≡ record { routings = []; found = record { lines = []; spots = [] }; wide = None } }
     ensures sorted { OnOk result ((p : Case) (caps : Caps) (history : Seq Entry) → AreRoundAnswers p caps history answers
@@ -56,7 +57,7 @@ fn put_answers(answers: List<StateAnswer>, answered: &mut Answered) -> Result<()
     Ok(())
 }
 
-/// Sorts the answers of states.
+/// Sorts the answers of states into routings, cuts and evidence.
 pub fn sorted(alloc: Global, answers: List<StateAnswer>) -> Result<Answered, NoMemory>
     ensures sorted { IfOk result (λ a. (p : Case) (caps : Caps) (history : Seq Entry) → AreRoundAnswers p caps history answers
         → AreSorted p caps history (length p.listed + 1) a) }

@@ -7,7 +7,7 @@ use checked_fraction::gcd;
 use net_core::{Flow, List, NoMemory, Routing};
 use std::alloc::Global;
 
-/// Takes each flow a number of times.
+/// Multiplies the numerator of each flow by a factor.
 fn multiply(flows: &mut [Flow], factor: u64)
     requires { All (λ f. factor * f.num < 2 ^ 124) flows.old }
     ensures { flows.new ≡ map (flow_times factor) flows.old }
@@ -17,7 +17,7 @@ fn multiply(flows: &mut [Flow], factor: u64)
     }
 }
 
-/// Multiplies each flow of a list by a factor.
+/// Multiplies the numerator of each flow of a list by a factor.
 fn multiply_list(flows: &mut List<Flow>, factor: u64)
     requires { All (λ f. factor * f.num < 2 ^ 124) flows.old }
     ensures { flows.new ≡ map (flow_times factor) flows.old }
@@ -25,7 +25,7 @@ fn multiply_list(flows: &mut List<Flow>, factor: u64)
     multiply(flows.items_mut(), factor);
 }
 
-/// A routing in lowest terms within capacities over a divisor, as one in lowest terms within the capacities themselves.
+/// A routing in lowest terms within capacities over a divisor, as a routing in lowest terms within the capacities themselves.
 fn undivided(routing: Routing, divisor: u64) -> Routing
     requires positive { 0 < divisor }
     requires den { 0 < routing.den }
@@ -41,7 +41,7 @@ fn undivided(routing: Routing, divisor: u64) -> Routing
     }
 }
 
-/// Routings in lowest terms within capacities over a divisor, as ones in lowest terms within the capacities themselves.
+/// Routings in lowest terms within capacities over a divisor, as routings in lowest terms within the capacities themselves.
 pub fn undivided_all(
     alloc: Global,
     routings: List<Routing>,

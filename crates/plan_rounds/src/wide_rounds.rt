@@ -21,7 +21,7 @@ use net_core::{Caps, Instance, List, NoMemory, discard};
 use separator::Separate;
 use std::alloc::Global;
 
-/// Adds the cuts that were found, as many as there is room for, where there are some and no state is too wide. Whether there are.
+/// Adds the cuts that were found, as many as there is room for, if no state is too wide. Tells whether any were added.
 fn add_found(answered: Answered, room: usize, candidates: &mut Candidates) -> Result<bool, NoMemory>
     ensures { IfOk result (λ added. AddsFound room answered candidates.old candidates.new added) }
 {
@@ -41,7 +41,7 @@ fn add_found(answered: Answered, room: usize, candidates: &mut Candidates) -> Re
     Ok(true)
 }
 
-/// Asks states about the capacities of a least share that is too wide, and adds the cuts that are found. Whether there are some.
+/// Asks states about the capacities of a least share that is too wide, and adds the cuts that are found. Tells whether any were added.
 fn add_round<S: Separate>(
     alloc: Global,
     instance: &Instance,
@@ -70,8 +70,8 @@ fn add_round<S: Separate>(
     add_found(answered, room, candidates)
 }
 
-/// Rounds of cuts at least shares whose units are too wide, until a certificate isn't: that one, and `None` where no further cut is found,
-/// capacities are too wide too, or there is no room; the list may grow to `most` cuts.
+/// Rounds of cuts at the capacities of least shares whose units are too wide, until a certificate isn't too wide, and that certificate.
+/// `None` if no further cut is found, capacities are too wide as well, or there is no room. The list may grow to `most` cuts.
 pub(crate) fn pass_wide<S: Separate>(
     alloc: Global,
     instance: &Instance,

@@ -10,27 +10,27 @@ use Rattle.plan_rounds.specs.WorkedRounds.{IsWorkedPool}
 use Rattle.plan_rounds.specs.declared.rounds.Turn.{Turn}
 use Rattle.plan_rounds.specs.declared.rounds.Turn.TheVariants.{Further, Last}
 
--- all entries are the separator's own, and pool cuts
+-- all entries are the separator's own, and are pooled cuts
 pub record IsAlone (seen : Seen Entry) : Type 0 where
   pub same : seen.history ≡ seen.own
   pub pooled : All IsCutEntry seen.history
 
--- the list has grown by opening cuts; a separator that is alone has pooled them
+-- the list has grown by opening cuts; if the separator is alone, it has pooled them
 pub record PoolsOpening (old new : Seen Entry) (lines lines_now : List CutLine) : Type 0 where
   pub grows : length lines ≤ length lines_now
   pub pools : IsAlone new → length lines_now ≤ 4000 → cuts_of old.history ≡ map cut_of_line lines → cuts_of new.history ≡ map cut_of_line lines_now
 
--- each cut of the one list is one of the other
+-- each cut of the first list is one of the second
 abbrev pub Within : List CutLine → List CutLine → Type 0
 Within xs ys = (c : CutLine) → Contains xs c → Contains ys c
 
--- as many cuts, and each of the one list is one of the other
+-- as many cuts, and each cut of either list is one of the other
 pub record HasSameCuts (lines made : List CutLine) : Type 0 where
   pub count : length lines ≡ length made
   pub to : Within lines made
   pub back : Within made lines
 
--- A worked list of no snapshot, whose cuts are those of a pool; it has the cuts of the given list, or the pool is full.
+-- a worked list of no snapshot, whose cuts are those of a pool; it has the cuts of the given list, or the pool is full
 pub record IsPoolOfList (p : Case) (pairs : List UnitPair) (pool : List (ℕ × List ℕ)) (lines : List CutLine) : Type 0 where
   pub rounds : List Round
   pub made : List CutLine
@@ -38,27 +38,27 @@ pub record IsPoolOfList (p : Case) (pairs : List UnitPair) (pool : List (ℕ × 
   pub pooled : map cut_of_line made ≡ pool
   pub same : HasSameCuts lines made ⊎ (length pool ≡ 4096)
 
--- what is pooled of a list after a turn
+-- what the pool is after a turn: that of the list after a further turn, and a worked pool after the last one
 abbrev pub IsPoolAfterTurn : Case → List UnitPair → List Entry → List CutLine → Turn → Type 0
 IsPoolAfterTurn p pairs h lines (Further best) = ∥ IsPoolOfList p pairs (cuts_of h) lines ∥₁
 IsPoolAfterTurn p pairs h lines (Last best quality) = ∥ IsWorkedPool p h ∥₁
 
--- and what a separator that is alone makes of it
+-- what a turn leaves in the pool, where the separator is alone and the pool was that of the list
 abbrev pub PoolsTurn : Case → List UnitPair → ℕ → (old new : Seen Entry) → (lines lines_now : List CutLine) → Turn → Type 0
 PoolsTurn p pairs room old new lines lines_now turn =
     IsAlone new → length lines + room ≡ 4096 → ∥ IsPoolOfList p pairs (cuts_of old.history) lines ∥₁ → IsPoolAfterTurn p pairs new.history lines_now turn
 
--- the pool is that of the list, or it is a worked list at least
+-- the pool is that of the list, or at least a worked one
 abbrev pub IsPoolAsFar : Case → List UnitPair → List Entry → List CutLine → Bool → Type 0
 IsPoolAsFar p pairs h lines true = ∥ IsPoolOfList p pairs (cuts_of h) lines ∥₁
 IsPoolAsFar p pairs h lines false = ∥ IsWorkedPool p h ∥₁
 
--- what a separator that is alone has pooled after a round, or after several
+-- what a round, or several, leave in the pool, where the separator is alone and the pool was that of the list
 abbrev pub PoolsAsFar : Case → List UnitPair → ℕ → (old new : Seen Entry) → (lines lines_now : List CutLine) → Bool → Type 0
 PoolsAsFar p pairs most old new lines lines_now far =
     IsAlone new → most ≡ 4096 → ∥ IsPoolOfList p pairs (cuts_of old.history) lines ∥₁ → IsPoolAsFar p pairs new.history lines_now far
 
--- and what of all turns after what the list begins with
+-- what all turns leave in the pool, where the separator is alone and the pool was that of the opening cuts
 abbrev pub PoolsRounds : Case → ℕ → (old new : Seen Entry) → List CutLine → Type 0
 PoolsRounds p most old new lines = IsAlone new → most ≡ 4096 → IsBeginning p [] lines → cuts_of old.history ≡ map cut_of_line lines
     → ∥ IsWorkedPool p new.history ∥₁

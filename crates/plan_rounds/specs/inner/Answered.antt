@@ -7,7 +7,7 @@ use Rattle.separator.specs.declared.answers.Separated.TheVariants.{Routed, Viola
 use Rattle.plan_rounds.specs.WorkedRounds.{StandAtSpots}
 use Rattle.plan_rounds.specs.declared.sorted_answers.Answered.{Answered}
 
--- the answer of one state goes to those before it
+-- the answer of one state is added to those before it
 abbrev pub PutsAnswer : Separated → Answered → Answered → Type 0
 PutsAnswer (Routed routing) old new = new ≡ record { routings = old.routings ++ routing ∷ []; found = old.found; wide = old.wide }
 PutsAnswer (Violated line spot) old new =
@@ -21,16 +21,16 @@ AnswersShort (Violated line spot) = HasShortLengths line
 AnswersShort (Wide evidence) = Unit {0}
 
 module _ (p : Case) (caps : Caps) where
-  -- the evidence is of some listed state at the capacities
+  -- it is evidence of a state, `none` or a listed one, at the capacities
   abbrev pub IsEvidenceOfState : Evidence → Type 0
   IsEvidenceOfState evidence = (s : ℕ) × (s ≤ length p.listed) × IsEvidenceHere (graph_in p s) p.demands caps evidence
 
-  -- the state is routed within the capacities, or there is evidence of it
+  -- the state is routed within the capacities, or there is evidence that a number of it is too wide
   abbrev pub IsRoutedOrWide : ℕ → Type 0
   IsRoutedOrWide s = ((r : Routing) × IsRouted (graph_in p s) p.demands caps r)
       ⊎ ((evidence : Evidence) × IsEvidenceHere (graph_in p s) p.demands caps evidence)
 
-  -- a routing for each of n states
+  -- one routing for each of the first n states, within the capacities
   pub record AreRoutedStates (n : ℕ) (routings : List Routing) : Type 0 where
     pub count : length routings ≡ n
     pub each : (s : ℕ) (r : Routing) → slice_get routings s ≡ Some r → IsRouted (graph_in p s) p.demands caps r

@@ -10,7 +10,7 @@ use Rattle.separator.specs.Separators.{Frame, IsLineAt, SeesMore}
 use Rattle.plan_rounds.specs.WorkedRounds.{StandAtSpots}
 use Rattle.plan_rounds.specs.declared.candidates.Candidates.{Candidates}
 
--- a separator has the network, states and mark that it had, and has seen some more entries, of which its own pool cuts
+-- the separator has the network, states and mark that it had, and has seen further entries, of which its own are pooled cuts
 pub record GoesOn {M : Type 0} (frame frame_now : Frame M) (old new : Seen Entry) : Type 0 where
   pub same : frame_now ≡ frame
   pub more : SeesMore old new
@@ -22,24 +22,24 @@ pub record AreListed (p : Case) (history : List Entry) (c : Candidates) : Type 0
   pub different : AreDifferentCuts c.lines
   pub spots : StandAtSpots history c.lines c.spots
 
--- the first n places of a pool
+-- the spots of the first n cuts of a pool
 pub record AreFirstSpots (n : ℕ) (spots : List Spot) : Type 0 where
   pub count : length spots ≡ n
   pub each : (i : ℕ) → i < n → slice_get spots i ≡ Some (Pool i)
 
--- the line goes after the others, with its spot, unless its cut is among them
+-- the line is added with its spot, unless its cut is listed already
 abbrev pub PutsLine : CutLine → Spot → Candidates → Candidates → Type 0
 PutsLine line spot old new =
     (HasCut old.lines line.state.0 line.lengths × (new ≡ old))
     ⊎ (Lacks old.lines line × (new ≡ record { lines = old.lines ++ line ∷ []; spots = old.spots ++ spot ∷ [] }))
 
--- the cut's line goes after the others, unless the cut is among them
+-- the cut's line is added, unless the cut is listed already
 abbrev pub TakesCut : List Demand → Cut → List CutLine → List CutLine → Type 0
 TakesCut demands cut old new =
     (HasCut old cut.state.0 cut.lengths × (new ≡ old))
     ⊎ ((line : CutLine) × IsLineAt demands cut line × Lacks old line × (new ≡ old ++ line ∷ []))
 
--- one cut after another
+-- the cuts are taken one after another
 abbrev pub TakesCuts : List Demand → List Cut → List CutLine → List CutLine → Type 0
 TakesCuts demands [] old new = old ≡ new
 TakesCuts demands (cut ∷ cuts) old new = (between : List CutLine) × TakesCut demands cut old between × TakesCuts demands cuts between new

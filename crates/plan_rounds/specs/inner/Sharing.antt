@@ -12,17 +12,17 @@ use Rattle.master_law.specs.Terms.{share_caps}
 use Rattle.plan_rounds.specs.inner.Answered.{AreRoutedStates, IsEvidenceOfState}
 use Rattle.plan_rounds.specs.declared.shares.ShareCaps.{ShareCaps}
 
--- capacities, and these with scale and numbers over a divisor
+-- capacities, and the same with scale and numbers over a divisor
 pub record IsDividedCaps (caps : Caps) (c : ShareCaps) : Type 0 where
   pub whole : c.whole ≡ caps
   pub positive : 0 < c.divisor
   pub times : caps_times c.divisor c.divided ≡ c.whole
 
--- the share's capacities, and these over such a divisor
+-- the share's capacities, and the same over such a divisor
 abbrev pub IsDividedShare : List Link → List UnitPair → Share → ShareCaps → Type 0
 IsDividedShare links pairs share c = IsDividedCaps (share_caps links pairs share) c
 
--- the number divides the scale and each of the numbers
+-- the number is positive, and divides the scale and each of the numbers
 pub record DividesAll (scale : ℕ) (nums : List ℕ) (d : ℕ) : Type 0 where
   pub positive : 0 < d
   pub of_scale : d ∣ scale
@@ -39,7 +39,7 @@ pub record IsUndivided (divisor : ℕ) (old new : Routing) : Type 0 where
   pub flows : new.flows ≡ map (flow_times factor) old.flows
   pub apart : (d : ℕ) → d ∣ new.den → d ∣ factor → d ≡ 1
 
--- as many routings, each of which is one with its flows a number of times, over a smaller denominator
+-- as many routings, each with its flows multiplied and over a smaller denominator
 pub record AreUndivided (divisor : ℕ) (old new : List Routing) : Type 0 where
   pub count : length new ≡ length old
   pub each : (i : ℕ) (a b : Routing) → slice_get old i ≡ Some a → slice_get new i ≡ Some b → IsUndivided divisor a b
@@ -50,12 +50,12 @@ pub record HasWideNeed (demands : List Demand) (scale k : ℕ) : Type 0 where
   pub at : slice_get demands k ≡ Some demand
   pub wide : 2 ^ 62 ≤ demand.need * scale
 
--- the slacks of the first n rows of a program with this number of links
+-- the slacks of the first n rows of a routing program with this number of links
 pub record AreSlackNames (links n : ℕ) (names : List RouteColumn) : Type 0 where
   pub count : length names ≡ n
   pub each : (row : ℕ) → row < n → slice_get names row ≡ Some (beside links (λ e. LinkSlack (record { 0 = e })) (λ k. DemandSlack k) row)
 
--- evidence of a state, with other capacities
+-- the evidence, with other capacities if it is of a state
 abbrev pub at_caps : Caps → Evidence → Evidence
 at_caps caps (Route state within basis kind) = Route state caps basis kind
 at_caps caps (Master basis kind) = Master basis kind

@@ -21,7 +21,7 @@ pub record AddsFirst (room : ℕ) (found old new : Candidates) : Type 0 where
   pub lines : new.lines ≡ old.lines ++ take room found.lines
   pub spots : new.spots ≡ old.spots ++ take room found.spots
 
--- the end at a share that violates nothing that is known
+-- the last turn, at a share for which no cut is added
 abbrev pub EndsAt : Case → Caps → Best → Turn → Type 0
 EndsAt p caps best turn = (quality : Quality) × (turn ≡ Last (Some best) quality) × IsQualityAt p caps best.share quality
 
@@ -43,7 +43,7 @@ module _ (p : Case) (pairs : List UnitPair) (room : ℕ) (before : Option Best) 
     pub few : length found ≤ room
     pub round : IsRound p pairs old (record { share = best.share; cuts = found })
 
-  -- further cuts, or the end at the cuts as they are
+  -- a turn that adds cuts, or the last one, which leaves the cuts as they are
   abbrev pub IsTurnOf : List CutLine → Turn → Type 0
   IsTurnOf new (Further best) = IsFurther new best
   IsTurnOf new (Last best quality) = (new ≡ old) × EndsBy p pairs old (room ≡ 0) (λ b. b ≡ before) best quality
@@ -57,14 +57,14 @@ pub record ArePassed (p : Case) (pairs : List UnitPair) (most : ℕ) (old new : 
   pub whole : new ≡ after_rounds old rounds
   pub few : length new ≤ most
 
--- cuts and spots have come after those of before
+-- cuts and spots were added after those of before
 pub record Extends (old new : Candidates) : Type 0 where
   pub more_lines : List CutLine
   pub more_spots : List Spot
   pub lines : new.lines ≡ old.lines ++ more_lines
   pub spots : new.spots ≡ old.spots ++ more_spots
 
--- the first cuts that were found have been added to the list, or it is as it was
+-- the first cuts that were found have been added to the list, or none has and the list is as it was
 abbrev pub AddsFound : ℕ → Answered → Candidates → Candidates → Bool → Type 0
 AddsFound room a old new true = AddsFirst room a.found old new × (0 < room) × (0 < length a.found.lines)
 AddsFound room a old new false = new ≡ old
@@ -76,12 +76,12 @@ module _ (p : Case) (pairs : List UnitPair) where
       × (length round.cuts ≤ room) × Extends old new
   AddsRound room old new false = new ≡ old
 
-  -- further cuts, or an end that no evidence of the program brings
+  -- a turn that adds cuts, or a last one that isn't by evidence of the master program
   abbrev pub IsOpenTurn : ℕ → (mid new : List CutLine) → Turn → Type 0
   IsOpenTurn room mid new (Further best) = IsFurther p pairs room None mid new best
   IsOpenTurn room mid new (Last best quality) = (new ≡ mid) × EndsBy p pairs mid (room ≡ 0) (λ b. ⊥) best quality
 
-  -- such a turn after rounds, which leave room for this number of cuts
+  -- such a turn after rounds; the rounds leave room for `rest` cuts
   pub record IsLaterTurn (room : ℕ) (old new : List CutLine) (turn : Turn) : Type 0 where
     pub mid : List CutLine
     pub rest : ℕ
