@@ -1,4 +1,4 @@
--- plans of a snapshot, which come of a worked list of its cuts
+-- plans of a snapshot, which are made from a worked list of its cuts
 use Rattle.std.specs.Prelude.{◌≡◌, ◌≤◌, ◌⊎◌, List, All, Contains, length, map, take}
 use Rattle.plan_terms.specs.Terms.{Entry, CutLine, Case, IsCut, IsFirstSeparation}
 use Rattle.plan_types.specs.Terms.{IsCarryingPlan, IsCertifiedPlan, IsCostedPlan}
@@ -19,14 +19,14 @@ pub record IsSnapshotIn (p : Case) (history : List Entry) (snapshot : Snapshot) 
   pub pooled : map cut_of_line snapshot.cuts ≡ cuts_of (take snapshot.position history)
   pub cuts : All (IsCut p) snapshot.cuts
 
--- each of the cuts is in the history, or that takes no further cut
+-- each of the cuts is in the history, or the history has no room for a further cut
 abbrev pub AreHeld : List Entry → List CutLine → Type 0
 AreHeld history cuts = All (λ c. Contains (cuts_of history) (cut_of_line c)) cuts ⊎ IsFullHistory history
 
--- The plan is sound for a snapshot, where the history is this one when it is made: it is of the snapshot's version, position and demands; it
--- carries the demands in each state, its cost and its certificate are right, its bound is at least the own bound of each cut of the snapshot
--- and of each opening cut, its cost at most that of the fallback plan, and it is in form and in lowest terms. It comes of one worked list of
--- the snapshot, whose cuts are in the history, and it is tight, or loose by that list.
+-- The plan is sound for a snapshot, made when the history is this one. It is of the snapshot's version, position and demands; it carries
+-- the demands in each state; its cost and its certificate are right; its bound is at least the own bound of each cut of the snapshot and of
+-- each opening cut, and its cost at most that of the fallback plan; it is in form and in lowest terms. It comes of one worked list of the
+-- snapshot, whose cuts are in the history, and it is tight, or loose by that list.
 pub record IsSnapshotPlan (p : Case) (snapshot : Snapshot) (history : List Entry) (plan : Plan) : Type 0 where
   pub same_version : plan.version ≡ snapshot.version
   pub same_position : plan.position ≡ snapshot.position
@@ -43,7 +43,7 @@ pub record IsSnapshotPlan (p : Case) (snapshot : Snapshot) (history : List Entry
   pub worked : IsWorkedPlan p snapshot.cuts cuts plan
   pub held : AreHeld history cuts
 
--- a sound plan of the snapshot, or the first separation of its demands, for which no entry is looked at or added and they are handed back
+-- a sound plan of the snapshot; or the first separation of its demands, with no entry added and the demands handed back
 abbrev pub IsSnapshotAnswer : Case → Snapshot → List Entry → List Entry → PlanAnswer → Type 0
 IsSnapshotAnswer p snapshot before after (Planned plan) = ∥ IsSnapshotPlan p snapshot after plan ∥₁
 IsSnapshotAnswer p snapshot before after (NotSurvivable s demands) = IsFirstSeparation p s.state.0 s.demand × (after ≡ before) × (demands ≡ snapshot.demands)

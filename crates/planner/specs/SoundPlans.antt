@@ -1,4 +1,4 @@
--- the parts of a sound plan, beside that it carries, what it costs and what certifies its bound
+-- what else makes a plan sound: its bound isn't below own bounds, its cost isn't above the fallback plan's, and it is in lowest terms
 use Rattle.std.specs.Prelude.{◌≡◌, ℕ, ◌≤◌, ◌<◌, List, [], All, length}
 use Rattle.std.specs.Int.{◌∣◌}
 use Rattle.plan_terms.specs.Terms.{Routing, Case, graph_in, Joins, IsRight, IsFallback, AreOpening, IsOwnBound}
@@ -7,7 +7,7 @@ use Rattle.route_law.specs.Terms.{IsLowestRouting}
 
 -- ---- the bound
 
--- lengths of state s have a right side at the demands, and an own bound, which is at most this bound
+-- lengths of state s have a right side at the demands, and an own bound of at most this bound
 pub record IsOwnAtMost (p : Case) (bound s : ℕ) (lengths : List ℕ) : Type 0 where
   pub right : ℕ
   pub is_right : IsRight (Joins (graph_in p s)) lengths p.demands right
@@ -19,13 +19,13 @@ pub record IsOwnAtMost (p : Case) (bound s : ℕ) (lengths : List ℕ) : Type 0 
 abbrev pub AreOwnAtMost : Case → ℕ → List (ℕ × List ℕ) → Type 0
 AreOwnAtMost p bound cuts = All (λ cut. IsOwnAtMost p bound cut.0 cut.1) cuts
 
--- each opening cut of state s has one of at most this bound
+-- each opening cut of state s has an own bound of at most this bound
 pub record AreOpeningAtMost (p : Case) (bound s : ℕ) : Type 0 where
   pub lengths : List (List ℕ)
   pub opening : AreOpening (graph_in p s) lengths
   pub each : All (IsOwnAtMost p bound s) lengths
 
--- The bound is at least the own bound of each of the cuts, and of each opening cut.
+-- the bound is at least the own bound of each of the cuts, and of each opening cut
 pub record IsAboveOwnBounds (p : Case) (cuts : List (ℕ × List ℕ)) (bound : ℕ) : Type 0 where
   pub known : AreOwnAtMost p bound cuts
   pub opening : (s : ℕ) → s ≤ length p.listed → AreOpeningAtMost p bound s

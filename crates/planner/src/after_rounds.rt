@@ -14,7 +14,7 @@ use plan_rounds::{Worked, work_rounds};
 use share_covers::Chosen;
 use std::alloc::Global;
 
-/// The counts that are chosen after rounds.
+/// The counts that are chosen when the rounds are done.
 fn counts_after(alloc: Global, instance: &Instance, worked: Worked) -> Result<Chosen, NoMemory>
     requires survivable { IsSurvivable (case_of instance.now) }
     requires best { ∥ IfSome worked.best (IsShareFor (case_of instance.now) worked.quality) ∥₁ }
@@ -33,7 +33,7 @@ fn counts_after(alloc: Global, instance: &Instance, worked: Worked) -> Result<Ch
     chosen
 }
 
-/// The counts that are chosen after rounds, and the bound that their cuts give.
+/// The counts that are chosen when the rounds are done, and the bound that the rounds' cuts give.
 fn counts_and_bound(
     alloc: Global,
     instance: &Instance,
@@ -61,7 +61,7 @@ fn counts_and_bound(
     }
 }
 
-/// Works on a pool's cuts in rounds; gives the counts that are chosen after them, and the bound of all their cuts.
+/// Works on a pool's cuts in rounds. Gives the counts that are chosen after them, and the bound of all their cuts.
 pub fn work_out<S: Separate>(
     alloc: Global,
     instance: &Instance,

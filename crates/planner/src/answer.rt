@@ -6,7 +6,8 @@ use plan_types::Plan;
 #[derive(Drop)]
 pub enum PlanAnswer {
     Planned(Plan),
-    /// No counts carry the demands: the state separates the one at this place of them. They are handed back.
+    /// No counts carry the demands: in this state no path joins the ends of the demand at this place in the list. The demands are handed
+    /// back.
     NotSurvivable(Separation, Demands),
 }
 

@@ -13,7 +13,7 @@ use plan_types::{CertLine, Certificate};
 use std::alloc::Global;
 use std::cmp::Ordering;
 
-/// The line of a multiplier.
+/// The line of a certificate that a multiplier stands for: its numerator, and its cut with spot.
 fn line_of_multiplier(m: Multiplier, worked: &Worked) -> Result<CertLine, NoMemory>
     requires same { length worked.now.spots ≡ length worked.now.lines }
     requires listed { m.cut < length worked.now.lines }
@@ -26,7 +26,7 @@ fn line_of_multiplier(m: Multiplier, worked: &Worked) -> Result<CertLine, NoMemo
     })
 }
 
-/// The lines of a certificate, each with the spot of its cut.
+/// The lines of a certificate, one per multiplier, each with the spot of its cut.
 fn lines_of_multipliers(
     alloc: Global,
     multipliers: &[Multiplier],
@@ -43,7 +43,7 @@ fn lines_of_multipliers(
     Ok(lines)
 }
 
-/// The bound of a best certificate.
+/// The bound of a best certificate, with the certificate and its raw value.
 fn bound_of_master(
     alloc: Global,
     net: &Network,
@@ -67,7 +67,7 @@ fn bound_of_master(
     })
 }
 
-/// Whether a raw value is at least another.
+/// Whether the raw value of the best certificate is at least another one.
 fn is_at_least(best: &Best, raw: &RawValue) -> bool
     requires best { 0 < best.now.raw_den }
     requires raw { 0 < raw.now.den }
@@ -77,8 +77,8 @@ fn is_at_least(best: &Best, raw: &RawValue) -> bool
     cmp(best.raw_num, best.raw_den, raw.num, raw.den) != Ordering::Less
 }
 
-/// The bound of the best certificate, or that of the first cut of greatest own bound, where there is no certificate or that cut's raw value is
-/// greater.
+/// The greater of two bounds: that of the best certificate, if there is one, and that of the first cut of greatest own bound. The
+/// certificate's is taken unless the raw value of the cut's is greater.
 pub fn better_bound(
     alloc: Global,
     net: &Network,

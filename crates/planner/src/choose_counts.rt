@@ -9,7 +9,8 @@ use plan_types::Quality;
 use share_covers::{Chosen, choose};
 use std::alloc::Global;
 
-/// The counts that cover the share of a best certificate, or for a cause this fallback plan; the fallback plan where there is no certificate.
+/// The counts for the share of a best certificate, which are those that cover it or, where `choose` has a cause for it, the given fallback
+/// plan's. Without a certificate they are the fallback plan's.
 fn choose_beside(
     alloc: Global,
     instance: &Instance,
@@ -34,7 +35,8 @@ fn choose_beside(
     }
 }
 
-/// The counts that cover the share of a best certificate, or for a cause the fallback plan; the fallback plan where there is no certificate.
+/// The counts for the share of a best certificate, which are those that cover it or, where `choose` has a cause for it, the fallback
+/// plan's. Without a certificate they are the fallback plan's.
 pub fn choose_counts(
     alloc: Global,
     instance: &Instance,

@@ -1,5 +1,4 @@
-//! Plans a network for its listed states: module counts that carry the demands in each of them, and a lower bound on
-//! what such counts cost.
+//! Plans a network for its listed states: module counts that carry the demands in each of them, and a lower bound on what such counts cost.
 #![tactic(auto)]
 
 mod after_rounds;

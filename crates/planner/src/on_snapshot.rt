@@ -58,17 +58,18 @@ fn plan_survivable<S: Separate>(
 
 /// The plan for a snapshot, or the first demand that a state separates.
 ///
-/// The separator is one of this network and these states, and the snapshot is of the first entries of the history that it has seen, with right
-/// sides at the snapshot's demands. Where no state separates a demand, the opening cuts of each state are admitted first, in state order, and
-/// then come rounds: the best certificate of the cuts so far, and the cuts that its share violates. The counts cover the last share, or are those
-/// of the fallback plan where that costs less or some state is too wide or short within the covers. What the separator commits are cuts alone,
-/// also where memory runs out; where its history was empty, and it alone has written it, the pool is a worked list in its order.
+/// The separator is one of this network and these states. The snapshot is of the first entries of the history that the separator has seen,
+/// with right sides at the snapshot's demands. If no state separates a demand, the opening cuts of each state are admitted first, in state
+/// order, and then come rounds: the best certificate of the cuts so far, and the cuts that its share violates. The counts cover the last
+/// share, or are those of the fallback plan if that costs less, or if some state is too wide or short within the covers. The separator
+/// commits nothing but cuts, also where memory runs out. If its history was empty, and it alone has written it, the pool is a worked list
+/// in its order.
 ///
 /// On the triangle with modules of 10.00 for 5.00 that has to carry 12.00 from A to C the plan costs 10.00, its raw value is 6.00 and its
 /// bound 10.00, and it is tight. With the failures of the three links it costs 30.00, and the bound is 20.00.
 ///
-/// It takes a simplex run over the cuts, and one over the paths of each state, for each round; and memory for the cuts' lengths, and a routing
-/// for each state.
+/// Each round takes a simplex run over the cuts, and one over the paths of each state. Memory is for the cuts' lengths, and a routing for
+/// each state. It fails only where memory runs out.
 pub fn plan_snapshot<S: Separate>(
     alloc: Global,
     net: &Network,

@@ -11,7 +11,7 @@ use plan_rounds::master_bound::best_own;
 use plan_types::{CertLine, Certificate, Spot};
 use std::alloc::Global;
 
-/// A certificate with its raw value, in lowest terms, and its bound; both in units of the network.
+/// A certificate with its raw value, in lowest terms, and its bound. Raw value and bound are in units of the network.
 #[derive(Drop)]
 pub struct CertifiedBound {
     pub certificate: Certificate,
@@ -19,7 +19,7 @@ pub struct CertifiedBound {
     pub bound: u128,
 }
 
-/// The bound of 0, which needs no cut.
+/// The bound of 0, with a certificate of no lines.
 fn bound_of_none(alloc: Global, net: &Network) -> CertifiedBound
     ensures { IsBoundOfNone net.now.links result }
 {
@@ -33,7 +33,7 @@ fn bound_of_none(alloc: Global, net: &Network) -> CertifiedBound
     }
 }
 
-/// A certificate's only line.
+/// The lines of a certificate that has only one.
 fn only_line(alloc: Global, num: u64, spot: Spot, cut: CutLine) -> Result<List<CertLine>, NoMemory>
     ensures { IfOk result (λ lines. lines ≡ record { num = num; spot = spot; cut = cut } ∷ []) }
 {
@@ -42,7 +42,7 @@ fn only_line(alloc: Global, num: u64, spot: Spot, cut: CutLine) -> Result<List<C
     Ok(lines)
 }
 
-/// The bound that a cut gives alone, with its greatest valid multiplier.
+/// The bound that a cut gives alone, with its greatest valid multiplier; that of no cut if its raw value is 0.
 fn bound_of_cut(
     alloc: Global,
     net: &Network,
@@ -68,7 +68,7 @@ fn bound_of_cut(
     })
 }
 
-/// The bound of the first cut of greatest own bound.
+/// The bound of the first cut of greatest own bound; that of no cut if there is none.
 pub fn best_bound(alloc: Global, net: &Network, worked: &Worked) -> Result<CertifiedBound, NoMemory>
     requires cuts { HaveBounds net.now.links worked.now }
     ensures { IfOk result (IsBestBound net.now.links worked.now) }

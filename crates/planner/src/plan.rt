@@ -7,14 +7,14 @@ use net_core::Demands;
 use plan_types::Plan;
 use share_covers::Chosen;
 
-/// The place of a plan in the history: the version of the demands, and the position.
+/// The place of a plan in the history: the version of the demands, and the number of entries before it.
 #[derive(Clone, Copy)]
 pub struct Standing {
     pub version: u64,
     pub position: u64,
 }
 
-/// The plan of counts that were chosen, with a certified bound.
+/// The plan with the counts that were chosen and a certified bound.
 pub fn make_plan(at: Standing, demands: Demands, chosen: Chosen, bound: CertifiedBound) -> Plan
     ensures plan { result ≡ plan_made at demands chosen bound }
     ensures named { All (λ d. length d.name ≤ 255) demands }

@@ -3,14 +3,14 @@ ghost use Rattle.plan_terms.specs.Terms.{HasShortLengths};
 
 use net_core::{CutLine, Demand};
 
-/// Lengths are below 2^32 by their type. It looks at none.
+/// Lengths are below 2^32 by their type, which a proof learns by this call. It takes constant time.
 pub fn are_short(lengths: &[u32])
     ensures { All (λ x. x < 2 ^ 32) lengths.now }
 {
     let _ = lengths;
 }
 
-/// The lengths of cuts are below 2^32 by their type. It takes time in the number of cuts.
+/// The lengths of cuts are below 2^32 by their type, which a proof learns by this call. It takes time in the number of cuts.
 pub fn are_short_cuts(cuts: &[CutLine])
     ensures { All HasShortLengths cuts.now }
 {
@@ -19,7 +19,7 @@ pub fn are_short_cuts(cuts: &[CutLine])
     }
 }
 
-/// A name has at most 255 bytes by its type. It takes time in the number of demands.
+/// Names of demands have at most 255 bytes by their type, which a proof learns by this call. It takes time in the number of demands.
 pub fn are_named(demands: &[Demand])
     ensures { All (λ d. length d.name ≤ 255) demands.now }
 {

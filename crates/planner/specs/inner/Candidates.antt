@@ -1,4 +1,4 @@
--- the bound of the best cut
+-- the bound that the best cut gives alone
 use Rattle.std.specs.Prelude.{◌≡◌, ℕ, ◌-◌, ◌*◌, ◌^◌, ◌<◌, ◌⊎◌, List, [], ◌∷◌, All, Some, length, slice_get}
 use Rattle.plan_terms.specs.Terms.{Link, CutLine, IsBound, IsLowest, fixed_along, IsBestOwn, IsMultiplier}
 use Rattle.plan_types.specs.declared.certificate.Spot.{Spot}
@@ -7,14 +7,14 @@ use Rattle.metric_cut.specs.declared.certificate.OwnCertificate.{OwnCertificate}
 use Rattle.plan_rounds.specs.declared.rounds.Worked.{Worked}
 use Rattle.planner.specs.declared.own_bound.CertifiedBound.{CertifiedBound}
 
--- each of the rounds' cuts has a bound of its own, and a spot
+-- each of the rounds' cuts has an own bound and a spot
 pub record HaveBounds (links : List Link) (w : Worked) : Type 0 where
   pub same : length w.spots ≡ length w.lines
   pub few : length w.lines < 2 ^ 32
   pub lengths : All (λ cut. HaveBound links cut.lengths) w.lines
   pub right : All (λ cut. cut.right < 2 ^ 84) w.lines
 
--- the bound of no cut, 0
+-- the bound of 0, with a certificate of no lines
 pub record IsBoundOfNone (links : List Link) (b : CertifiedBound) : Type 0 where
   pub is : b ≡ record { certificate = record { den = 1; lines = [] }; raw = record { num = 0; den = 1 }; bound = 0 }
   pub rounded : IsBound links 0 1 0
@@ -48,6 +48,6 @@ pub record IsBoundOfBest (links : List Link) (w : Worked) (k : ℕ) (b : Certifi
   pub best : IsBestOwn links w.lines k
   pub of_cut : IsBoundOfCut links cut spot b
 
--- the best bound: that of no cut, where there is none
+-- the bound of the best cut alone, or that of no cut, where there is none
 abbrev pub IsBestBound : List Link → Worked → CertifiedBound → Type 0
 IsBestBound links w b = ((w.lines ≡ []) × IsBoundOfNone links b) ⊎ ((k : ℕ) × IsBoundOfBest links w k b)

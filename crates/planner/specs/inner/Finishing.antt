@@ -1,4 +1,4 @@
--- the parts that a plan of a snapshot is put together of: the greater bound, and the counts that are chosen
+-- what a plan of a snapshot is put together of: the greater bound, and the counts that are chosen
 use Rattle.std.specs.Prelude.{◌≡◌, ℕ, ◌*◌, ◌^◌, ◌<◌, ◌≤◌, ◌⊎◌, List, Option, None, Some, All, get_or, length, map}
 use Rattle.plan_terms.specs.Terms.{CutLine, Demand, Entry, Link, Case, AreWithinLimits, HasShortLengths, IsBound, IsFallback}
 use Rattle.plan_report.specs.Terms.{CertLine, Local, Plan, Quality}
@@ -25,7 +25,7 @@ bound_made w best bound = record {
   bound = bound;
 }
 
--- its own bound
+-- a best certificate with its raw value, and the bound of that raw value
 pub record IsBoundOfMaster (links : List Link) (w : Worked) (best : Best) (b : CertifiedBound) : Type 0 where
   pub bound : ℕ
   pub is : b ≡ bound_made w best bound
@@ -44,7 +44,7 @@ pub record IsBetterBound (links : List Link) (w : Worked) (b : CertifiedBound) :
   pub of_own : IsBestBound links w own
   pub greater : IsGreaterBound links w own w.best b
 
--- a raw value within its limits, and multipliers of cuts that are there
+-- a raw value within its limits, and multipliers of cuts of the list
 pub record AreMultipliersOf (w : Worked) (best : Best) : Type 0 where
   pub num : best.raw_num < 2 ^ 126
   pub positive : 0 < best.raw_den
@@ -53,7 +53,7 @@ pub record AreMultipliersOf (w : Worked) (best : Best) : Type 0 where
 
 -- ---- the counts
 
--- a share with a number of units for each link, of which a tight quality is
+-- a share with a number of units for each link; a tight quality is one of this share
 pub record IsShareFor (p : Case) (quality : Quality) (best : Best) : Type 0 where
   pub scale : 0 < best.share.scale
   pub units : length best.share.units ≡ length p.links
@@ -65,7 +65,7 @@ IsChosenFor p None fallback quality chosen =
     chosen ≡ record { counts = fallback.counts; routings = fallback.routings; cost = fallback.cost; quality = quality }
 IsChosenFor p (Some best) fallback quality chosen = IsChosen p best.share fallback quality chosen
 
--- what is chosen beside the fallback plan
+-- what is chosen, beside some fallback plan
 pub record IsChosenAfter (p : Case) (best : Option Best) (quality : Quality) (chosen : Chosen) : Type 0 where
   pub fallback : Fallback
   pub is_fallback : IsFallback p fallback.counts fallback.routings fallback.cost
@@ -80,7 +80,7 @@ pub record AreAfterRounds (p : Case) (w : Worked) (chosen : Chosen) (b : Certifi
   pub better : IsBetterBound p.links w b
   pub counts : IsChosenAfter p w.best w.quality chosen
 
--- those after rounds on a pool's cuts
+-- the counts that are chosen after rounds on a pool's cuts, and the greater bound of the rounds' cuts
 pub record AreWorkedOut (p : Case) (history : List Entry) (pool : List CutLine) (chosen : Chosen) (b : CertifiedBound) : Type 0 where
   pub worked : Worked
   pub rounds : AreWorkedRounds p history pool worked
