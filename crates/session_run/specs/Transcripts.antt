@@ -1,4 +1,4 @@
--- transcripts of scripts: what a report of a session has to be
+-- transcripts of scripts: what the report of a session has to be
 use Rattle.std.specs.Prelude.{◌≡◌, ℕ, ◌+◌, ◌≤◌, ◌==◌, List, [], ◌∷◌, All, AllPairs, Some, filter, flat_map, if◌then◌else◌, length, slice_get, take}
 use Rattle.plan_terms.specs.Terms.{Demand, Edit, Entry, Edited, Pooled, Reply, Notes, Case, IsFirstSeparation}
 use Rattle.plan_types.specs.Terms.{outcome_position}
@@ -13,16 +13,16 @@ use Rattle.planner.specs.SnapshotPlans.{IsSnapshotPlan}
 
 -- ---- what a caller asks for, and what it gets
 
--- what a caller asks for, in its order
+-- what a caller asks for, in the order of its commands
 abbrev pub acts_of : ℕ → List Command → List Act
 acts_of caller commands = flat_map (λ c. if c.caller == caller then c.act ∷ [] else []) commands
 
--- an edit, if a command asks for one
+-- the edit that an act asks for, if it is one
 abbrev pub edit_asked : Act → List Edit
 edit_asked (acts.Change edit) = edit ∷ []
 edit_asked acts.Plan = []
 
--- an edit of the caller, if the entry is one
+-- the edit of an entry, if it is one of this caller
 abbrev pub edit_made : ℕ → Entry → List Edit
 edit_made caller (Edited by edit reply) = if by == caller then edit ∷ [] else []
 edit_made caller (Pooled index state lengths) = []
@@ -32,6 +32,7 @@ abbrev pub outcome_caller : Outcome → ℕ
 outcome_caller (Planned caller serial plan) = caller
 outcome_caller (Unsurvivable caller serial version position state demand) = caller
 
+-- the outcomes of a caller, in their order
 abbrev pub outcomes_of : ℕ → List Outcome → List Outcome
 outcomes_of caller outcomes = filter (λ o. outcome_caller o == caller) outcomes
 
@@ -69,17 +70,17 @@ pub record IsNamedSeparation (p : Case) (entries : List Entry) (state : ℕ) (na
   pub at : slice_get (demands_left p entries) place ≡ Some demand
   pub named : demand.name ≡ name
 
--- The outcome is that of the caller's plan command of this serial: a sound plan of what the entries `before` leave, whose cuts are in
--- the entries `after`, those before among them, unless there is no room; or the first separation of the demands that `before` leaves.
+-- The outcome is that of the caller's plan command of this serial: a sound plan of what the entries `before` leave, whose cuts are in the
+-- entries `after`, which begin with those, unless there is no room; or the first separation of the demands that `before` leaves.
 abbrev pub IsOutcomeAfter : Case → List Entry → List Entry → ℕ → ℕ → Outcome → Type 0
 IsOutcomeAfter p before after caller serial (Planned by number plan) =
     (by ≡ caller) × (number ≡ serial) × ∥ IsPlanBetween p before after plan ∥₁
 IsOutcomeAfter p before after caller serial (Unsurvivable by number version position state demand) =
     (by ≡ caller) × (number ≡ serial) × (version ≡ version_left p before) × (position ≡ length before) × IsNamedSeparation p before state.0 demand
 
--- A caller's acts one after another, none before position `at`: each edit is in the journal, and each plan command has the
--- next outcome, at a position between the caller's earlier and its later commands and after the cuts that its earlier plans name.
--- There are n entries before the act, and m by the time that a plan is made.
+-- A caller's acts one after another, none before position `at`. Each edit is in the journal. Each plan command has the next outcome, at a
+-- position between the caller's earlier and later commands and after the cuts that its earlier plans name. There are n entries before an
+-- act, and m when a plan is made.
 abbrev pub RunsFrom : Case → List Entry → ℕ → ℕ → ℕ → List Act → List Outcome → Type 0
 RunsFrom p entries caller at serial [] [] = at ≤ length entries
 RunsFrom p entries caller at serial [] (o ∷ os) = ⊥
@@ -92,10 +93,10 @@ RunsFrom p entries caller at serial (acts.Plan ∷ rest) (o ∷ os) =
 
 -- ---- the report
 
--- The report is a transcript of the commands, from the opening demands of the case: a legal journal in which each caller's edits
--- occur once each, in its order, and nothing else but the cuts of the pool; the pool with its right sides at the end; and the
--- outcomes of each caller's plan commands, by caller and then by serial. Where one plan command is all, and a plan its outcome, that is
--- made before any entry, and the pool is a worked list that begins with no known cut, in its order.
+-- The report is a transcript of the commands, from the opening demands of the case. It has a legal journal, in which each caller's edits
+-- occur once each, in its order, and nothing else but the cuts of the pool; the pool with its right sides at the end; and the outcomes of
+-- each caller's plan commands, by caller and then by serial. Where one plan command is all, and its outcome is a plan, that plan is of
+-- position 0, and the pool is, in its order, a worked list that begins with no known cut.
 pub record IsTranscript (p : Case) (notes : Notes) (commands : List Command) (r : Report) : Type 0 where
   pub notes_are : r.notes ≡ notes
   pub legal : ∥ IsLegalHistory p r.entries ∥₁

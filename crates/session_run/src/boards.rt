@@ -15,7 +15,7 @@ fn changes(commands: &[Command]) -> usize
     commands.iter().filter(|c| !c.is_plan()).count()
 }
 
-/// The board of the network's opening demands, with memory to spare for as many edits as commands change the demands.
+/// The board of the network's opening demands, with memory reserved for as many edits as there are commands that change the demands.
 pub fn board_for<'a>(
     alloc: Global,
     net: &'a Network,

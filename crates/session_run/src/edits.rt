@@ -10,7 +10,7 @@ use net_core::{Edit, discard};
 use outside_io::Gate;
 use std::sync::Wait;
 
-/// Whether the board took the edit.
+/// What the board's answer means for the caller: the edit is done, or the caller stops.
 fn done_by(answer: EditAnswer) -> Result<(), Stop>
     ensures { IsDoneBy answer result }
 {
@@ -23,7 +23,7 @@ fn done_by(answer: EditAnswer) -> Result<(), Stop>
     done
 }
 
-/// Makes a caller's edit in a turn. The gate hears of its beginning and its end. It may never return.
+/// Makes a caller's edit in a turn. The gate is told before it and after it. It may never return.
 pub fn run_edit<R: Wait, G: Gate>(
     rt: &R,
     gate: &G,

@@ -15,21 +15,21 @@ use std::sync::Wait;
 use std::thread;
 use std::thread::Threads;
 
-/// Whether the command is of a caller from `low` on and below `high`.
+/// Whether the command is of a caller in `low..high`.
 fn is_of(command: &Command, low: u32, high: u32) -> bool
     ensures { result ≡ is_of low high command.now }
 {
     low <= command.caller && command.caller < high
 }
 
-/// Whether any command is.
+/// Whether any command is of a caller in `low..high`.
 fn names_any(commands: &[Command], low: u32, high: u32) -> bool
     ensures { result ≡ list_any (is_of low high) commands.now }
 {
     commands.iter().any(|command| is_of(command, low, high))
 }
 
-/// The outcomes of one group, and then those of another.
+/// The outcomes of one group, and after them those of another.
 fn joined(one: Vec<Outcome>, two: Vec<Outcome>) -> Result<Vec<Outcome>, Stop>
     ensures { AreBoth (Ok one) (Ok two) result }
 {
@@ -39,7 +39,7 @@ fn joined(one: Vec<Outcome>, two: Vec<Outcome>) -> Result<Vec<Outcome>, Stop>
     Ok(all)
 }
 
-/// The outcomes of two groups.
+/// The outcomes of two groups, or why one of them stopped.
 fn both(
     one: Result<Vec<Outcome>, Stop>,
     two: Result<Vec<Outcome>, Stop>,
@@ -80,8 +80,8 @@ fn run_one<'d, 'a, R: Threads + Wait, G: Gate>(
     (ran, caller)
 }
 
-/// Runs the callers from `low` on and below `high`, each that a command names on a thread of its own, and gives their outcomes. Where
-/// a thread can't be started, its work is done by the one that would start it. It may never return.
+/// Runs the callers in `low..high`, each one that a command names on a thread of its own, and gives their outcomes and the caller with all
+/// their entries. Where a thread can't be started, the thread that would have started it does its work. It may never return.
 pub fn run_callers<'d, 'a, R: Threads + Wait + Sync, G: Gate + Sync>(
     rt: &R,
     gate: &G,

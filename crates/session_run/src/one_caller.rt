@@ -15,7 +15,7 @@ use session_script::{Act, Command};
 use std::sync::Wait;
 use std::thread::Threads;
 
-/// Keeps the outcome of a plan command after the earlier ones.
+/// Adds the outcome of a plan command to the earlier ones.
 fn keep(outcome: Outcome, outcomes: &mut Vec<Outcome>) -> Result<(), Stop>
     ensures { KeepsOutcome outcome outcomes.old.items outcomes.new.items result }
 {
@@ -23,7 +23,7 @@ fn keep(outcome: Outcome, outcomes: &mut Vec<Outcome>) -> Result<(), Stop>
     Ok(())
 }
 
-/// Runs a caller's next command, after those with these outcomes.
+/// Runs a caller's next command. `outcomes` has those of its plan commands so far.
 fn run_command<R: Threads + Wait, G: Gate>(
     rt: &R,
     gate: &G,

@@ -20,14 +20,14 @@ use std::mem;
 use std::sync::Wait;
 use std::thread::Threads;
 
-/// A caller's next plan command.
+/// A plan command: the number of its caller, and which of the caller's plan commands it is, from 1.
 #[derive(Clone, Copy)]
 pub struct Asked {
     pub caller: u32,
     pub serial: u32,
 }
 
-/// Plans for a snapshot of what the caller has seen, outside the desk; each cut that it pools takes a turn. It may never return.
+/// Plans for a snapshot of what the caller has seen, outside the desk. Each cut that goes into the pool takes a turn. It may never return.
 fn plan_beside<R: Threads + Wait, G: Gate>(
     rt: &R,
     gate: &G,
@@ -65,7 +65,7 @@ fn planned(asked: Asked, plan: Plan) -> Outcome
     }
 }
 
-/// The outcome of a plan command where the state separates the ends of the demand, for a snapshot of this version and position.
+/// The outcome of a plan command where a state separates the ends of a demand, for a snapshot of this version and position.
 fn unsurvivable(
     asked: Asked,
     version: u64,
@@ -85,7 +85,7 @@ fn unsurvivable(
     })
 }
 
-/// The outcome of a plan command that was answered so, for a snapshot of this version and position.
+/// The outcome of a plan command with this answer, for a snapshot of this version and position.
 fn outcome_for(
     asked: Asked,
     version: u64,

@@ -6,7 +6,7 @@ use net_core::CutLine;
 use plan_types::Outcome;
 use planner::ranges::are_short;
 
-/// The lengths of each line are below 2^32 by their type. It takes time in the number of lines.
+/// The lengths of each line are below 2^32 by their type, which a proof learns by this call. It takes time in the number of lines.
 pub fn have_short_lengths(lines: &[CutLine])
     ensures { All HasShortLengths lines.now }
 {
@@ -15,7 +15,7 @@ pub fn have_short_lengths(lines: &[CutLine])
     }
 }
 
-/// A name has at most 255 bytes by its type, where an outcome names a demand.
+/// A name has at most 255 bytes by its type, also one in an outcome, which a proof learns by this call.
 fn is_short_named(outcome: &Outcome)
     ensures { IsShortNamed outcome.now }
 {
@@ -24,7 +24,8 @@ fn is_short_named(outcome: &Outcome)
     }
 }
 
-/// The names of demands in outcomes have at most 255 bytes by their type. It takes time in the number of outcomes.
+/// The names of demands in outcomes have at most 255 bytes by their type, which a proof learns by this call. It takes time in the number of
+/// outcomes.
 pub fn are_short_named(outcomes: &[Outcome])
     ensures { All IsShortNamed outcomes.now }
 {

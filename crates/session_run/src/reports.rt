@@ -24,7 +24,7 @@ pub fn caller_of(outcome: &Outcome) -> u32
     }
 }
 
-/// The outcomes by caller; those of one caller stay in their order.
+/// Sorts outcomes by caller. Those of one caller stay in their order.
 fn by_caller(alloc: Global, outcomes: List<Outcome>) -> Result<List<Outcome>, NoMemory>
     ensures ordered { IfOk result (AllPairs (λ a b. outcome_caller a ≤ outcome_caller b)) }
     ensures same { IfOk result (λ sorted. (caller : ℕ) → outcomes_of caller sorted ≡ outcomes_of caller outcomes) }
@@ -35,7 +35,7 @@ fn by_caller(alloc: Global, outcomes: List<Outcome>) -> Result<List<Outcome>, No
     Ok(sorted)
 }
 
-/// The journal of a board, and its pool, with right sides that are summed anew.
+/// The journal of a board, and its pool with right sides that are computed again from the demands.
 fn journal_and_pool<R: Threads + Sync>(
     rt: &R,
     alloc: Global,
@@ -58,7 +58,7 @@ fn journal_and_pool<R: Threads + Sync>(
     }
 }
 
-/// The report of a board and the outcomes of its plans. The right sides of the pool are summed anew.
+/// The report of a board and the outcomes of its plans. The right sides of the pool are computed again from the demands.
 pub fn report<R: Threads + Sync>(
     rt: &R,
     alloc: Global,

@@ -22,7 +22,7 @@ use std::sync::Wait;
 use std::thread::Threads;
 use turn_lock::Desk;
 
-/// Callers stop where memory runs out, and for no other reason.
+/// Why a session fails: callers stop where memory runs out, and for no other reason.
 fn no_memory(stop: Stop) -> NoMemory
     requires { stop ≢ Stop.Full }
 {
@@ -76,19 +76,20 @@ fn run_setting<R: Threads + Wait + Sync, G: Gate + Sync>(
     report(rt, alloc, net, &board, outcomes, commands)
 }
 
-/// Runs the commands of a script on one board of the network's opening demands, and reports the journal, the pool with its right
-/// sides at the end, and the outcomes, by caller and then by serial. It may never return.
+/// Runs the commands of a script on one board of the network's opening demands, and reports the journal, the pool with its right sides at
+/// the end, and the outcomes, by caller and then by serial. It may never return.
 ///
-/// Each caller that the script names has a thread of its own, and its commands run in their order. The order in which callers come
-/// to the board is open; the journal tells it. An edit is a turn at the board. A plan is of a snapshot, which its caller takes in a turn
-/// that commits nothing, and each cut that it pools is a turn again, so that other callers edit and plan meanwhile. The gate hears of
-/// both. Where a thread can't be started, its work is done by the one that would start it.
+/// Each caller that the script names has a thread of its own, and its commands run in their order. The order in which callers come to the
+/// board is open; the journal tells it. An edit is a turn at the board. A plan is of a snapshot, which its caller takes in a turn that
+/// commits nothing. Each cut that goes into the pool for a plan is a turn of its own, so that other callers edit and plan meanwhile. The
+/// gate is told of edits and plans. Where a thread can't be started, the thread that would have started it does its work.
 ///
-/// The script's callers, needs and numbers of commands are in their ranges. A plan that isn't possible is an outcome of the
-/// report. An edit takes time in the cuts of the pool times the demands, and a plan that of `plan_snapshot`.
+/// The script's callers, needs and numbers of commands are in their ranges. A plan that isn't possible is an outcome of the report, and
+/// only want of memory is an error. An edit takes time in the number of cuts in the pool times the demands, and a plan as much time as
+/// `plan_snapshot`.
 ///
-/// On the triangle with a demand D1 of 12 from A to C the commands `caller 1 set D1 24` and `caller 1 plan` give a journal of
-/// the edit, accepted as version 1, and of the opening cut, and a tight plan of version 1 at position 1, which costs 15.
+/// On the triangle with a demand D1 of 12 from A to C the commands `caller 1 set D1 24` and `caller 1 plan` give a journal of the edit,
+/// accepted as version 1, and of the opening cut, and a tight plan of version 1 at position 1, which costs 15.
 pub fn run_session<R: Threads + Wait + Sync, G: Gate + Sync>(
     rt: &R,
     alloc: Global,
@@ -113,7 +114,7 @@ pub fn run_session<R: Threads + Wait + Sync, G: Gate + Sync>(
     run_setting(rt, gate, &setting, opening)
 }
 
-/// The script of one plan command, of caller 1. It takes constant time, and memory for the command.
+/// A script with one plan command, of caller 1. It takes constant time, and memory for the command.
 pub fn single_plan(alloc: Global) -> Result<Script, NoMemory>
     ensures script { IfOk result (λ s. s.commands ≡ record { caller = 1; act = Plan } ∷ []) }
     ensures form { IfOk result (λ s. IsScript s.commands) }

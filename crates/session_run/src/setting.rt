@@ -23,7 +23,7 @@ pub struct Setting<'s> {
 pub enum Stop {
     /// The call ran out of memory.
     NoMemory,
-    /// The journal has no room, which commands of a script and the cuts of a pool never take up.
+    /// The journal has no room. It has more than a script's commands and a pool's cuts need, so that this never happens in a session.
     Full,
 }
 
@@ -49,7 +49,7 @@ impl From<AllocError> for Stop {
     }
 }
 
-/// What couldn't be stored is dropped.
+/// The value that couldn't be stored is dropped.
 impl<T: Drop> From<AllocFailed<T>> for Stop {
     ghost use Rattle.std.specs.Prelude.{◌≡◌};
     ghost use Rattle.session_run.specs.declared.setting.Stop.{Stop};

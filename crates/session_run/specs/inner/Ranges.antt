@@ -1,4 +1,4 @@
--- what the types of a session's values say of them
+-- ranges that the types of a session's values ensure
 use Rattle.std.specs.Prelude.{◌≤◌, length}
 use Rattle.plan_report.specs.Terms.{Outcome, Planned, Unsurvivable}
 

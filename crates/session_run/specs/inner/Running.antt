@@ -1,4 +1,4 @@
--- what has run of a session
+-- what of a session has run
 use Rattle.std.specs.Prelude.{◌≡◌, ℕ, ◌+◌, ◌≤◌, ◌++◌, ◌&&◌, Bool, List, [], All, count_by, filter, flat_map, length, nat_le, nat_lt, Result, Ok, Err, Vec}
 use Rattle.plan_terms.specs.Terms.{Entry, Edited, Pooled, Case}
 use Rattle.text_kit.specs.Terms.{IsEditInForm}
@@ -16,28 +16,29 @@ use Rattle.session_run.specs.declared.setting.Setting.{Setting}
 use Rattle.session_run.specs.declared.setting.Stop.{Stop}
 use Rattle.session_run.specs.declared.setting.Stop.TheVariants.{NoMemory, Full}
 
--- the commands of the callers from `low` on and below `high`, in their order
+-- the command is of a caller from `low` on and below `high`
 abbrev pub is_of : ℕ → ℕ → Command → Bool
 is_of low high c = nat_le low c.caller && nat_lt c.caller high
 
+-- the commands of these callers, in their order
 abbrev pub commands_of : ℕ → ℕ → List Command → List Command
 commands_of low high commands = filter (is_of low high) commands
 
--- an edit of the journal is of a caller from 1 to 8, and in form
+-- the entry is a pooled cut, or an edit in form by a caller from 1 to 8
 abbrev pub IsEntryOfCaller : Entry → Type 0
 IsEntryOfCaller (Edited caller edit reply) = (1 ≤ caller) × (caller ≤ 8) × IsEditInForm edit
 IsEntryOfCaller (Pooled index state lengths) = Unit {0}
 
--- a history that is all its own
+-- a history with all entries its own
 abbrev pub all_own : List Entry → Seen Entry
 all_own entries = record { history = entries; own = entries }
 
--- there are no more own entries than commands and own pooled cuts
+-- own entries are at most as many as commands and own pooled cuts
 abbrev pub AreFewOwn : Seen Entry → List Command → Type 0
 AreFewOwn seen commands = length seen.own ≤ length commands + length (cuts_of seen.own)
 
--- These commands have run, with the own entries in the history that was seen so far, and with these outcomes, those of each caller in
--- the order of its commands.
+-- These commands have run: their edits are the own edits in the history that was seen so far, and these are the outcomes of their plan
+-- commands, those of each caller in the order of its commands.
 pub record HaveRun (p : Case) (seen : Seen Entry) (commands : List Command) (outcomes : List Outcome) : Type 0 where
   pub edits : (caller : ℕ) → flat_map (edit_made caller) seen.own ≡ flat_map edit_asked (acts_of caller commands)
   pub runs : (caller : ℕ) → RunsFrom p seen.history caller 0 1 (acts_of caller commands) (outcomes_of caller outcomes)
@@ -53,7 +54,7 @@ abbrev pub IsFullAt : List Entry → Stop → Type 0
 IsFullAt seen NoMemory = Unit {0}
 IsFullAt seen Full = 65536 ≤ length seen
 
--- The result of running these commands: they have run, or their callers have stopped, with few own entries beside pooled cuts.
+-- the result of running these commands: they have run, or some caller has stopped, with few own entries beside pooled cuts
 abbrev pub EndsRun : {A : Type 0} → Case → List Command → Seen Entry → Result (Vec Outcome A) Stop → Type 0
 EndsRun p commands seen (Ok outcomes) = HaveRun p seen commands outcomes.items
 EndsRun p commands seen (Err stop) = AreFewOwn seen commands × IsFullAt seen.history stop
@@ -68,14 +69,14 @@ pub record IsOfSetting (setting : Setting) (caller : Caller) : Type 0 where
   pub net : (board_made caller).net.now ≡ setting.net.now
   pub states : (board_made caller).states.now ≡ setting.states.now
 
--- such a caller, with no entries of its own so far; the commands are few, and in form
+-- a caller of the setting with no entries of its own so far; the commands are few, and in form
 pub record CanRun (setting : Setting) (caller : Caller) : Type 0 where
   pub of : IsOfSetting setting caller
   pub none : caller_places caller ≡ []
   pub few : length setting.commands.now ≤ 1000
   pub form : All IsCommandInForm setting.commands.now
 
--- the outcomes of two groups, one after another; or a reason why one of them stopped, or that memory ran out
+-- the outcomes of two groups, one after another; or why one of them stopped, or that memory ran out
 abbrev pub AreBoth : {A : Type 0} → Result (Vec Outcome A) Stop → Result (Vec Outcome A) Stop → Result (Vec Outcome A) Stop → Type 0
 AreBoth (Ok one) (Ok two) (Ok all) = all.items ≡ one.items ++ two.items
 AreBoth (Ok one) (Ok two) (Err stop) = stop ≡ NoMemory

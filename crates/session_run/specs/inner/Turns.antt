@@ -25,13 +25,13 @@ use Rattle.session_run.specs.declared.setting.Stop.TheVariants as stops
 
 -- ---- edits
 
--- whether a board took an edit
+-- whether the board took the edit, or why it didn't
 abbrev pub IsDoneBy : EditAnswer → Result (Unit {0}) Stop → Type 0
 IsDoneBy (editing.At position reply) done = done ≡ Ok tt
 IsDoneBy (editing.Full back) done = done ≡ Err stops.Full
 IsDoneBy (editing.NoMemory back) done = done ≡ Err stops.NoMemory
 
--- the caller has seen some more, and has one entry more of its own, the edit; or it has none, and the journal may have no room
+-- the caller has seen further entries, and has one more of its own, the edit; or it has stopped without one, `Full` only where the journal is
 abbrev pub EndsEdit : ℕ → Edit → Seen Entry → Seen Entry → Result (Unit {0}) Stop → Type 0
 EndsEdit caller edit old new (Ok u) =
     (waited : List Entry)
@@ -47,7 +47,7 @@ abbrev pub NamesDemand : PlanAnswer → Type 0
 NamesDemand (Planned plan) = Unit {0}
 NamesDemand (NotSurvivable s demands) = s.demand < length demands
 
--- the outcome of a plan command that was answered so, for a snapshot of this version and position
+-- the outcome of a plan command with this answer, for a snapshot of this version and position
 abbrev pub IsOutcomeFor : Asked → ℕ → ℕ → PlanAnswer → Outcome → Type 0
 IsOutcomeFor asked version position (Planned plan) o = o ≡ outcomes.Planned asked.caller asked.serial plan
 IsOutcomeFor asked version position (NotSurvivable s demands) o =
@@ -62,8 +62,8 @@ pub record IsSnapshotHere (p : Case) (seen : List Entry) (snapshot : Snapshot) :
   pub pool : ∥ IsPoolAfter p seen snapshot.cuts ∥₁
   pub cuts : ∥ All (IsCut (case_left p seen)) snapshot.cuts ∥₁
 
--- Planning for what was seen: what is committed are pooled cuts, and the outcome is that of the history before them. Where that history
--- was empty, and the caller of a plan alone has written the history that there is now, this one is a worked pool.
+-- Planning for what was seen: it commits pooled cuts and nothing else, and the outcome is that of the history before them. Where that
+-- history was empty, and the caller of a plan has written all of the history that there is now, this one is a worked pool.
 pub record PlansAt (p : Case) (asked : Asked) (old new : Seen Entry) (made : Result Outcome NoMemory) : Type 0 where
   pub more : SeesMore old new
   pub outcome : IfOk made (IsOutcomeAfter p old.history new.history asked.caller asked.serial)
@@ -76,7 +76,7 @@ PlansSince p asked old new made =
 
 -- ---- commands
 
--- the outcome comes after the others, or there was no memory for it
+-- the outcome was added to the earlier ones, or there was no memory for it
 abbrev pub KeepsOutcome : Outcome → List Outcome → List Outcome → Result (Unit {0}) Stop → Type 0
 KeepsOutcome o before after (Ok u) = after ≡ before ++ o ∷ []
 KeepsOutcome o before after (Err stop) = stop ≡ stops.NoMemory
@@ -90,7 +90,7 @@ pub record Progress : Type 0 where
 abbrev pub progress_of : Caller → List Outcome → Progress
 progress_of c outcomes = record { seen = caller_seen c; outcomes = outcomes }
 
--- the next act of a caller is done: an edit, or a plan with one outcome more
+-- the next act of a caller is done: an edit, or a plan, which gives one more outcome
 abbrev pub HasActed : Case → ℕ → Act → Progress → Progress → Type 0
 HasActed p caller (Change edit) old new = EndsEdit caller edit old.seen new.seen (Ok tt) × (new.outcomes ≡ old.outcomes)
 HasActed p caller Plan old new =
@@ -98,7 +98,7 @@ HasActed p caller Plan old new =
     × (new.outcomes ≡ old.outcomes ++ o ∷ [])
     × PlansSince p (record { caller = caller; serial = length old.outcomes + 1 }) old.seen new.seen (Ok o)
 
--- the caller has stopped in an act, and has pooled cuts at most
+-- the caller has stopped during an act, and has committed nothing but cuts
 pub record HasStopped (old new : Seen Entry) (stop : Stop) : Type 0 where
   pub more : List Entry
   pub own_is : new.own ≡ old.own ++ more
