@@ -10,8 +10,8 @@ use Rattle.cut_pool.specs.declared.snapshot.Snapshot.{Snapshot}
 use Rattle.session_run.specs.Terms.{IsSnapshotPlan}
 use Rattle.plan_checker.specs.Terms.{HoldNone, plan_findings, IsTight}
 
--- A plan for the demands of the case has no finding where it carries them, is costed and certified, has cuts outside the pool
--- only where the pool is full, and is tight where it claims so.
+-- A plan for the demands of the case has no finding where it carries them, its cost and certificate are right, it has cuts outside the pool only where the
+-- pool is full, and it is tight where it claims so.
 abbrev pub SoundPlansAreAccepted : Type 0
 SoundPlansAreAccepted = (p : Case) (full : Bool) (plan : Plan)
     → plan.demands ≡ p.demands

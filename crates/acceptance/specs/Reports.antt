@@ -13,8 +13,8 @@ use Rattle.cut_pool.specs.Terms.{IsLegalHistory, IsPoolAfter, demands_at, versio
 use Rattle.plan_checker.specs.Terms.{IsTight}
 use Rattle.report_checker.specs.Terms.{SeparatesNamed, case_at, HasNoFinding}
 
--- a plan for the demands at its position, with their version: it carries them, is costed and certified, has cuts outside the pool
--- only where the pool is full, and is tight where it claims so
+-- A plan for the demands at its position, with their version. It carries them, and its cost and certificate are right; it has cuts outside the pool only
+-- where the pool is full, and is tight where it claims so.
 pub record IsSoundPlanOf (p : Case) (r : Report) (plan : Plan) : Type 0 where
   pub position : plan.position ≤ length r.entries
   pub version : plan.version ≡ version_at p r.entries plan.position
@@ -31,11 +31,12 @@ pub record IsSoundRefusalOf (p : Case) (r : Report) (version position state : �
   pub version_there : version ≡ version_at p r.entries position
   pub separates : SeparatesNamed (case_at p r.entries position) state demand
 
+-- a sound plan, or a sound refusal
 abbrev pub IsSoundOutcomeOf : Case → Report → Outcome → Type 0
 IsSoundOutcomeOf p r (Planned caller serial plan) = IsSoundPlanOf p r plan
 IsSoundOutcomeOf p r (Unsurvivable caller serial version position state demand) = IsSoundRefusalOf p r version position state.0 demand
 
--- A report with the network's notes, a legal journal, the pool that the journal leaves, and sound outcomes has no finding.
+-- a report with the network's notes, a legal journal, the pool that the journal leaves, and sound outcomes has no finding
 abbrev pub SoundReportsAreAccepted : Type 0
 SoundReportsAreAccepted = (notes : Notes) (p : Case) (r : Report)
     → r.notes ≡ notes

@@ -17,7 +17,7 @@ pub fn sound_reports_are_accepted()
     ensures { SoundReportsAreAccepted }
 {}
 
-/// A transcript of at most 1,000 commands has no finding, and no counts that can carry a plan's demands cost less than its bound.
+/// A transcript of at most 1,000 commands has no finding, and no counts that can carry a plan's demands cost less than the plan's bound.
 /// The call does nothing, and takes no time.
 pub fn transcripts_are_accepted()
     ensures { TranscriptsAreAccepted }
