@@ -8,7 +8,7 @@ use Rattle.acceptance.specs.Terms.{IsTranscript}
 use Rattle.lone_plan.specs.declared.planned_report.PlannedReport.{PlannedReport}
 use Rattle.lone_plan.specs.LonePlans.{IsSoundDesign, plan_commands, redesigned, redesigned_plan, whole_report}
 
--- the plan is made of the opening demands: it carries them in each state, at the cost of its counts, in form and in lowest terms
+-- the plan is for the opening demands: it carries them in each state, at the cost of its counts, in form and in lowest terms
 pub record IsMadePlan (p : Case) (plan : Plan) : Type 0 where
   pub demands : plan.demands ≡ p.demands
   pub carrying : IsCarryingPlan p plan
@@ -16,13 +16,13 @@ pub record IsMadePlan (p : Case) (plan : Plan) : Type 0 where
   pub form : IsPlanInForm (known_to p) plan
   pub lowest : All IsLowestRouting plan.routings
 
--- The plan of a transcript of one plan command is made of the opening demands, and no state separates one of them.
+-- the plan of a transcript of one plan command is for the opening demands, and no state separates one of them
 abbrev pub LonePlansCarry : Type 0
 LonePlansCarry = (p : Case) (notes : Notes) (r : PlannedReport)
     → IsTranscript p notes plan_commands (whole_report r)
     → IsMadePlan p r.plan × IsSurvivable p
 
--- The report of a plan stays a transcript if the plan's design is replaced by a sound one in lowest terms that costs no more.
+-- the report of a plan stays a transcript if the plan's design is replaced by a sound one in lowest terms that costs no more
 abbrev pub CheaperRedesignsArePlans : Type 0
 CheaperRedesignsArePlans = (p : Case) (notes : Notes) (r : PlannedReport) (counts : List (List ℕ)) (cost : ℕ) (routings : List Routing)
     → IsTranscript p notes plan_commands (whole_report r)

@@ -19,13 +19,13 @@ plan_commands = record { caller = 1; act = act.Plan } ∷ []
 abbrev pub whole_report : PlannedReport → Report
 whole_report r = record { notes = r.notes; entries = r.entries; pool = r.pool; outcomes = outcome.Planned 1 1 r.plan ∷ [] }
 
--- the first state that separates a demand which has a need, and the name of the first such demand
+-- the first state that separates a demand with a need, and the name of the first such demand
 pub record IsSeparationOf (p : Case) (state : ℕ) (name : List ℕ) : Type 0 where
   pub place : ℕ
   pub first : IsFirstSeparation p state place
   pub named : first.separates.demand.name ≡ name
 
--- a plan, whose report is a transcript of one plan command, or the first separation
+-- a plan, whose report is a transcript of one plan command; or the first separation
 abbrev pub IsLoneAnswer : Case → Notes → LonePlan → Type 0
 IsLoneAnswer p notes (Planned r) = IsTranscript p notes plan_commands (whole_report r)
 IsLoneAnswer p notes (Separated state demand) = IsSeparationOf p state.0 demand
@@ -48,7 +48,7 @@ redesigned_plan plan counts cost routings = record {
   quality = plan.quality;
 }
 
--- the report of that plan
+-- the report with that plan in the place of its own
 abbrev pub redesigned : PlannedReport → List (List ℕ) → ℕ → List Routing → PlannedReport
 redesigned r counts cost routings = record { notes = r.notes; entries = r.entries; pool = r.pool; plan = redesigned_plan r.plan counts cost routings }
 

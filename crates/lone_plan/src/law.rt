@@ -6,8 +6,8 @@ pub fn lone_plans_are_accepted()
     ensures { LonePlansAreAccepted }
 {}
 
-/// The report of a plan in which a sound design replaces the plan's own is in form and has no finding, and no able counts cost less than its bound.
-/// The call does nothing, and takes no time.
+/// If a sound design replaces the one of a report's plan, the report is in form and has no finding, and no counts that can carry the
+/// demands cost less than its bound. The call does nothing, and takes no time.
 pub fn redesigns_are_accepted()
     ensures { RedesignsAreAccepted }
 {}

@@ -15,13 +15,13 @@ use std::thread::Threads;
 /// The result of one plan command.
 #[derive(Drop)]
 pub enum LonePlan {
-    /// A plan, with the report of it.
+    /// A plan, in the report of its command.
     Planned(PlannedReport),
-    /// The first state that separates a demand which has a need, and the first such demand, by its name.
+    /// The first state that separates a demand with a need, and the name of the first such demand.
     Separated { state: StateId, demand: Name },
 }
 
-/// What the report of one plan command has as its outcome.
+/// The only outcome of a report of one plan command: its plan, or the separation.
 fn lone_of(report: Report) -> LonePlan
     requires { (p : Case) × (notes : Noted) × IsTranscript p notes plan_commands report }
     ensures { (p : Case) (notes : Noted) → IsTranscript p notes plan_commands report → IsLoneAnswer p notes result }
@@ -38,7 +38,7 @@ fn lone_of(report: Report) -> LonePlan
     }
 }
 
-/// The report of one plan command. It may never return.
+/// Runs one plan command, and gives its report. It may never return.
 fn lone_report<R: Threads + Wait + Sync, G: Gate + Sync>(
     rt: &R,
     alloc: Global,
@@ -60,9 +60,9 @@ fn lone_report<R: Threads + Wait + Sync, G: Gate + Sync>(
     )
 }
 
-/// Plans an instance, as the one plan command of a session of caller 1 alone. It may never return.
+/// Plans an instance, by a session with one plan command of caller 1. It may never return.
 ///
-/// It takes the time and the memory of `run_session`, and memory for a copy of the demands.
+/// It takes the time and the memory of `run_session`, and memory for a copy of the demands. It fails only where memory runs out.
 pub fn plan_once<R: Threads + Wait + Sync, G: Gate + Sync>(
     rt: &R,
     alloc: Global,

@@ -5,7 +5,7 @@ use net_core::{CutLine, Entry, List, NoMemory, Notes};
 use plan_types::{Outcome, Plan, Report};
 use std::alloc::Global;
 
-/// The report of one plan command of caller 1, with its plan apart.
+/// The report of one plan command of caller 1, with its plan kept apart from the other parts.
 #[derive(Drop)]
 pub struct PlannedReport {
     pub notes: Notes,
