@@ -1,4 +1,4 @@
--- the outcome of an import: a plan with another tool's design, or the first fault
+-- the result of an import: a plan with another tool's design, or the first fault
 use Rattle.std.specs.Prelude.{◌≡◌, ◌≢◌}
 use Rattle.plan_terms.specs.Terms.{Notes, Case, capacities}
 use Rattle.plan_types.specs.declared.report.Report.{Report}
@@ -16,9 +16,9 @@ use Rattle.plan_import.specs.declared.ending.ImportEnding.TheVariants as ending
 abbrev pub with_design : PlannedReport → Imported → PlannedReport
 with_design planned i = redesigned planned i.counts i.cost i.routings
 
--- The report is that of a plan of the case, but for the plan's counts, cost and routings, which are those of the file: they carry the
--- demands in each state, each flow comes of a split of the file's, and the cost is what the file's counts cost. The report is in form, no
--- finding holds of it, and no able counts cost less than the plan's bound.
+-- The report is that of a plan of the case, except that the plan's counts, cost and routings are those of the file. The routings carry the demands in each
+-- state, each flow comes of a split of the file's flows, and the cost is what the file's counts cost. The report is in form, it has no finding, and no
+-- counts that can carry the demands cost less than the plan's bound.
 pub record IsImportedReport (p : Case) (notes : Notes) (file : FlowFile) (r : Report) : Type 0 where
   pub planned : PlannedReport
   pub transcript : IsTranscript p notes plan_commands (whole_report planned)
@@ -28,7 +28,7 @@ pub record IsImportedReport (p : Case) (notes : Notes) (file : FlowFile) (r : Re
   pub sound : IsSoundDesign p (with_design planned imported).plan
   pub acceptable : IsAcceptable p notes r
 
--- A plan of the case can be made, and the fault is the first of the file's flows.
+-- a plan of the case can be made, and the fault is the first of the file's flows
 pub record HasImportFault (p : Case) (notes : Notes) (file : FlowFile) (fault : ImportFault) : Type 0 where
   pub planned : PlannedReport
   pub transcript : IsTranscript p notes plan_commands (whole_report planned)

@@ -20,15 +20,15 @@ use std::thread::Threads;
 /// The result of an import.
 #[derive(Drop)]
 pub enum ImportEnding {
-    /// The report of a plan with the imported design.
+    /// The report of a plan with the imported design in the place of its own.
     Imported(PlannedReport),
-    /// The first fault of the flows, which isn't a want of memory.
+    /// The first fault of the file's flows. It isn't want of memory, which is an error of the call.
     Faulty(ImportFault),
-    /// The first state that separates a demand which has a need, and the first such demand, by its name.
+    /// The first state that separates a demand with a need, and the name of the first such demand.
     Separated { state: StateId, demand: Name },
 }
 
-/// The report with the imported design in the place of its plan's own.
+/// The report with the imported counts, cost and routings in the place of its plan's own.
 fn with_design(planned: PlannedReport, imported: Imported) -> PlannedReport
     ensures { result ≡ with_design planned imported }
 {
@@ -53,7 +53,7 @@ fn with_design(planned: PlannedReport, imported: Imported) -> PlannedReport
     }
 }
 
-/// The ending with a fault, unless that is a want of memory.
+/// The result for a fault: an error where memory ran out, else the fault.
 fn ended_by(fault: ImportFault) -> Result<ImportEnding, NoMemory>
     ensures { IfOk result (λ e. (e ≡ Faulty fault) × (fault ≢ WantOfMemory)) }
 {
@@ -83,10 +83,10 @@ fn import_into(
     }
 }
 
-/// Plans an instance as `plan_once` does, and puts the design of a file into the plan: its counts, what they cost, and its flows as
-/// routings. Certificate, bound and quality stay the planner's. It may never return.
+/// Plans an instance as `plan_once` does, and puts the design of a file into the plan: the file's counts, what they cost, and its flows as
+/// routings. The certificate, the bound and the quality stay the planner's. It may never return.
 ///
-/// It takes the time and the memory of `plan_once` and then of `import`.
+/// It takes the time and the memory of `plan_once` and then of `import_instance`. It fails only where memory runs out.
 pub fn import_plan<R: Threads + Wait + Sync, G: Gate + Sync>(
     rt: &R,
     alloc: Global,

@@ -1,4 +1,4 @@
-//! Another tool's solution beside this planner's bound: a plan of the problem, with the imported design in the place of its own.
+//! Sets another tool's solution beside this planner's bound: a plan of the problem, with the imported design in the place of its own.
 #![tactic(auto)]
 
 mod ending;
