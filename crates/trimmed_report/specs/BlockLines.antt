@@ -25,7 +25,7 @@ block_lines links demands blocks = flat_map comment_line (map (block_items links
 
 -- ---- what such a line can contain
 
--- a cut, or evidence of a program that routes
+-- a cut, or evidence of a routing program
 abbrev pub IsTold : Stop → Type 0
 IsTold (Cut line) = Unit {0}
 IsTold (Wide evidence) = IsOfRouting evidence

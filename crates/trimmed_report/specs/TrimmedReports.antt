@@ -8,14 +8,14 @@ use Rattle.lone_plan.specs.declared.planned_report.PlannedReport.{PlannedReport}
 use Rattle.trimmed_report.specs.declared.ending.TrimEnding.{TrimEnding}
 use Rattle.trimmed_report.specs.declared.ending.TrimEnding.TheVariants as ending
 
--- The report is a transcript of one plan command, its one outcome is a plan that is trimmed by the blocks, no finding holds of it, and no
--- able counts cost less than the plan's bound.
+-- The report is a transcript of one plan command, and its one outcome is a plan that is trimmed by the blocks. It has no finding, and no counts that can
+-- carry the demands cost less than the plan's bound.
 pub record IsTrimmedReport (p : Case) (notes : Notes) (r : PlannedReport) (blocks : List Block) : Type 0 where
   pub transcript : IsTranscript p notes plan_commands (whole_report r)
   pub trimmed : IsTrimmedBy p r.plan.counts blocks
   pub acceptable : IsAcceptable p notes (whole_report r)
 
--- such a report with the blocks, or the first separation
+-- a trimmed report with its blocks, or the first separation
 abbrev pub IsTrimEnding : Case → Notes → TrimEnding → Type 0
 IsTrimEnding p notes (ending.Trimmed r blocks) = IsTrimmedReport p notes r blocks
 IsTrimEnding p notes (ending.Separated state demand) = IsSeparationOf p state.0 demand

@@ -9,7 +9,7 @@ use report_comments::{put_evidence, put_link};
 use trim_plan::Block;
 use trim_plan::able_counts::Stop;
 
-/// Puts a cut last.
+/// Appends a cut: its state, its right side, and a length for each link.
 fn put_cut(
     text: &mut Bytes,
     links: &[Link],
@@ -24,7 +24,7 @@ fn put_cut(
     put_lengths(text, cut.lengths.items())
 }
 
-/// Puts last why a module stays.
+/// Appends why a module stays.
 fn put_stop(
     text: &mut Bytes,
     links: &[Link],
@@ -43,7 +43,7 @@ fn put_stop(
     }
 }
 
-/// Puts the words of a block last.
+/// Appends the words of a block, after the sign of a comment.
 fn put_words(
     text: &mut Bytes,
     links: &[Link],
@@ -58,7 +58,7 @@ fn put_words(
     put_stop(text, links, demands, &block.why)
 }
 
-/// Puts the comment line of a block last.
+/// Appends the comment line of a block.
 fn put_block(
     text: &mut Bytes,
     links: &[Link],
@@ -73,7 +73,7 @@ fn put_block(
     text.append(b"\n")
 }
 
-/// Puts a comment line for each block last.
+/// Appends a comment line for each block.
 pub(crate) fn put_blocks(
     text: &mut Bytes,
     links: &[Link],

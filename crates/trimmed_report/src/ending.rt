@@ -14,12 +14,12 @@ use trim_plan::{Block, trim};
 /// The result of a trimming.
 #[derive(Drop)]
 pub enum TrimEnding {
-    /// The report of a plan from which no module can be spared, and what keeps each, in link and module order.
+    /// The report of a plan from which no module can be spared, and a block for each module of positive count, in link and module order.
     Trimmed {
         report: PlannedReport,
         blocks: List<Block>,
     },
-    /// The first state that separates a demand which has a need, and the first such demand, by its name.
+    /// The first state that separates a demand with a need, and the name of the first such demand.
     Separated {
         state: StateId,
         demand: Name,
@@ -49,7 +49,7 @@ fn trim_planned(
 
 /// Plans an instance as `plan_once` does, and takes modules off the plan until none can be spared. It may never return.
 ///
-/// It takes the time and the memory of `plan_once` and then of `trim`.
+/// It takes the time and the memory of `plan_once` and then of `trim`. It fails only where memory runs out.
 pub fn trim_once<R: Threads + Wait + Sync, G: Gate + Sync>(
     rt: &R,
     alloc: Global,

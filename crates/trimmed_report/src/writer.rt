@@ -13,7 +13,7 @@ use plan_report::write_report;
 use std::alloc::Global;
 use trim_plan::Block;
 
-/// Puts a comment line for each block of an instance's plan last.
+/// Appends a comment line for each block of an instance's plan.
 fn put_lines(text: &mut Bytes, instance: &Instance, blocks: &List<Block>) -> Result<(), NoMemory>
     requires { All (λ b. IsTold b.why) blocks.now }
     ensures { OnOk result (AddsLines text.old (map (block_items instance.now.net.now.links instance.now.demands.now) blocks.now) text.new) }
@@ -26,8 +26,9 @@ fn put_lines(text: &mut Bytes, instance: &Instance, blocks: &List<Block>) -> Res
     )
 }
 
-/// The text of a trimmed plan's report, and a comment line for each block, as `# blocked AC 0 cut 0 right 12000 lengths 1 1 1` for the link
-/// AC of the triangle, of whose two modules of 10.00 none can be spared. Reading the text gives the report again.
+/// The text of a trimmed plan's report, with a comment line at the end for each block. Of two modules of 10.00 on the link AC of the
+/// triangle neither can be spared, which the line `# blocked AC 0 cut 0 right 12000 lengths 1 1 1` tells; the right side is in thousandths.
+/// Reading the text gives the report again.
 ///
 /// It takes time and memory in the number of the text's bytes.
 pub fn write_trimmed(
