@@ -1,4 +1,4 @@
--- modules with their costs
+-- modules with their costs, in link and module order
 use Rattle.std.specs.Prelude.{ℕ, ◌+◌, ◌++◌, List, [], ◌∷◌}
 use Rattle.plan_terms.specs.Terms.{Link, Module}
 use Rattle.trim_plan.specs.declared.dearest.Priced.{Priced}

@@ -11,7 +11,7 @@ abbrev pub IsCutStop : Stop → Type 0
 IsCutStop (Cut line) = Unit {0}
 IsCutStop (Wide evidence) = ⊥
 
--- Where all blocks are cuts, no counts that are the trimmed ones less one module are able.
+-- where all blocks are cuts, trimmed counts less one module can't carry the demands
 abbrev pub TrimmedAreLeast : Type 0
 TrimmedAreLeast = (p : Case) (counts : List (List ℕ)) (blocks : List Block) (e m : ℕ)
     → IsTrimmedBy p counts blocks

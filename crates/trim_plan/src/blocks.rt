@@ -11,7 +11,7 @@ use able_counts::AbleTest;
 use net_core::{Counts, Instance, LinkId, List, NoMemory};
 use std::alloc::Global;
 
-/// Puts the blocks of a link's modules last; false where a module is taken off instead.
+/// Appends the blocks of a link's modules; `false` if a module is taken off instead.
 fn add_blocks(
     instance: &Instance,
     test: &mut AbleTest,
@@ -47,7 +47,7 @@ fn add_blocks(
     Ok(true)
 }
 
-/// Puts a block for each module of positive count into an empty list; false where a module is taken off instead.
+/// Fills an empty list with a block for each module of positive count; `false` if a module is taken off instead.
 fn add_all_blocks(
     instance: &Instance,
     test: &mut AbleTest,
@@ -69,7 +69,7 @@ fn add_all_blocks(
     Ok(true)
 }
 
-/// A block for each module of positive count; none where a module is taken off instead.
+/// A block for each module of positive count; `None` if a module is taken off instead.
 fn blocks_or_less(
     alloc: Global,
     instance: &Instance,
@@ -90,7 +90,7 @@ fn blocks_or_less(
     }
 }
 
-/// What keeps each module, once those that can be spared are taken off.
+/// A block for each module of positive count, when all modules that can be spared are taken off.
 pub(crate) fn settled_blocks(
     alloc: Global,
     instance: &Instance,

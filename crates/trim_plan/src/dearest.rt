@@ -7,14 +7,14 @@ use crate::lowered_counts::Place;
 use net_core::{List, Module, Network, NoMemory};
 use std::alloc::Global;
 
-/// A module with its cost, in units of the network.
+/// A module's place and cost, in units of the network.
 #[derive(Clone, Copy)]
 pub struct Priced {
     pub cost: u64,
     pub place: Place,
 }
 
-/// Puts the modules of a link last.
+/// Appends the modules of a link.
 fn add_modules(priced: &mut List<Priced>, link: usize, modules: &[Module]) -> Result<(), NoMemory>
     ensures { OnOk result (priced.new ≡ priced.old ++ priced_modules link 0 modules.now) }
 {
@@ -27,14 +27,14 @@ fn add_modules(priced: &mut List<Priced>, link: usize, modules: &[Module]) -> Re
     Ok(())
 }
 
-/// The rank of a module by its cost.
+/// A rank that is less the dearer a module is.
 fn rank_of(priced: &Priced) -> u64
     ensures { result ≡ price_rank priced.now }
 {
     u64::MAX - priced.cost
 }
 
-/// All modules, the dearest first; those of one cost in link and module order. It takes time and memory in the number of modules.
+/// All modules, the dearest first, and modules of one cost in link and module order. It takes time and memory in the number of modules.
 pub fn dearest_first(alloc: Global, net: &Network) -> Result<List<Priced>, NoMemory>
     ensures modules { IfOk result (IsPermutation (priced_links 0 net.now.links)) }
     ensures dearest { IfOk result (AllPairs (λ a b. price_rank a ≤ price_rank b)) }

@@ -1,4 +1,4 @@
-//! Takes modules off a plan until none can be spared, and says of each that is left what keeps it.
+//! Takes modules off a plan until none can be spared, and says of each module that is left what keeps it.
 //!
 //! ```text
 //! let Trimmed { plan, blocks } = trim(alloc, &net, &states, plan)?;

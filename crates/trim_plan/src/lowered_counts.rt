@@ -29,7 +29,7 @@ pub fn module_count(counts: &Counts, place: Place) -> u64
     }
 }
 
-/// One module less of a link.
+/// Takes one module off a link's counts.
 fn lower_module(counts: &mut [u64], m: usize)
     requires inside { m < length counts.old }
     requires some { 0 < slice_index counts.old m }
@@ -38,7 +38,7 @@ fn lower_module(counts: &mut [u64], m: usize)
     counts[m] -= 1;
 }
 
-/// One module less, in the list of a link.
+/// Takes one module off the counts of a link in the list.
 fn lower_link(counts: &mut [List<u64>], e: usize, m: usize)
     requires link { e < length counts.old }
     requires inside { m < length (slice_index_or counts.old e []) }

@@ -9,7 +9,7 @@ use able_counts::{AbleTest, Stop};
 use net_core::{Counts, Instance, NoMemory, discard};
 use std::alloc::Global;
 
-/// Takes one module off where the others carry the demands in each state; else says why not, and the counts stay as they are.
+/// Takes one module off if the others carry the demands in each state. Otherwise it says why not, and the counts stay as they are.
 pub(crate) fn take_off(
     instance: &Instance,
     test: &mut AbleTest,
@@ -39,7 +39,7 @@ pub(crate) fn take_off(
     }
 }
 
-/// Takes one module off, if there is one and the others carry the demands in each state, and says whether it did.
+/// Takes one module off, if there is one and the others carry the demands in each state. Tells whether it did.
 fn take_one_off(
     instance: &Instance,
     test: &mut AbleTest,
@@ -63,7 +63,7 @@ fn take_one_off(
     }
 }
 
-/// Takes modules of one kind off a link, as long as the others carry the demands in each state.
+/// Takes modules of one kind off a link, one by one, as long as the others carry the demands in each state.
 fn take_all_off(
     instance: &Instance,
     test: &mut AbleTest,
@@ -83,7 +83,7 @@ fn take_all_off(
     Ok(())
 }
 
-/// Takes modules off, as long as the others carry the demands in each state, in their order.
+/// Takes modules off in the given order, as long as the others carry the demands in each state.
 fn spare_in_order(
     instance: &Instance,
     test: &mut AbleTest,
@@ -101,10 +101,10 @@ fn spare_in_order(
     Ok(())
 }
 
-/// Takes modules off counts as long as the others carry the demands in each state, the dearest module first, and those of one cost in link
-/// and module order.
+/// Takes modules off counts as long as the others carry the demands in each state: the dearest module first, and modules of one cost in
+/// link and module order.
 ///
-/// It asks once for each module that is taken off, and once for each module that is left.
+/// It asks once for each module that is taken off, and once for each kind that is left. It fails only where memory runs out.
 pub fn spare_modules(
     alloc: Global,
     instance: &Instance,

@@ -11,11 +11,11 @@ use net_core::{Copied, Counts, Instance, LinkId, List, Network, NoMemory, States
 use plan_types::{Certificate, Plan};
 use std::alloc::Global;
 
-/// What keeps a module: with one less of it the counts aren't known to carry the demands.
+/// What keeps a module: why counts with one less of it aren't known to carry the demands.
 #[derive(Drop)]
 pub struct Block {
     pub link: LinkId,
-    /// Its place among the link's modules.
+    /// The place of the module among the link's modules.
     pub module: u32,
     pub why: Stop,
 }
@@ -27,7 +27,7 @@ pub struct Trimmed {
     pub blocks: List<Block>,
 }
 
-/// Tells a test the cuts of a plan's certificate, so that it asks the states about fewer counts.
+/// Tells a test the cuts of a plan's certificate, so that it has to ask the states less often.
 fn know_certificate(
     instance: &Instance,
     certificate: &Certificate,
@@ -43,7 +43,7 @@ fn know_certificate(
     Ok(())
 }
 
-/// A test that has a copy of a plan's routings, and knows the cuts of its certificate.
+/// A test that has a copy of a plan's routings, and knows the cuts of the plan's certificate.
 fn test_of(alloc: Global, instance: &Instance, plan: &Plan) -> Result<AbleTest, NoMemory>
     requires demands { plan.now.demands ≡ instance.now.demands.now }
     requires routed { IsRoutedPlan (case_of instance.now) plan.now }
@@ -59,7 +59,7 @@ fn test_of(alloc: Global, instance: &Instance, plan: &Plan) -> Result<AbleTest, 
     }
 }
 
-/// Takes modules off counts until none can be spared, and says of each that is left what keeps it.
+/// Takes modules off counts until none can be spared, and gives a block for each module that is left.
 fn trim_counts(
     alloc: Global,
     instance: &Instance,
@@ -77,7 +77,8 @@ fn trim_counts(
     Ok(blocks)
 }
 
-/// Takes modules off a plan until none can be spared, and says of each that is left what keeps it.
+/// Takes modules off a plan until none can be spared, and gives a block for each module that is left. Counts, cost and routings of the plan
+/// change.
 fn trim_plan(
     alloc: Global,
     net: &Network,
@@ -104,15 +105,19 @@ fn trim_plan(
     Ok(blocks)
 }
 
-/// Takes modules off a plan until no single one is known to be spare, and says of each that is left what keeps it.
+/// Takes modules off a plan until no single one is known to be spare, and gives a block for each kind of module that is left.
 ///
-/// The plan carries its demands, has the cost of its counts, and is in form and in lowest terms; its demands belong to the network, and no
-/// state separates one. The new plan has other counts, cost and routings, none of its counts is greater, and it costs no more. The dearest
-/// module is tried first. Where a number of some state's routing program is too wide, the module stays, and its block is the evidence.
+/// The given plan carries its demands, has the cost of its counts, and is in form and in lowest terms; its demands belong to the network,
+/// and no state separates one. The new plan has other counts, cost and routings; none of its counts is greater, and it costs no more. The
+/// dearest module is tried first. Where a number of some state's routing program is too wide, the module stays, and its block is the
+/// evidence.
 ///
 /// On the triangle with modules of 10.00 for 5.00, of which the link AC has two for a demand of 12.00 from A to C, none can be spared: AC's
-/// block is the cut of the lengths 1 0 1, which separate A. It asks once for each module that is taken off and twice for each that is left; most are
-/// refused by a cut that is known, such as those of the plan's certificate. It takes the memory of the routings twice, and of the cuts that it finds.
+/// block is the cut of the plan's certificate, with length 1 on each link.
+///
+/// It asks once for each module that is taken off, and twice for each kind that is left; most questions are answered by a known cut, such
+/// as those of the plan's certificate. It takes the memory of the routings twice, and of the cuts that it finds. It fails only where memory
+/// runs out.
 pub fn trim(alloc: Global, net: &Network, states: &States, plan: Plan) -> Result<Trimmed, NoMemory>
     requires belong { AreDemands (length net.now.nodes) plan.demands }
     requires survivable { IsSurvivable (case net.now states.now plan.demands) }
