@@ -4,7 +4,7 @@ use Rattle.plan_terms.specs.Terms.{Case}
 use Rattle.plan_types.specs.declared.plan.Plan.{Plan}
 use Rattle.trim_plan.specs.Trimmed.{IsPlanButForCounts, IsRoutedPlan}
 
--- The given plan with other counts, cost and routings: its routings carry the demands in each state, and it costs no more.
+-- the given plan with other counts, cost and routings: its routings carry the demands in each state, and it costs no more
 pub record IsCheaperPlan (p : Case) (given plan : Plan) : Type 0 where
   pub same : IsPlanButForCounts given plan
   pub routed : IsRoutedPlan p plan

@@ -16,7 +16,7 @@ use std::mem;
 use trim_plan::able_counts::AbleTest;
 use trim_plan::{Priced, dearest_first};
 
-/// The cuts of a certificate, which are met at the start.
+/// Refusals that know the cuts of a certificate.
 fn met_cuts(alloc: Global, certificate: &Certificate) -> Result<Refusals, NoMemory> {
     let mut refusals = Refusals::new(alloc);
     for line in certificate.lines.items() {
@@ -25,7 +25,7 @@ fn met_cuts(alloc: Global, certificate: &Certificate) -> Result<Refusals, NoMemo
     Ok(refusals)
 }
 
-/// A search that begins with a copy of the routings of counts that carry the demands. The cuts of a certificate are met at the start.
+/// A search that begins with a copy of the routings of counts that carry the demands, and that knows the cuts of a certificate.
 fn search_from(
     alloc: Global,
     instance: &Instance,
@@ -44,8 +44,8 @@ fn search_from(
     })
 }
 
-/// Makes counts that carry the demands as cheap as those to which exchanges of modules lead, of modules that are given the dearest first.
-/// The cuts of a certificate are met at the start.
+/// Makes counts that carry the demands as cheap as exchanges of modules make them. The modules are given the dearest first, and the cuts of
+/// the certificate are known from the start.
 fn swap_in_order(
     alloc: Global,
     instance: &Instance,
@@ -64,7 +64,7 @@ fn swap_in_order(
     done
 }
 
-/// Makes counts that carry the demands as cheap as those to which exchanges of modules lead. The cuts of a certificate are met at the start.
+/// Makes counts that carry the demands as cheap as exchanges of modules make them. The cuts of the certificate are known from the start.
 fn swap_counts(
     alloc: Global,
     instance: &Instance,
@@ -80,7 +80,7 @@ fn swap_counts(
     swap_in_order(alloc, instance, certificate, dearest.items(), kept)
 }
 
-/// Counts with their cost and routings, moved out of their places, which are left empty.
+/// Counts with their cost and routings, moved out of a plan, which is left with empty lists.
 fn taken(alloc: Global, counts: &mut Counts, cost: u128, routings: &mut List<Routing>) -> Kept
     ensures { result ≡ record { counts = counts.old; cost = cost; routings = routings.old } }
 {
@@ -91,7 +91,7 @@ fn taken(alloc: Global, counts: &mut Counts, cost: u128, routings: &mut List<Rou
     }
 }
 
-/// Gives a plan other counts.
+/// Gives a plan these counts, with their cost and routings.
 fn set_counts(plan: &mut Plan, kept: Kept)
     ensures { plan.new ≡ record plan.old { counts = kept.counts; cost = kept.cost; routings = kept.routings } }
 {
@@ -117,14 +117,16 @@ fn swap_within(alloc: Global, instance: &Instance, plan: &mut Plan) -> Result<()
 /// Makes a plan of an instance cheaper by exchanging modules.
 ///
 /// The plan's demands are the instance's, and no state separates one; it carries them, has the cost of its counts, and is in form and in
-/// lowest terms. The new plan is the given one but for its counts, cost and routings; it carries the demands too, and costs no more.
-/// What can be spared is taken off first. Then one module is taken off and a cheaper one put on, the exchange that saves most first, or one
-/// is put on and what can be spared of the others is taken off, the dearest first: where that carries the demands and costs less, it begins
-/// anew, until nothing helps or 20,000 asks are spent, of which a look at the known cuts is a tenth.
+/// lowest terms. The new plan is the given one with other counts, cost and routings; it carries the demands too, and costs no more.
+///
+/// What can be spared is taken off first. Then it tries two kinds of exchange. One module is taken off and a cheaper one put on, the
+/// exchange that saves most first. Or one module is put on, and what can be spared of the others is taken off, the dearest first. Once the
+/// counts that come of one carry the demands and cost less, it starts over from them. It ends when nothing helps, or when 20,000 asks are
+/// spent, of which a look at the known cuts is a tenth.
 ///
 /// On four parallel links of modules of 1.00 for 1.00 that fail alone, a plan for a demand of 10.00 with four modules on each costs 16.00,
-/// and becomes one of 14.00. Most asks are refused by a cut that is known. It takes the memory of the routings three times, and of the cuts
-/// that it finds.
+/// and becomes one of 14.00. Most asks are refused by a known cut. It takes the memory of the routings three times, and of the cuts that it
+/// finds. It fails only where memory runs out.
 pub fn swap(alloc: Global, instance: &Instance, plan: Plan) -> Result<Plan, NoMemory>
     requires survivable { IsSurvivable (case_of instance.now) }
     requires demands { plan.demands ≡ instance.now.demands.now }

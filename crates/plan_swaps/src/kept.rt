@@ -7,7 +7,7 @@ use crate::search::Search;
 use module_choice::cost;
 use net_core::{Copied, Counts, Instance, List, NoMemory, Routing};
 
-/// The cheapest counts so far, what they cost in units of the network, and a routing within them for each state.
+/// The cheapest counts so far, their cost in units of the network, and for each state a routing within them.
 #[derive(Drop)]
 pub struct Kept {
     pub counts: Counts,
@@ -15,7 +15,7 @@ pub struct Kept {
     pub routings: List<Routing>,
 }
 
-/// Copies of counts and of the routings within them, with what the counts cost.
+/// Copies of counts and of the routings within them, with the cost of the counts.
 fn kept_of(instance: &Instance, counts: &Counts, routings: &List<Routing>) -> Result<Kept, NoMemory>
     requires shape { AreCounts instance.now.net.now.links counts.now }
     requires limits { AreWithinLimits instance.now.net.now.links counts.now }
@@ -30,7 +30,7 @@ fn kept_of(instance: &Instance, counts: &Counts, routings: &List<Routing>) -> Re
     })
 }
 
-/// Keeps other counts where they cost less and carry the demands.
+/// Replaces the kept counts by others if these cost less and carry the demands. Tells whether it did.
 pub(crate) fn keep_cheaper(
     instance: &Instance,
     search: &mut Search,

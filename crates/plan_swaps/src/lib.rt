@@ -1,4 +1,4 @@
-//! Makes a plan cheaper by exchanging modules: one for a cheaper one, or one more for others that can then be spared.
+//! Makes a plan cheaper by exchanging modules: one for a cheaper one, or several for one more that lets them be spared.
 #![tactic(auto)]
 
 mod cheaper_plan;

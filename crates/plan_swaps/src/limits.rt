@@ -27,7 +27,7 @@ fn are_small(capacities: &[u128]) -> bool
 }
 
 /// Whether counts are within the limits of plans: each below 2^44, and each link's capacity below 2^46 units. It takes time in the number
-/// of the modules, and memory for a number of each link.
+/// of modules, and memory for one number per link.
 pub fn are_within_limits(alloc: Global, net: &Network, counts: &Counts) -> Result<bool, NoMemory>
     requires { AreCounts net.now.links counts.now }
     ensures { IfOk result (λ b. IsTrue b ↔ AreWithinLimits net.now.links counts.now) }

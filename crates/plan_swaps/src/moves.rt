@@ -2,21 +2,21 @@ use net_core::{Counts, List, NoMemory};
 use std::alloc::Global;
 use trim_plan::{Place, Priced, module_count};
 
-/// One module to take off, and a cheaper one to put on.
+/// An exchange: one module to take off, and a cheaper one to put on.
 #[derive(Clone, Copy)]
 pub struct Move {
     pub off: Place,
     pub on: Place,
 }
 
-/// A module in use, and how many of the cheapest modules were tried in its place.
+/// A module in use, and how many of the cheapest modules have been tried in its place.
 #[derive(Clone, Copy)]
 pub struct Trying {
     pub module: Priced,
     pub tried: usize,
 }
 
-/// The modules in use, with nothing tried in their places.
+/// The modules in use, the dearest first, with nothing tried in their places.
 pub(crate) fn in_use(
     alloc: Global,
     dearest: &[Priced],
@@ -34,7 +34,7 @@ pub(crate) fn in_use(
     Ok(all)
 }
 
-/// The next cheapest module for the place of one in use, if that is cheaper.
+/// The cheapest module that wasn't tried in the place of one in use, if it is cheaper than that one.
 fn next_cheapest(dearest: &[Priced], trying: &Trying) -> Option<Priced> {
     if trying.tried >= dearest.len() {
         return None;
@@ -47,7 +47,7 @@ fn next_cheapest(dearest: &[Priced], trying: &Trying) -> Option<Priced> {
     }
 }
 
-/// What the next move of a module in use saves, in units of the network; 0 if there is none.
+/// What the next exchange of a module in use saves, in units of the network; 0 if there is none.
 fn saving(dearest: &[Priced], trying: &Trying) -> u64 {
     match next_cheapest(dearest, trying) {
         Some(on) => trying.module.cost.saturating_sub(on.cost),
@@ -55,7 +55,7 @@ fn saving(dearest: &[Priced], trying: &Trying) -> u64 {
     }
 }
 
-/// Which module in use has the move that saves most, the first of several.
+/// The index of the module in use whose next exchange saves most, the first of several.
 fn most_saving(dearest: &[Priced], all: &[Trying]) -> usize {
     let mut best = 0;
     let mut most = 0;
@@ -69,7 +69,7 @@ fn most_saving(dearest: &[Priced], all: &[Trying]) -> usize {
     best
 }
 
-/// The move that saves most of those that weren't tried.
+/// The exchange that saves most of those that weren't tried; it counts as tried now.
 pub(crate) fn next_move(dearest: &[Priced], all: &mut [Trying]) -> Option<Move> {
     let at = most_saving(dearest, all);
     if at >= all.len() {

@@ -6,7 +6,7 @@ use net_core::{Copied, Counts, List, Network, NoMemory};
 use std::alloc::Global;
 use trim_plan::Place;
 
-/// One module more of a link, unless there is no such module, or it has as many as a count may be.
+/// Puts one module more on a link, unless there is no such module, or its count is 2^44 already.
 fn raise_module(counts: &mut [u64], m: usize)
     ensures { length counts.new ≡ length counts.old }
 {
@@ -15,7 +15,7 @@ fn raise_module(counts: &mut [u64], m: usize)
     }
 }
 
-/// One module more, in the list of a link.
+/// Puts one module more on a link, in the list of all links' counts.
 fn raise_link(counts: &mut [List<u64>], place: Place)
     ensures { (links : List Link) → AreCounts links counts.old → AreCounts links counts.new }
 {
@@ -24,7 +24,7 @@ fn raise_link(counts: &mut [List<u64>], place: Place)
     }
 }
 
-/// The counts with one module more, where these are within the limits.
+/// The counts with one module more; `None` if they aren't within the limits.
 pub(crate) fn one_more(
     alloc: Global,
     net: &Network,

@@ -2,16 +2,16 @@ use net_core::{Counts, CutLine, Link, List, NoMemory};
 use std::alloc::Global;
 use trim_plan::Place;
 
-/// Cuts that were met, and what some counts give along each beyond what it asks for, by which it is soon seen which modules a cut keeps.
-/// They guide the search alone; whether counts carry the demands is asked of the test.
+/// The cuts that the search knows, and by how much the measured counts exceed what each asks for. They show cheaply which modules a cut
+/// keeps. They only guide the search; whether counts carry the demands is asked of the test.
 #[derive(Drop)]
 pub struct Refusals {
     cuts: List<CutLine>,
-    /// One for each cut; 0 where the counts give too little.
+    /// One number for each cut: what the counts give along its lengths less its right side; 0 where they give too little.
     rests: List<u128>,
 }
 
-/// The capacity of a link's modules and what it has besides, in units of the network.
+/// The capacity of a link with these counts and what is pre-installed, in units of the network.
 fn capacity(link: &Link, counts: &[u64]) -> u128 {
     let mut sum = link.fixed as u128;
     let modules = link.modules.items();
@@ -25,7 +25,7 @@ fn capacity(link: &Link, counts: &[u64]) -> u128 {
     sum
 }
 
-/// What counts give along the lengths of a cut.
+/// What counts give along lengths: the sum of capacity times length over the links.
 fn given(links: &[Link], counts: &[List<u64>], lengths: &[u32]) -> u128 {
     let mut sum = 0u128;
     for e in 0..links.len() {
@@ -37,7 +37,7 @@ fn given(links: &[Link], counts: &[List<u64>], lengths: &[u32]) -> u128 {
     sum
 }
 
-/// What a module gives along the lengths of a cut.
+/// What one module gives along lengths: its capacity times the length of its link.
 fn given_by(links: &[Link], lengths: &[u32], place: Place) -> u128 {
     if place.link >= links.len() || place.link >= lengths.len() {
         return 0;
@@ -49,7 +49,7 @@ fn given_by(links: &[Link], lengths: &[u32], place: Place) -> u128 {
 }
 
 impl Refusals {
-    /// No cuts.
+    /// Refusals that know no cut.
     pub(crate) fn new(alloc: Global) -> Refusals {
         Refusals {
             cuts: List::new(alloc),
@@ -57,19 +57,19 @@ impl Refusals {
         }
     }
 
-    /// How many cuts were met.
+    /// How many cuts are known.
     pub(crate) fn len(&self) -> usize {
         self.cuts.len()
     }
 
-    /// Meets a cut.
+    /// Adds a cut. Until the next `measure` its rest is 0, so that it refuses to have any module of positive length taken off.
     pub(crate) fn meet(&mut self, cut: CutLine) -> Result<(), NoMemory> {
         self.rests.push(0)?;
         self.cuts.push(cut)?;
         Ok(())
     }
 
-    /// Measures counts.
+    /// Sets the rest of each cut to that of these counts.
     pub(crate) fn measure(&mut self, links: &[Link], counts: &Counts) {
         let cuts = self.cuts.items();
         let rests = self.rests.items_mut();
@@ -81,7 +81,7 @@ impl Refusals {
         }
     }
 
-    /// Whether some cut refuses the counts with one module less, and perhaps another one more.
+    /// Whether some cut refuses the measured counts with one module less, and perhaps another one more.
     pub(crate) fn keeps(&self, links: &[Link], off: Place, on: Option<Place>) -> bool {
         let cuts = self.cuts.items();
         let rests = self.rests.items();
@@ -98,7 +98,7 @@ impl Refusals {
         false
     }
 
-    /// One module less.
+    /// Updates the rests for one module less.
     pub(crate) fn lower(&mut self, links: &[Link], off: Place) {
         let cuts = self.cuts.items();
         let rests = self.rests.items_mut();

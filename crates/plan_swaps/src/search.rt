@@ -7,18 +7,18 @@ use net_core::{Counts, Instance, Link, NoMemory};
 use trim_plan::Place;
 use trim_plan::able_counts::{AbleTest, Stop};
 
-/// A test of counts, the cuts that were met, and how much may still be asked.
+/// A test of counts, the cuts that are known, and how much may still be asked.
 #[derive(Drop)]
 pub struct Search {
     pub test: AbleTest,
     pub refusals: Refusals,
-    /// Ten for each ask, and one for each look at the cuts that were met.
+    /// What is left of the budget. An ask of the test takes ten of it, and a look at the known cuts one.
     pub asks: u64,
 }
 
 impl Search {
-    /// Whether counts are known to carry the demands in each state; the test's routings are within them then. A cut that says that they
-    /// don't is met.
+    /// Whether counts are known to carry the demands in each state; if so, the test's routings are within them. If a cut says that they
+    /// don't, it is added to the known ones.
     pub(crate) fn carries(&mut self, instance: &Instance, counts: &Counts) -> Result<bool, NoMemory>
         requires survivable { IsSurvivable (case_of instance.now) }
         requires sound { IsTestOf (case_of instance.now) self.old.test }
@@ -41,7 +41,7 @@ impl Search {
     }
 }
 
-/// Whether a cut that was met refuses the measured counts with one module less, and perhaps another one more: one look.
+/// Whether a known cut refuses the measured counts with one module less, and perhaps another one more. It takes one of the budget.
 pub(crate) fn refuses(
     refusals: &Refusals,
     asks: &mut u64,

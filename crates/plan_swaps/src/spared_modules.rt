@@ -5,7 +5,7 @@ use crate::search::{Search, refuses};
 use net_core::{Counts, Instance, NoMemory};
 use trim_plan::{Place, Priced, module_count, one_less};
 
-/// Takes one module off the measured counts, unless a cut that was met says that the others don't carry the demands.
+/// Takes one module off the measured counts, unless a known cut says that the others don't carry the demands. Tells whether it did.
 fn take_off(
     instance: &Instance,
     search: &mut Search,
@@ -27,7 +27,7 @@ fn take_off(
     Ok(true)
 }
 
-/// Takes modules of one kind off a link, until a cut that was met refuses it.
+/// Takes modules of one kind off a link, one by one, until a known cut refuses it.
 fn take_all_off(
     instance: &Instance,
     search: &mut Search,
@@ -45,7 +45,7 @@ fn take_all_off(
     Ok(())
 }
 
-/// Whether it is that place.
+/// Whether the two are the same place.
 fn is_at(place: Place, other: Option<Place>) -> bool {
     match other {
         Some(other) => place.link == other.link && place.module == other.module,
@@ -53,7 +53,7 @@ fn is_at(place: Place, other: Option<Place>) -> bool {
     }
 }
 
-/// Takes off the modules that no cut that was met keeps, the dearest first, but none at one place.
+/// Takes off the modules that no known cut keeps, the dearest first, except those at one place.
 pub(crate) fn spare_others(
     instance: &Instance,
     search: &mut Search,

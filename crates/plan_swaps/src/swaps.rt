@@ -12,21 +12,21 @@ use net_core::{Copied, Counts, Instance, NoMemory};
 use std::alloc::Global;
 use trim_plan::{Place, Priced, module_count, one_less};
 
-/// How much a search asks of the test at most: ten for each ask, and one for each look at the known cuts.
+/// The budget of a search: an ask of the test takes ten of it, and a look at the known cuts one.
 const MOST_ASKS: u64 = 200_000;
 
-/// The result of trying other counts.
+/// What came of trying other counts.
 #[derive(Drop)]
 pub enum Trial {
-    /// They are kept.
+    /// They carry the demands and cost less, and are kept now.
     Kept,
-    /// A cut that wasn't met before says that they don't carry the demands.
+    /// A cut that wasn't known before says that they don't carry the demands.
     Refused,
     /// They cost as much or more, or it isn't known whether they carry the demands.
     Dear,
 }
 
-/// Keeps counts where they carry the demands and cost less.
+/// Keeps counts if they carry the demands and cost less.
 fn keep_counts(
     instance: &Instance,
     search: &mut Search,
@@ -50,7 +50,7 @@ fn keep_counts(
     }
 }
 
-/// Keeps counts less the modules that no cut that was met keeps, but none at one place, where the others carry the demands and cost less.
+/// Takes off all modules that no known cut keeps, except those at one place, and keeps the rest if they carry the demands and cost less.
 fn keep_spared(
     instance: &Instance,
     search: &mut Search,
@@ -71,7 +71,8 @@ fn keep_spared(
     keep_counts(instance, search, kept, &fewer)
 }
 
-/// Keeps counts less what can be spared of their modules, the dearest first, but none at one place, where that costs less.
+/// Takes off what can be spared of the modules, the dearest first, except those at one place, and keeps the rest if that costs less. It
+/// tries again as long as new cuts refuse. Tells whether something was kept.
 fn keep_lesser(
     instance: &Instance,
     search: &mut Search,
@@ -101,7 +102,7 @@ fn keep_lesser(
     Ok(false)
 }
 
-/// The counts with one module taken off and another put on.
+/// The counts with one module taken off and another put on; `None` if there is none to take off, or the counts aren't within the limits.
 fn moved(
     alloc: Global,
     instance: &Instance,
@@ -118,7 +119,7 @@ fn moved(
     one_more(alloc, instance.net, &lower, what.on)
 }
 
-/// Keeps counts where they carry the demands and cost less; else measures those that are kept.
+/// Keeps counts if they carry the demands and cost less; else measures the kept ones again. Tells whether they were kept.
 fn keep_or_measure(
     instance: &Instance,
     search: &mut Search,
@@ -141,7 +142,8 @@ fn keep_or_measure(
     Ok(false)
 }
 
-/// Exchanges one module of the counts, which are measured, where the new counts carry the demands.
+/// Tries an exchange of the kept counts, which are measured, and keeps the new ones if they carry the demands. Tells whether they were
+/// kept.
 fn try_move(
     alloc: Global,
     instance: &Instance,
@@ -172,7 +174,7 @@ fn try_move(
     }
 }
 
-/// Exchanges one module in use for a cheaper one, the move that saves most first.
+/// Exchanges one of the modules in use for a cheaper one, trying the exchange that saves most first. Tells whether one was kept.
 fn try_moves(
     alloc: Global,
     instance: &Instance,
@@ -202,7 +204,7 @@ fn try_moves(
     Ok(false)
 }
 
-/// Exchanges one module for a cheaper one, the move that saves most first.
+/// Exchanges one module for a cheaper one, trying the exchange that saves most first. Tells whether one was kept.
 fn exchange(
     alloc: Global,
     instance: &Instance,
@@ -224,7 +226,7 @@ fn exchange(
     try_moves(alloc, instance, search, dearest, kept, all.items_mut())
 }
 
-/// Puts one module on and takes off what can be spared of the others, where that costs less.
+/// Puts one module on, takes off what can be spared of the others, and keeps that if it costs less. Tells whether it was kept.
 fn try_more(
     alloc: Global,
     instance: &Instance,
@@ -246,7 +248,7 @@ fn try_more(
     }
 }
 
-/// Puts one module on for others, the first that helps.
+/// Puts one module on for others that it lets be spared, the first that helps. Tells whether one was kept.
 fn put_on(
     alloc: Global,
     instance: &Instance,
@@ -272,7 +274,7 @@ fn put_on(
     Ok(false)
 }
 
-/// Exchanges one module for a cheaper one, or else puts one on for others.
+/// Exchanges one module for a cheaper one, or else puts one on for others. Tells whether something was kept.
 fn improve(
     alloc: Global,
     instance: &Instance,
@@ -293,7 +295,7 @@ fn improve(
     put_on(alloc, instance, search, dearest, kept)
 }
 
-/// Keeps the kept counts less what can be spared of their modules, where something can.
+/// Takes off what can be spared of the kept counts. Tells whether something was.
 fn spare(
     instance: &Instance,
     search: &mut Search,
@@ -311,7 +313,7 @@ fn spare(
     keep_lesser(instance, search, dearest, kept, &counts, None)
 }
 
-/// Makes the kept counts cheaper, until nothing helps or all asks are spent.
+/// Makes the kept counts cheaper, until nothing helps or the budget is spent.
 pub(crate) fn make_cheaper(
     alloc: Global,
     instance: &Instance,

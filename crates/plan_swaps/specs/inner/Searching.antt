@@ -5,13 +5,13 @@ use Rattle.trim_plan.specs.Terms.{AreRoutingsWithin, IsTestOf}
 use Rattle.plan_swaps.specs.declared.kept.Kept.{Kept}
 use Rattle.plan_swaps.specs.declared.search.Search.{Search}
 
--- counts in their limits that may be asked about
+-- counts within their limits that may be asked about
 pub record AreAskedCounts (p : Case) (s : Search) (counts : List (List ℕ)) : Type 0 where
   pub test : IsTestOf p s.test
   pub shape : AreCounts p.links counts
   pub limits : AreWithinLimits p.links counts
 
--- counts with their cost and a routing within them for each state
+-- counts with their cost, and for each state a routing within them
 pub record AreCarryingCounts (p : Case) (k : Kept) : Type 0 where
   pub shape : AreCounts p.links k.counts
   pub limits : AreWithinLimits p.links k.counts
