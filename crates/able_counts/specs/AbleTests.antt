@@ -1,4 +1,4 @@
--- counts of modules that are asked about: their routings, or why they aren't known to carry the demands
+-- counts of modules that are asked about: routings within them, or why they aren't known to carry the demands
 use Rattle.std.specs.Prelude.{◌≡◌, ℕ, ◌+◌, ◌≤◌, List, Some, ◌⊎◌, All, length, slice_get}
 use Rattle.plan_terms.specs.Terms.{Caps, Routing, Case, graph_in, Joins, AreCounts, AreWithinLimits, capacities, IsCut, Carries, Violates, Evidence}
 use Rattle.plan_report.specs.Terms.{IsRoutingInForm}
@@ -16,12 +16,12 @@ pub record IsRoutingWithin (p : Case) (s : ℕ) (nums : List ℕ) (r : Routing) 
   pub form : IsRoutingInForm p.links p.demands r
   pub lowest : IsLowestRouting r
 
--- one such routing for each state
+-- one routing for each state that carries the demands within these capacities
 pub record AreRoutingsWithin (p : Case) (nums : List ℕ) (routings : List Routing) : Type 0 where
   pub states : length routings ≡ length p.listed + 1
   pub each : (s : ℕ) (r : Routing) → slice_get routings s ≡ Some r → IsRoutingWithin p s nums r
 
--- as many routings as before, each of which is the one before it or carries the demands within these capacities
+-- as many routings as before, each of them the old one, or one that carries the demands within these capacities
 pub record AreKeptOrWithin (p : Case) (nums : List ℕ) (old new : List Routing) : Type 0 where
   pub same : length new ≡ length old
   pub each : (s : ℕ) (r : Routing) → slice_get new s ≡ Some r → (slice_get old s ≡ Some r) ⊎ IsRoutingWithin p s nums r
@@ -38,7 +38,7 @@ pub record IsWideSomewhere (p : Case) (caps : Caps) (evidence : Evidence) : Type
   pub listed_state : state ≤ length p.listed
   pub here : IsEvidenceHere (graph_in p state) p.demands caps evidence
 
--- a cut of the case, with its right side at the demands, that the capacities violate; or evidence
+-- a cut of the case that the capacities violate, with its right side at the demands; or evidence
 abbrev pub IsStopAt : Case → Caps → Stop → Type 0
 IsStopAt p caps (Cut line) = IsCut p line × Violates caps line
 IsStopAt p caps (Wide evidence) = IsWideSomewhere p caps evidence
@@ -50,13 +50,13 @@ pub record IsRoutingOf (p : Case) (s : ℕ) (r : Routing) : Type 0 where
   pub nums : List ℕ
   pub within : IsRoutingWithin p s nums r
 
--- What a test of the case keeps: cuts of the case, and a routing for each state.
+-- what a test of the case keeps: cuts of the case, and a routing for each state
 pub record IsTestOf (p : Case) (t : AbleTest) : Type 0 where
   pub cuts : All (IsCut p) t.cuts
   pub states : length t.routings ≡ length p.listed + 1
   pub each : (s : ℕ) (r : Routing) → slice_get t.routings s ≡ Some r → IsRoutingOf p s r
 
--- Counts in their limits, and a test of the case whose routings carry the demands within their capacities.
+-- counts in their limits, and a test of the case whose routings carry the demands within their capacities
 pub record AreRoutedCounts (p : Case) (counts : List (List ℕ)) (t : AbleTest) : Type 0 where
   pub shape : AreCounts p.links counts
   pub limits : AreWithinLimits p.links counts

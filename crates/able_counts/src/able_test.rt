@@ -15,21 +15,21 @@ use net_core::{
 use separator::warm_routing::WarmRouter;
 use std::alloc::Global;
 
-/// What was learned of counts of modules: cuts, and for each state the last routing.
-/// What it answers is said of the counts alone; what it keeps makes the next answer cheaper.
+/// A test of counts of modules, with what earlier questions have taught it: cuts, and the last routing of each state. Its answers are about
+/// the counts alone; what it keeps makes later ones cheaper.
 #[derive(Drop)]
 pub struct AbleTest {
     alloc: Global,
-    /// The newest last.
+    /// The cuts that it knows, the newest last.
     cuts: List<CutLine>,
     routings: List<Routing>,
-    /// The state that refused last.
+    /// The state in which a cut was found last.
     refused: u32,
-    /// The basis of the last routing program.
+    /// The basis that the last routing program has left.
     warm: WarmRouter,
 }
 
-/// The state some places after another, where the first comes after the last.
+/// The state some places after another in the ring of states, where the first one follows the last.
 fn state_after(first: u32, places: u32, count: u32) -> StateId
     requires { 0 < count }
     ensures { result.0 < count }
@@ -38,8 +38,8 @@ fn state_after(first: u32, places: u32, count: u32) -> StateId
 }
 
 impl AbleTest {
-    /// A test that knows no cuts yet, with a routing for each state, within whatever capacities.
-    /// It copies nothing.
+    /// A test that knows no cuts yet, with a routing for each state, within whatever capacities. It takes constant time, and copies
+    /// nothing.
     pub fn new(
         alloc: Global,
         instance: &Instance,
@@ -59,8 +59,8 @@ impl AbleTest {
         })
     }
 
-    /// Keeps a cut of the state and the lengths of a given one, with the right side of the demands; nothing where these make no cut.
-    /// It takes the time and the memory of `Cut::new`.
+    /// Adds a cut to the known ones: that of the given one's state and lengths, with its right side at the demands. If these make no cut,
+    /// nothing is added. It takes the time and the memory of `Cut::in_graph`.
     pub fn know(&mut self, instance: &Instance, given: &CutLine) -> Result<(), NoMemory>
         requires sound { IsTestOf (case_of instance.now) self.old }
         ensures sound { IsTestOf (case_of instance.now) self.new }
@@ -72,22 +72,22 @@ impl AbleTest {
         Ok(())
     }
 
-    /// The routings, one for each state: within the capacities of the last counts that carry the demands, as long as no others were asked.
-    /// It takes constant time.
+    /// The routings, one for each state. After `stop` has answered `None` they are within the capacities of its counts, until it is asked
+    /// again. It takes constant time.
     pub fn routings(&self) -> &List<Routing>
         ensures { result.now ≡ self.now.routings }
     {
         &self.routings
     }
 
-    /// The routings, without a copy. It takes constant time.
+    /// The routings, moved out. It takes constant time.
     pub fn into_routings(self) -> List<Routing>
         ensures { result ≡ self.routings }
     {
         self.routings
     }
 
-    /// Keeps a copy of a cut that a state gave, and which state that was.
+    /// Adds a copy of a cut that a state gave to the known ones, and notes the state. Evidence isn't kept.
     fn keep_cut(
         &mut self,
         instance: &Instance,
@@ -110,7 +110,7 @@ impl AbleTest {
         }
     }
 
-    /// Keeps a copy of the cut that a state gave, if it gave one, and which state that was.
+    /// Adds a copy of the cut that a state gave to the known ones, if it gave one, and notes the state.
     fn keep(
         &mut self,
         instance: &Instance,
@@ -129,7 +129,7 @@ impl AbleTest {
         }
     }
 
-    /// Why capacities don't carry the demands in a state; where they do, the state's routing is within them.
+    /// Why capacities don't carry the demands in a state. Where they do, the state's routing becomes one within them.
     fn stop_in<'a>(
         &mut self,
         instance: &Instance<'a>,
@@ -168,7 +168,7 @@ impl AbleTest {
         Ok(found)
     }
 
-    /// A cut that capacities violate in a state, where it is soon found.
+    /// A cut that capacities violate in a state, if one is found without solving a program.
     fn quick_stop_in<'a>(
         &mut self,
         instance: &Instance<'a>,
@@ -199,7 +199,7 @@ impl AbleTest {
         Ok(found)
     }
 
-    /// A cut of a set of nodes that capacities violate in a state in which the links of some node have too little.
+    /// A cut of a set of nodes that capacities violate, looked for in the first state in which the links of some node have too little.
     fn short_stop<'a>(
         &mut self,
         instance: &Instance<'a>,
@@ -231,7 +231,7 @@ impl AbleTest {
         }
     }
 
-    /// A cut that capacities violate in some state, where it is soon found; the state that refused last is tried first.
+    /// A cut that capacities violate in some state, if one is found without solving a program; the state that refused last is tried first.
     fn quick_stop(&mut self, instance: &Instance, caps: &Caps) -> Result<Option<Stop>, NoMemory>
         requires sound { IsTestOf (case_of instance.now) self.old }
         requires scale { caps.now.scale ≡ 1 }
@@ -251,7 +251,8 @@ impl AbleTest {
         Ok(None)
     }
 
-    /// Why capacities don't carry the demands in some state, tried in their order: a cut of a state, or else evidence of one.
+    /// Why capacities don't carry the demands in some state. The states are asked in their order until one gives a cut; if none does,
+    /// evidence of one.
     fn stop_in_turn(&mut self, instance: &Instance, caps: &Caps) -> Result<Option<Stop>, NoMemory>
         requires sound { IsTestOf (case_of instance.now) self.old }
         requires survivable { IsSurvivable (case_of instance.now) }
@@ -275,7 +276,7 @@ impl AbleTest {
         Ok(wide)
     }
 
-    /// Why capacities don't carry the demands in some state; a program is solved only where no state has a cut that is soon found.
+    /// Why capacities don't carry the demands in some state. A program is solved only where no state has a cut that is found without.
     fn stop_within(&mut self, instance: &Instance, caps: &Caps) -> Result<Option<Stop>, NoMemory>
         requires sound { IsTestOf (case_of instance.now) self.old }
         requires survivable { IsSurvivable (case_of instance.now) }
@@ -296,13 +297,14 @@ impl AbleTest {
         self.stop_in_turn(instance, caps)
     }
 
-    /// Why counts of modules aren't known to carry the demands in all states, none of which separates a demand: a cut of some state, or else
-    /// evidence. `None` where they carry them: then `routings` has a routing for each state within their capacities.
+    /// Why counts of modules aren't known to carry the demands in all states: a cut of some state, or else evidence of one. `None` if they
+    /// carry them; then `routings` has a routing for each state within their capacities. No state separates a demand.
     ///
-    /// It asks cheaply first: the cuts that it knows, the newest first; then each state whose last routing isn't within the capacities,
-    /// the state that refused last before the others, for a routing along the paths of the last one, or a cut of a set of nodes. Only then it
-    /// asks, with the last routing's paths, each state that has neither. It takes time as `separate_state` for each of these, and keeps a cut
-    /// for each that it finds.
+    /// Cheap questions come first: the known cuts, the newest first; then each state whose last routing isn't within the capacities, the
+    /// one that refused last before the others, where the last routing is mended, or else a violated set of nodes looked for. Only then a
+    /// program is solved, for each state that still has neither, beginning with the paths of its last routing.
+    ///
+    /// It takes the time of `separate_state` for each program. Each cut that it finds is kept. It fails only where memory runs out.
     pub fn stop(&mut self, instance: &Instance, counts: &Counts) -> Result<Option<Stop>, NoMemory>
         requires sound { IsTestOf (case_of instance.now) self.old }
         requires survivable { IsSurvivable (case_of instance.now) }

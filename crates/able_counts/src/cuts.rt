@@ -6,7 +6,7 @@ use net_core::{Caps, Copied, CutLine, Instance, NoMemory};
 use separator::line_of;
 use std::alloc::Global;
 
-/// A copy of the last of some cuts that the capacities violate.
+/// A copy of the last of the cuts that the capacities violate.
 pub(crate) fn last_violated(cuts: &[CutLine], caps: &Caps) -> Result<Option<CutLine>, NoMemory>
     requires counts { All (λ cut. length cut.lengths ≡ length caps.now.nums) cuts.now }
     requires few { length caps.now.nums ≤ 256 }
@@ -23,7 +23,7 @@ pub(crate) fn last_violated(cuts: &[CutLine], caps: &Caps) -> Result<Option<CutL
     Ok(None)
 }
 
-/// The cut of a given one's state and lengths, with its right side at the demands, where these make one.
+/// The cut of the given one's state and lengths, with its right side at the demands; `None` if these make none.
 pub(crate) fn known_cut(
     alloc: Global,
     instance: &Instance,

@@ -1,4 +1,4 @@
-//! Whether counts of modules carry the demands in all states, asked of one set of counts after another.
+//! Tests whether counts of modules carry the demands in all states, for one set of counts after another.
 //!
 //! ```text
 //! let mut test = AbleTest::new(alloc, &instance, routings)?;

@@ -3,7 +3,7 @@ ghost use Rattle.std.specs.Prelude.{◌≡◌, ◌+◌, ◌<◌, IfOk, IfSome, l
 use net_core::{Caps, Instance, Link, LinkId, List, NoMemory, NodeId, StateId, Surviving};
 use std::alloc::Global;
 
-/// Adds an amount at a node.
+/// Adds an amount to a node's sum.
 fn add_at(sums: &mut [u128], node: NodeId, amount: u128) {
     let at = node.0 as usize;
     if at < sums.len() {
@@ -11,7 +11,7 @@ fn add_at(sums: &mut [u128], node: NodeId, amount: u128) {
     }
 }
 
-/// What the demands at each node need.
+/// For each node, the sum of the needs of the demands that begin or end there.
 fn needs_at(alloc: Global, instance: &Instance) -> Result<List<u128>, NoMemory> {
     let mut needs = List::filled(alloc, 0, instance.net.nodes().len())?;
     for d in instance.demands.items() {
@@ -21,13 +21,13 @@ fn needs_at(alloc: Global, instance: &Instance) -> Result<List<u128>, NoMemory> 
     Ok(needs)
 }
 
-/// Adds a link's capacity at both its ends.
+/// Adds a link's capacity to the sums of both its ends.
 fn add_link(rooms: &mut [u128], link: &Link, num: u128) {
     add_at(rooms, link.a, num);
     add_at(rooms, link.b, num);
 }
 
-/// What the surviving links at each node have together.
+/// For each node, the sum of the capacities of its surviving links.
 fn rooms_at(alloc: Global, graph: &Surviving, nums: &[u128]) -> Result<List<u128>, NoMemory>
     requires { length nums.now ≡ length graph.now.net.now.links }
 {
@@ -41,7 +41,7 @@ fn rooms_at(alloc: Global, graph: &Surviving, nums: &[u128]) -> Result<List<u128
     Ok(rooms)
 }
 
-/// Whether some room is less than what is needed there.
+/// Whether the links at some node have less capacity than is needed there.
 fn is_short(rooms: &[u128], needs: &[u128]) -> bool {
     for k in 0..needs.len() {
         if k < rooms.len() && rooms[k] < needs[k] {
@@ -51,8 +51,8 @@ fn is_short(rooms: &[u128], needs: &[u128]) -> bool {
     false
 }
 
-/// The first state in which the links of some node have less capacity together than the demands at it need. It takes time in the states
-/// times the links and nodes.
+/// The first state in which the surviving links of some node have less capacity together than the demands at it need. It takes time in
+/// states times links and nodes.
 pub(crate) fn short_state(
     alloc: Global,
     instance: &Instance,

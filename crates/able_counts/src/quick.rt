@@ -9,8 +9,7 @@ use separator::flow_mending::{is_within, mended};
 use separator::line_of;
 use std::alloc::Global;
 
-/// A cut of a set of nodes that capacities violate in a state, where one is found.
-/// It takes time in the cube of the nodes.
+/// A cut of a set of nodes that capacities violate in a state, if one is found. It takes time in the cube of the nodes.
 pub(crate) fn set_stop(alloc: Global, task: &RouteTask) -> Result<Option<Stop>, NoMemory>
     requires { task.now.caps.now.scale ≡ 1 }
     ensures { IfOk result (λ o. IfSome o (IsStopAt (task_case task.now) task.now.caps.now)) }
@@ -21,8 +20,8 @@ pub(crate) fn set_stop(alloc: Global, task: &RouteTask) -> Result<Option<Stop>, 
     }
 }
 
-/// A cut of a set of nodes that capacities violate in a state, unless the routing is within them or can be mended; then it becomes one
-/// within them. It solves no program.
+/// A cut of a set of nodes that capacities violate in a state, if the routing isn't within them and can't be mended. If it can be, it
+/// becomes one within them. No program is solved.
 pub(crate) fn quick_stop(
     alloc: Global,
     task: &RouteTask,

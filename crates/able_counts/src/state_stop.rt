@@ -13,7 +13,7 @@ use separator::warm_routing::{WarmAnswer, WarmRouter};
 use separator::{line_of, separate_state};
 use std::alloc::Global;
 
-/// The number of turns that a kept basis is given.
+/// The number of turns that a kept basis gets.
 const TURNS: u32 = 1_000;
 
 /// The columns of a routing's flows.
@@ -25,7 +25,7 @@ fn columns_of(alloc: Global, flows: &[Flow]) -> Result<List<RouteColumn>, NoMemo
     Ok(columns)
 }
 
-/// What a kept basis finds, as an answer.
+/// The answer that a kept basis has found.
 fn answer_of(found: WarmAnswer) -> RouteAnswer
     ensures { (g : Graph) (demands : Seq Demand) (caps : CapsOf) → IsWarmAnswer g demands caps found → IsFinding g demands caps result }
 {
@@ -35,7 +35,7 @@ fn answer_of(found: WarmAnswer) -> RouteAnswer
     }
 }
 
-/// What a kept basis finds of a task.
+/// What a kept basis finds for a routing task; `None` if it finds nothing in its turns.
 fn route_warm(task: &RouteTask, warm: &mut WarmRouter) -> Result<Option<RouteAnswer>, NoMemory>
     requires { 0 < task.now.caps.now.scale }
     ensures { IfOk result (λ o. IfSome o (IsFinding (graph_of task.now.graph) task.now.demands.now task.now.caps.now)) }
@@ -46,7 +46,8 @@ fn route_warm(task: &RouteTask, warm: &mut WarmRouter) -> Result<Option<RouteAns
     }
 }
 
-/// Whether capacities carry the demands in a state, where a routing program begins with the paths of earlier flows.
+/// Whether capacities carry the demands in a state. The kept basis is asked first, and then a routing program that begins with the paths of
+/// the earlier flows.
 fn route_anew(
     alloc: Global,
     task: &RouteTask,
@@ -69,9 +70,9 @@ fn route_anew(
     separate_state(alloc, &instance, task.graph.state, task.caps, &mut known)
 }
 
-/// Why capacities don't carry the demands in a state; where they do, the routing becomes one within them.
+/// Why capacities don't carry the demands in a state. Where they do, the routing becomes one within them.
 ///
-/// It stays as it is where it is within them, and no program is solved then. Else a program begins with the paths of the routing.
+/// If the routing is within them already, it stays, and no program is solved. Else a program begins with its paths.
 pub(crate) fn state_stop(
     alloc: Global,
     task: &RouteTask,
