@@ -15,10 +15,6 @@ pub record IsOwnAtMost (p : Case) (bound s : ℕ) (lengths : List ℕ) : Type 0 
   pub is_own : IsOwnBound p.links lengths right own
   pub at_most : own ≤ bound
 
--- each of these cuts has an own bound of at most this bound
-abbrev pub AreOwnAtMost : Case → ℕ → List (ℕ × List ℕ) → Type 0
-AreOwnAtMost p bound cuts = All (λ cut. IsOwnAtMost p bound cut.0 cut.1) cuts
-
 -- each opening cut of state s has an own bound of at most this bound
 pub record AreOpeningAtMost (p : Case) (bound s : ℕ) : Type 0 where
   pub lengths : List (List ℕ)
@@ -27,7 +23,7 @@ pub record AreOpeningAtMost (p : Case) (bound s : ℕ) : Type 0 where
 
 -- the bound is at least the own bound of each of the cuts, and of each opening cut
 pub record IsAboveOwnBounds (p : Case) (cuts : List (ℕ × List ℕ)) (bound : ℕ) : Type 0 where
-  pub known : AreOwnAtMost p bound cuts
+  pub known : All (λ cut. IsOwnAtMost p bound cut.0 cut.1) cuts
   pub opening : (s : ℕ) → s ≤ length p.listed → AreOpeningAtMost p bound s
 
 -- ---- the cost
