@@ -52,10 +52,6 @@ pub record IsTrimmedBy (p : Case) (counts : List (List ℕ)) (blocks : List Bloc
 
 -- ---- plans
 
--- the given plan with other counts, cost and routings
-abbrev pub IsPlanButForCounts : Plan → Plan → Type 0
-IsPlanButForCounts given plan = plan ≡ record given { counts = plan.counts; cost = plan.cost; routings = plan.routings }
-
 -- a plan whose routings carry the demands in each state, at the cost of its counts, in form and in lowest terms
 pub record IsRoutedPlan (p : Case) (plan : Plan) : Type 0 where
   pub carrying : IsCarryingPlan p plan
@@ -66,7 +62,7 @@ pub record IsRoutedPlan (p : Case) (plan : Plan) : Type 0 where
 -- The result of trimming a plan: the given plan with other counts, cost and routings, from which no module can be spared. No count is greater, and the cost
 -- isn't either.
 pub record IsTrimming (p : Case) (given : Plan) (t : Trimmed) : Type 0 where
-  pub same : IsPlanButForCounts given t.plan
+  pub same : t.plan ≡ record given { counts = t.plan.counts; cost = t.plan.cost; routings = t.plan.routings }
   pub routed : IsRoutedPlan p t.plan
   pub fewer : AreAtMost t.plan.counts given.counts
   pub cheaper : t.plan.cost ≤ given.cost
