@@ -1,7 +1,7 @@
 -- a transcript of commands has no finding, and the bounds of its plans hold
 use Rattle.std.proofs.Common.{◌≡◌, ◌∙◌, ℕ, ◌+◌, ◌≤◌, ◌++◌, ◌==◌, List, [], ◌∷◌, All, length, get_or, take, drop, sym, ap, subst, arith, refl, ⊎_elim, eq-eqb, length-append, length-take-le, take-append-drop}
 use Rattle.net_core.proofs.Library.{∥∥₁_elim, props, nat_tests, length-map, All-cons, All-nil}
-use Rattle.plan_terms.specs.Terms.{Demand, Entry, Notes, Case, IsAble, total_cost}
+use Rattle.plan_terms.specs.Terms.{Entry, Notes, Case, IsAble, total_cost}
 use Rattle.plan_terms.proofs.Lemmas.{weak_duality}
 use Rattle.plan_types.specs.Terms.{IsCarryingPlan, IsCertifiedPlan, lines_of_certificate}
 use Rattle.plan_types.specs.declared.plan.Plan.{Plan}
@@ -16,7 +16,7 @@ use Rattle.report_checker.specs.Terms.{IsBelowAllAble, SeparatesNamed, case_at, 
 use Rattle.session_script.specs.declared.script.Act.{Act}
 use Rattle.session_script.specs.declared.script.Act.TheVariants as acts
 use Rattle.session_script.specs.declared.script.Command.{Command}
-use Rattle.session_run.specs.Transcripts.{IsNamedSeparation, IsOutcomeAfter, IsPlanBetween, IsTranscript, RunsFrom, acts_of, outcome_caller, outcomes_of}
+use Rattle.session_run.specs.Transcripts.{IsOutcomeAfter, IsPlanBetween, IsSeparationOf, IsTranscript, RunsFrom, acts_of, outcome_caller, outcomes_of}
 use Rattle.session_run.proofs.Counts.{few_entries}
 use Rattle.session_run.proofs.OutcomeForms.{kept_one}
 use Rattle.acceptance.specs.Reports.{IsSoundOutcomeOf, IsSoundPlanOf, IsSoundRefusalOf}
@@ -54,7 +54,7 @@ module _ (p : Case) (notes : Notes) (commands : List Command) (r : Report) (few 
     -- the position of a plan, and the entries before it
     module _ (plan : Plan) (after : IsPlanBetween p (take n es) (take m es) plan) where
       place : plan.position ≡ n
-      place = after.sound.same_position ∙ (after.left.position ∙ length-take-le n es (omega (arith, within, last)))
+      place = after.sound.same_position ∙ (after.position ∙ length-take-le n es (omega (arith, within, last)))
 
       before : take n es ≡ take plan.position es
       before = ap (λ k. take k es) (sym place)
@@ -62,8 +62,8 @@ module _ (p : Case) (notes : Notes) (commands : List Command) (r : Report) (few 
       sound_plan : IsSoundPlanOf p r plan
       sound_plan = record {
         position = let at = place in omega (arith, at, within, last);
-        version = after.sound.same_version ∙ (after.left.version ∙ ap (version_left p) before);
-        demands = after.sound.same_demands ∙ (after.left.demands ∙ ap (demands_left p) before);
+        version = after.sound.same_version ∙ (after.version ∙ ap (version_left p) before);
+        demands = after.sound.same_demands ∙ (after.demands ∙ ap (demands_left p) before);
         carrying = subst (λ es'. IsCarryingPlan (case_left p es') plan) before after.sound.carrying;
         costed = after.sound.costed;
         certified = subst (λ es'. IsCertifiedPlan (case_left p es') plan) before after.sound.certified;
@@ -80,17 +80,16 @@ module _ (p : Case) (notes : Notes) (commands : List Command) (r : Report) (few 
           after.sound.certified.certificate after.sound.certified.rounded
           (subst (λ es'. IsAble (case_left p es') counts) (sym before) able)
 
-    sound_refusal : (version position state : ℕ) (name : List ℕ) → version ≡ version_left p (take n es) → position ≡ length (take n es) → IsNamedSeparation p (take n es) state name
+    sound_refusal : (version position state : ℕ) (name : List ℕ) → version ≡ version_left p (take n es) → position ≡ length (take n es) → IsSeparationOf (case_left p (take n es)) state name
         → IsSoundRefusalOf p r version position state name
     sound_refusal version position state name version_is position_is is =
         let at : position ≡ n = position_is ∙ length-take-le n es (omega (arith, within, last)) in
         let before : take n es ≡ take position es = ap (λ k. take k es) (sym at) in
-        let same : is.first.separates.demand ≡ is.demand = let there = is.first.separates.at in let here = is.at in cc (there, here) in
         record {
           within = omega (arith, at, within, last);
           version_there = version_is ∙ ap (version_left p) before;
           separates = subst (λ es'. SeparatesNamed (case_left p es') state name) before
-              (record { place = is.place; separates = is.first.separates; named = ap (λ (d : Demand). d.name) same ∙ is.named });
+              (record { place = is.place; separates = is.first.separates; named = is.named });
         }
 
     outcome_clean : (o : Outcome) → IsOutcomeAfter p (take n es) (take m es) caller serial o → HoldNone (outcome_findings p r o)

@@ -3,4 +3,4 @@ pub use Rattle.report_checker.specs.Outcomes.{IsBelowAllAble, case_at, outcome_f
 pub use Rattle.report_checker.specs.ReportFindings.{HasNoFinding}
 pub use Rattle.session_run.specs.Terms.{IsSnapshotPlan}
 pub use Rattle.session_run.specs.Transcripts.{IsOutcomeAfter, IsPlanBetween, IsPlanned, IsTranscript, RunsFrom, acts_of, edit_asked, edit_made, outcome_caller}
-pub use Rattle.session_run.specs.Transcripts.{outcomes_of}
+pub use Rattle.session_run.specs.Transcripts.{IsSeparationOf, outcomes_of}

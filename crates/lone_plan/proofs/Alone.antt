@@ -1,12 +1,12 @@
 -- the report of one plan command
-use Rattle.std.proofs.Common.{◌≡◌, ◌≢◌, ◌∙◌, ℕ, zero, suc, ◌≤◌, ◌==◌, ◌++◌, List, [], ◌∷◌, Some, cond, flat_map, if◌then◌else◌, length, refl, slice_get, take, sym, ap, subst, ⊎_elim, Bool, true, false, eq-eqb, ne_eqb}
+use Rattle.std.proofs.Common.{◌≡◌, ◌≢◌, ◌∙◌, ℕ, zero, suc, ◌≤◌, ◌==◌, ◌++◌, List, [], ◌∷◌, cond, flat_map, if◌then◌else◌, length, refl, take, sym, ap, subst, ⊎_elim, Bool, true, false, eq-eqb, ne_eqb}
 use Rattle.net_core.proofs.Library.{cases_eq}
-use Rattle.plan_terms.specs.Terms.{Demand, StateId, Entry, Edited, Pooled, Notes, Case, IsFirstSeparation}
+use Rattle.plan_terms.specs.Terms.{StateId, Entry, Edited, Pooled, Notes, Case}
 use Rattle.plan_report.specs.Terms.{Plan, Outcome, Planned, Unsurvivable, Report}
 use Rattle.cut_pool.specs.Terms.{Dated, demands_left, left_by}
 use Rattle.session_script.specs.declared.script.Act.TheVariants as acts
-use Rattle.acceptance.specs.Terms.{IsOutcomeAfter, IsTranscript, RunsFrom, acts_of, outcome_caller, edit_asked, edit_made, outcomes_of}
-use Rattle.lone_plan.specs.LonePlans.{IsSeparationOf, plan_commands}
+use Rattle.acceptance.specs.Terms.{IsOutcomeAfter, IsSeparationOf, IsTranscript, RunsFrom, acts_of, outcome_caller, edit_asked, edit_made, outcomes_of}
+use Rattle.lone_plan.specs.LonePlans.{plan_commands}
 
 -- ---- callers
 
@@ -104,12 +104,7 @@ module _ (p : Case) (notes : Notes) (r : Report) (t : IsTranscript p notes plan_
   pub refused : (by serial version position : ℕ) (state : StateId) (name : List ℕ) → r.outcomes ≡ Unsurvivable by serial version position state name ∷ [] → IsSeparationOf p state.0 name
   refused by serial version position state name same =
       let found = is_one (Unsurvivable by serial version position state name) same in
-      let named = found.is.4 in
-      let first : IsFirstSeparation p state.0 named.place =
-      subst (λ ds. IsFirstSeparation (record { nodes = p.nodes; links = p.links; listed = p.listed; demands = ds; places = p.places }) state.0 named.place) (unmoved found.n) named.first in
-      let there : slice_get p.demands named.place ≡ Some named.demand = subst (λ ds. slice_get ds named.place ≡ Some named.demand) (unmoved found.n) named.at in
-      let demand : first.separates.demand ≡ named.demand = let here = first.separates.at in cc (here, there) in
-      record { place = named.place; first = first; named = ap (λ (d : Demand). d.name) demand ∙ named.named }
+      subst (λ ds. IsSeparationOf (record { nodes = p.nodes; links = p.links; listed = p.listed; demands = ds; places = p.places }) state.0 name) (unmoved found.n) found.is.4
 
   pub planned : (by serial : ℕ) (plan : Plan) → r.outcomes ≡ Planned by serial plan ∷ [] → r.outcomes ≡ Planned 1 1 plan ∷ []
   planned by serial plan same =

@@ -119,9 +119,12 @@ module _ (p : Case) (notes : Notes) (r : PlannedReport) (counts : List (List ℕ
   plan_between : (n m : ℕ) → IsPlanBetween p (take n r.entries) (take m r.entries) r.plan → IsPlanBetween p (take n r.entries) (take m r.entries) new_plan
   plan_between n m is = record {
     snapshot = is.snapshot;
-    left = is.left;
+    position = is.position;
+    version = is.version;
+    demands = is.demands;
+    pool = is.pool;
     sound = snapshot_plan_kept (case_left p (take n r.entries)) is.snapshot (take m r.entries) r.plan counts cost routings
-        (is.sound.same_demands ∙ is.left.demands)
+        (is.sound.same_demands ∙ is.demands)
         (subst (λ (q : Case). IsSoundDesign q new_plan) (same_case n) design)
         lowest cheaper is.sound;
   }

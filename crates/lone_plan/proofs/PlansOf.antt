@@ -65,7 +65,7 @@ module _ (p : Case) (notes : Notes) (r : PlannedReport) (t : IsTranscript p note
       ∥∥₁_map run.5.2 (λ (is : IsPlanBetween p (take run.0 r.entries) (take run.1 r.entries) r.plan).
       let same = unmoved p notes (whole_report r) t run.0 in
       record {
-        demands = is.sound.same_demands ∙ (is.left.demands ∙ same);
+        demands = is.sound.same_demands ∙ (is.demands ∙ same);
         carrying = subst (λ (ds : List Demand). IsCarryingPlan (record { nodes = p.nodes; links = p.links; listed = p.listed; demands = ds; places = p.places }) r.plan) same is.sound.carrying;
         costed = is.sound.costed;
         lowest = is.sound.lowest.routings;

@@ -1,12 +1,12 @@
 -- the result of one plan command
-use Rattle.std.specs.Prelude.{◌≡◌, ℕ, ◌<◌, ◌^◌, List, [], ◌∷◌}
-use Rattle.plan_terms.specs.Terms.{Notes, Routing, Case, AreCounts, AreWithinLimits, IsFirstSeparation}
+use Rattle.std.specs.Prelude.{ℕ, ◌<◌, ◌^◌, List, [], ◌∷◌}
+use Rattle.plan_terms.specs.Terms.{Notes, Routing, Case, AreCounts, AreWithinLimits}
 use Rattle.plan_types.specs.Terms.{IsCarryingPlan, IsCostedPlan}
 use Rattle.plan_types.specs.declared.report.Outcome.TheVariants as outcome
 use Rattle.plan_report.specs.Terms.{AreRoutingsInForm, known_to, Plan, Report}
 use Rattle.session_script.specs.declared.script.Act.TheVariants as act
 use Rattle.session_script.specs.declared.script.Command.{Command}
-use Rattle.acceptance.specs.Terms.{IsTranscript}
+use Rattle.acceptance.specs.Terms.{IsSeparationOf, IsTranscript}
 use Rattle.lone_plan.specs.declared.lone.LonePlan.{LonePlan}
 use Rattle.lone_plan.specs.declared.lone.LonePlan.TheVariants.{Planned, Separated}
 use Rattle.lone_plan.specs.declared.planned_report.PlannedReport.{PlannedReport}
@@ -19,13 +19,7 @@ plan_commands = record { caller = 1; act = act.Plan } ∷ []
 abbrev pub whole_report : PlannedReport → Report
 whole_report r = record { notes = r.notes; entries = r.entries; pool = r.pool; outcomes = outcome.Planned 1 1 r.plan ∷ [] }
 
--- the first state that separates a demand with a need, and the name of the first such demand
-pub record IsSeparationOf (p : Case) (state : ℕ) (name : List ℕ) : Type 0 where
-  pub place : ℕ
-  pub first : IsFirstSeparation p state place
-  pub named : first.separates.demand.name ≡ name
-
--- a plan, whose report is a transcript of one plan command; or the first separation
+-- a plan, whose report is a transcript of one plan command, or the first separation
 abbrev pub IsLoneAnswer : Case → Notes → LonePlan → Type 0
 IsLoneAnswer p notes (Planned r) = IsTranscript p notes plan_commands (whole_report r)
 IsLoneAnswer p notes (Separated state demand) = IsSeparationOf p state.0 demand
@@ -34,23 +28,11 @@ IsLoneAnswer p notes (Separated state demand) = IsSeparationOf p state.0 demand
 
 -- the plan with other counts, another cost and other routings, and otherwise as it is
 abbrev pub redesigned_plan : Plan → List (List ℕ) → ℕ → List Routing → Plan
-redesigned_plan plan counts cost routings = record {
-  version = plan.version;
-  position = plan.position;
-  demands = plan.demands;
-  counts = counts;
-  cost = cost;
-  routings = routings;
-  certificate = plan.certificate;
-  raw_num = plan.raw_num;
-  raw_den = plan.raw_den;
-  bound = plan.bound;
-  quality = plan.quality;
-}
+redesigned_plan plan counts cost routings = record plan { counts = counts; cost = cost; routings = routings }
 
 -- the report with that plan in the place of its own
 abbrev pub redesigned : PlannedReport → List (List ℕ) → ℕ → List Routing → PlannedReport
-redesigned r counts cost routings = record { notes = r.notes; entries = r.entries; pool = r.pool; plan = redesigned_plan r.plan counts cost routings }
+redesigned r counts cost routings = record r { plan = redesigned_plan r.plan counts cost routings }
 
 -- the plan's design is sound: its counts and routings are in form, the routings carry the demands in each state, and the cost is that of the counts
 pub record IsSoundDesign (p : Case) (plan : Plan) : Type 0 where

@@ -76,7 +76,7 @@ module _ (p : Case) (es : List Entry) (lines : List CutLine) (few : length es �
     outcome_form n m serial (Planned by number plan) le first last short is =
         ∥∥₁_elim is.2 (outcome_prop (known_to p) lines (Planned by number plan)) (λ after.
         record {
-          command = head_form by serial number plan.version n is.0 is.1 first last le (after.sound.same_version ∙ after.left.version) plan.position (after.sound.same_position ∙ after.left.position);
+          command = head_form by serial number plan.version n is.0 is.1 first last le (after.sound.same_version ∙ after.version) plan.position (after.sound.same_position ∙ after.position);
           plan = after.sound.form;
           pooled = λ k d lt. of_pool m _ _ (after.sound.spots k d lt);
         })

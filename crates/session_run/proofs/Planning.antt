@@ -6,7 +6,7 @@ use Rattle.plan_types.specs.declared.report.Outcome.{Outcome}
 use Rattle.planner.specs.Terms.{IsWorkedAlone, IsWorkedPool}
 use Rattle.cut_pool.specs.declared.board.Board.{Board}
 use Rattle.cut_pool.specs.declared.snapshot.Snapshot.{Snapshot}
-use Rattle.cut_pool.specs.Terms.{IsSnapshotOf, opening_case, origin_of, cuts_of, case_left}
+use Rattle.cut_pool.specs.Terms.{IsSnapshotOf, opening_case, origin_of, cuts_of, demands_left, case_left}
 use Rattle.separation_workers.specs.Terms.{SeesMore}
 use Rattle.planner.specs.declared.answer.PlanAnswer.{PlanAnswer}
 use Rattle.planner.specs.declared.answer.PlanAnswer.TheVariants.{Planned, NotSurvivable}
@@ -83,23 +83,23 @@ module _ (p q : Case) (asked : Asked) (old new : Seen Entry) (snapshot : Snapsho
         refl,
         ∥∥₁_elim here.pool (hlevel props) (λ pool. ∥∥₁_map planned (λ sound. record {
           snapshot = snapshot;
-          left = record { position = here.position; version = here.version; demands = here.demands; pool = pool };
+          position = here.position;
+          version = here.version;
+          demands = here.demands;
+          pool = pool;
           sound = subst (λ r. IsSnapshotPlan r snapshot seen_now plan) same sound;
         })),
       )
   outcome_made (NotSurvivable s demands) o found is =
+      let first : IsFirstSeparation (case_left p seen) s.state.0 s.demand = subst (λ r. IsFirstSeparation r s.state.0 s.demand) same found.0 in
+      let there : slice_get (demands_left p seen) s.demand ≡ Some is.0 = subst (λ ds. slice_get ds s.demand ≡ Some is.0) (found.2 ∙ here.demands) is.1 in
+      let demand : first.separates.demand ≡ is.0 = let own = first.separates.at in cc (own, there) in
       subst (IsOutcomeAfter p seen seen_now asked.caller asked.serial) (sym is.2) (
         refl,
         refl,
         here.version,
         here.position,
-        record {
-          place = s.demand;
-          first = subst (λ r. IsFirstSeparation r s.state.0 s.demand) same found.0;
-          demand = is.0;
-          at = subst (λ ds. slice_get ds s.demand ≡ Some is.0) (found.2 ∙ here.demands) is.1;
-          named = refl;
-        },
+        record { place = s.demand; first = first; named = ap (λ (d : Demand). d.name) demand },
       )
 
   pool_made : (answer : PlanAnswer) (o : Outcome) → PoolsAlone q old new answer → IsOutcomeFor asked snapshot.version snapshot.position answer o

@@ -78,7 +78,7 @@ caller_is p before after caller serial (Planned by number plan) is = is.0
 caller_is p before after caller serial (Unsurvivable by number version position state demand) is = is.0
 
 position_is : (p : Case) (before after : List Entry) (caller serial : ℕ) (o : Outcome) → IsOutcomeAfter p before after caller serial o → outcome_position o ≡ length before
-position_is p before after caller serial (Planned by number plan) is = ∥∥₁_elim is.2 (hlevel props) (λ between. between.sound.same_position ∙ between.left.position)
+position_is p before after caller serial (Planned by number plan) is = ∥∥₁_elim is.2 (hlevel props) (λ between. between.sound.same_position ∙ between.position)
 position_is p before after caller serial (Unsurvivable by number version position state demand) is = is.3
 
 pub outcomes_own : (outcomes : List Outcome) (o : Outcome) (caller : ℕ) → outcome_caller o ≡ caller → outcomes_of caller (outcomes ++ o ∷ []) ≡ outcomes_of caller outcomes ++ o ∷ []

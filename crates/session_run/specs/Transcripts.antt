@@ -1,6 +1,6 @@
 -- transcripts of scripts: what the report of a session has to be
 use Rattle.std.specs.Prelude.{◌≡◌, ℕ, ◌+◌, ◌≤◌, ◌==◌, List, [], ◌∷◌, All, AllPairs, Some, filter, flat_map, if◌then◌else◌, length, slice_get, take}
-use Rattle.plan_terms.specs.Terms.{Demand, Edit, Entry, Edited, Pooled, Reply, Notes, Case, IsFirstSeparation}
+use Rattle.plan_terms.specs.Terms.{Edit, Entry, Edited, Pooled, Reply, Notes, Case, IsFirstSeparation}
 use Rattle.plan_types.specs.Terms.{outcome_position}
 use Rattle.plan_report.specs.Terms.{known_to, IsReportInForm, Plan, Outcome, Planned, Unsurvivable, Report}
 use Rattle.cut_pool.specs.declared.snapshot.Snapshot.{Snapshot}
@@ -49,26 +49,21 @@ pub record IsOnePlan (commands : List Command) : Type 0 where
 
 -- ---- outcomes at their places
 
--- the snapshot of the entries: their number, and the version, the demands and the pool that they leave
-pub record IsSnapshotLeft (p : Case) (entries : List Entry) (snapshot : Snapshot) : Type 0 where
-  pub position : snapshot.position ≡ length entries
-  pub version : snapshot.version ≡ version_left p entries
-  pub demands : snapshot.demands ≡ demands_left p entries
-  pub pool : IsPoolAfter p entries snapshot.cuts
-
--- a sound plan of the snapshot that the entries `before` leave, made by the time that the entries are `after`
+-- a sound plan of the snapshot of the entries `before`, made by the time that the entries are `after`: the snapshot has their number, and
+-- the version, the demands and the pool that they leave
 pub record IsPlanBetween (p : Case) (before after : List Entry) (plan : Plan) : Type 0 where
   pub snapshot : Snapshot
-  pub left : IsSnapshotLeft p before snapshot
+  pub position : snapshot.position ≡ length before
+  pub version : snapshot.version ≡ version_left p before
+  pub demands : snapshot.demands ≡ demands_left p before
+  pub pool : IsPoolAfter p before snapshot.cuts
   pub sound : IsSnapshotPlan (case_left p before) snapshot after plan
 
--- the first separation of the demands that entries leave, by the demand's name
-pub record IsNamedSeparation (p : Case) (entries : List Entry) (state : ℕ) (name : List ℕ) : Type 0 where
+-- the first state that separates a demand which has a need, and the name of the first such demand
+pub record IsSeparationOf (p : Case) (state : ℕ) (name : List ℕ) : Type 0 where
   pub place : ℕ
-  pub first : IsFirstSeparation (case_left p entries) state place
-  pub demand : Demand
-  pub at : slice_get (demands_left p entries) place ≡ Some demand
-  pub named : demand.name ≡ name
+  pub first : IsFirstSeparation p state place
+  pub named : first.separates.demand.name ≡ name
 
 -- The outcome is that of the caller's plan command of this serial: a sound plan of what the entries `before` leave, whose cuts are in the
 -- entries `after`, which begin with those, unless there is no room; or the first separation of the demands that `before` leaves.
@@ -76,7 +71,7 @@ abbrev pub IsOutcomeAfter : Case → List Entry → List Entry → ℕ → ℕ �
 IsOutcomeAfter p before after caller serial (Planned by number plan) =
     (by ≡ caller) × (number ≡ serial) × ∥ IsPlanBetween p before after plan ∥₁
 IsOutcomeAfter p before after caller serial (Unsurvivable by number version position state demand) =
-    (by ≡ caller) × (number ≡ serial) × (version ≡ version_left p before) × (position ≡ length before) × IsNamedSeparation p before state.0 demand
+    (by ≡ caller) × (number ≡ serial) × (version ≡ version_left p before) × (position ≡ length before) × IsSeparationOf (case_left p before) state.0 demand
 
 -- A caller's acts one after another, none before position `at`. Each edit is in the journal. Each plan command has the next outcome, at a
 -- position between the caller's earlier and later commands and after the cuts that its earlier plans name. There are n entries before an
