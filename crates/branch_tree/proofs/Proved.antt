@@ -6,13 +6,13 @@ use Rattle.plan_types.specs.Terms.{IsCertifiedPlan}
 use Rattle.plan_types.specs.declared.plan.Plan.{Plan}
 use Rattle.box_search.specs.Terms.{IsCheaperPlan, BoxCert, Node, Split, Closed, Empty, Spent, Stuck, Proof, Verdict, is_split, HasPlanValue, IsSettledNode}
 use Rattle.box_search.specs.Terms.{IsTwigOf, node_of}
-use Rattle.tree_check.specs.Terms.{whole_box, HasBoxValue, HasOpenValue, HoldAllNodes, HoldsNode, IsOpenAt, VerdictFollows, IsWhole, TreeBox, boxes_left, sides_of, Inequality, Line, Tested}
+use Rattle.tree_check.specs.Terms.{whole_box, HasBoxValue, HasOpenValue, HoldAllNodes, HoldsNode, IsNodeOf, IsOpenAt, VerdictFollows, IsWhole, TreeBox, boxes_left, sides_of, Inequality, Line, Tested}
 use Rattle.tree_check.specs.declared.proof.Verdict.TheVariants.{Cheapest, Above}
 use Rattle.line_check.specs.Terms.{NamesLine, sources_of, AreTested, names_by}
 use Rattle.box_search.specs.Terms.{cuts_among, lines_among, moved_certificate, moved_line, moved_node, place_of, source_of, Entry}
 use Rattle.box_search.proofs.Lemmas.{names_are_kept}
 use Rattle.branch_tree.specs.FewSplits.{IsCheapNode, split_number}
-use Rattle.branch_tree.specs.Proving.{HasNodeCause, HasOpenLeaf, HaveNodeCauses, IsCertificateOfLeaves, IsProofOf}
+use Rattle.branch_tree.specs.Proving.{HasNodeCause, IsCertificateOfLeaves, IsProofOf}
 use Rattle.branch_tree.specs.inner.Growing.{IsGrowing}
 use Rattle.branch_tree.specs.inner.Places.{AreSettled, AreTwigsOf, twig_sides, twig_splits}
 use Rattle.branch_tree.specs.inner.Showing.{all_shown, verdict_of}
@@ -269,7 +269,7 @@ module _ (p : Case) (plan : Plan) (handed : List CutLine) (entries : List Entry)
           (λ (closed : shown.unsettled ≡ false). subst (λ (v : Verdict). VerdictFollows p proof_of v) (sym (verdict_closed shown closed)) (follows_closed closed))
           (cases_Bool shown.unsettled)
 
-      told : ((least : ℕ) × (verdict_of shown ≡ Above least)) ↔ HasOpenLeaf p proof_of
+      told : ((least : ℕ) × (verdict_of shown ≡ Above least)) ↔ ((i : ℕ) × (value : ℕ) × IsOpenAt p proof_of i value)
       told = (
         λ h. let s = some_open (open_is h.0 h.1).0 in (s.i, s.value, (leaf_at s.i s.value s.place).leaf),
         λ h. let opened = (at_most_each (record { unsettled = false; least = plan.cost }) twigs h.0 h.1 (place_of_leaf h.0 h.1 h.2)).1 in (shown.least, verdict_open shown opened),
@@ -298,7 +298,8 @@ module _ (p : Case) (plan : Plan) (handed : List CutLine) (entries : List Entry)
           let le = open_least certified l.leaf.box l.of least l.here l.opened worth.0 worth.1 in
           omega (arith, worth.2, le)
 
-      causes : (limit : ℕ) → AreSettled twigs ⊎ (n ≡ limit) → HaveNodeCauses p handed limit proof_of
+      causes : (limit : ℕ) → AreSettled twigs ⊎ (n ≡ limit) → (i : ℕ) (box : TreeBox) (node : Node)
+          → IsNodeOf p.links proof_of.tree i box node → HasNodeCause p proof_of.plan handed limit proof_of.tree box node
       causes limit ends i box node is_node =
           let there = twig_at node_told (told_sides (place_of entries)) known (whole_box p.links ∷ []) twigs i box is_node.later node growing.placed is_node.at is_node.next in
           let splits = growing.splits in

@@ -4,9 +4,9 @@ use Rattle.std.specs.List.{AllByRecursion, AllZip}
 use Rattle.net_core.proofs.Library.{recursion_from_All, length-replicate, sum_by-cons, le-div}
 use Rattle.plan_terms.specs.Terms.{Link, Module}
 use Rattle.tree_check.specs.Terms.{IsSplitOf, any_count, beyond, lower_side, span_at, spans_of, up_to, upper_side, whole_box, module_costs, TreeBox, boxes_left, sides_of}
-use Rattle.line_check.specs.Inequalities.{entry}
+use Rattle.line_check.specs.Terms.{entry, divided_up}
 use Rattle.box_search.specs.Terms.{Span, Node, Split, Closed, Empty, Spent, Stuck, is_split}
-use Rattle.branch_tree.specs.FewSplits.{IsCheapSplit, SplitsAreFew, modules_room, numbers_below, split_number, split_room}
+use Rattle.branch_tree.specs.FewSplits.{IsCheapSplit, SplitsAreFew, modules_room, split_number, split_room}
 
 -- numbers below the least of a greatest count, if there is one, and a number
 abbrev numbers_up_to : Option ℕ → ℕ → ℕ
@@ -15,7 +15,7 @@ numbers_up_to (Some most) all = min most all
 
 -- one more than how many numbers of a span cost less than the plan
 abbrev span_room : ℕ → ℕ → Span → ℕ
-span_room cost each s = (numbers_up_to s.most (numbers_below cost each) - s.least) + 1
+span_room cost each s = (numbers_up_to s.most (divided_up cost each) - s.least) + 1
 
 abbrev spans_room : ℕ → List Module → List Span → ℕ
 spans_room cost [] ss = 1
@@ -32,7 +32,7 @@ abbrev HasShape : List Link → TreeBox → Type 0
 HasShape links box = AllZip (λ l ss. length ss ≡ length l.modules) links box
 
 -- what costs less than the plan is below the number
-below : (cost each a : ℕ) → 0 < each → each * a < cost → a < numbers_below cost each
+below : (cost each a : ℕ) → 0 < each → each * a < cost → a < divided_up cost each
 below cost each a some cheap = le-div (suc a) (cost + each - 1) each some (omega (arith, some, cheap))
 
 -- a number that is split at parts a span's numbers
@@ -43,7 +43,7 @@ numbers_part all a least (Some most) from lt under = omega (arith, from, lt, und
 
 span_part : (cost each a : ℕ) (s : Span) → 0 < each → each * a < cost → s.least ≤ a → IfSome s.most (λ n. a < n)
     → span_room cost each (up_to a s) + span_room cost each (beyond a s) ≡ span_room cost each s
-span_part cost each a s some cheap from under = numbers_part (numbers_below cost each) a s.least s.most from (below cost each a some cheap) under
+span_part cost each a s some cheap from under = numbers_part (divided_up cost each) a s.least s.most from (below cost each a some cheap) under
 
 product_part : (r x y z : ℕ) → x + y ≡ z → r * x + r * y ≡ r * z
 product_part r x y z e = sym (mul-add r x y) ∙ ap (λ w. r * w) e
@@ -88,14 +88,14 @@ box_room_some cost [] box = omega arith
 box_room_some cost (l ∷ ls) [] = omega arith
 box_room_some cost (l ∷ ls) (ss ∷ box) = times_some (spans_room cost l.modules ss) (box_room cost ls box) (spans_room_some cost l.modules ss) (box_room_some cost ls box)
 
-any_room : (cost each : ℕ) → span_room cost each any_count ≡ numbers_below cost each + 1
+any_room : (cost each : ℕ) → span_room cost each any_count ≡ divided_up cost each + 1
 any_room cost each = omega arith
 
 spans_whole : (cost : ℕ) (ms : List Module) → spans_room cost ms (replicate (length ms) any_count) ≡ modules_room cost ms
 spans_whole cost [] = refl
 spans_whole cost (m ∷ ms) =
     ap (λ w. w * spans_room cost ms (replicate (length ms) any_count)) (any_room cost m.cost)
-    ∙ ap (λ w. (numbers_below cost m.cost + 1) * w) (spans_whole cost ms)
+    ∙ ap (λ w. (divided_up cost m.cost + 1) * w) (spans_whole cost ms)
 
 box_whole : (cost : ℕ) (links : List Link) → box_room cost links (whole_box links) ≡ split_room cost links
 box_whole cost [] = refl

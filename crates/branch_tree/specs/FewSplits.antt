@@ -1,22 +1,19 @@
 -- how many splits a branch tree has at most
-use Rattle.std.specs.Prelude.{ℕ, ◌+◌, ◌-◌, ◌*◌, ◌/◌, ◌<◌, List, [], ◌∷◌, All, count_by, length}
+use Rattle.std.specs.Prelude.{ℕ, ◌+◌, ◌*◌, ◌<◌, List, [], ◌∷◌, All, count_by, length}
 use Rattle.plan_terms.specs.Terms.{Link, Module}
 use Rattle.tree_check.specs.Terms.{IsSplitOf, IsNodeOf, TreeBox, module_costs}
-use Rattle.line_check.specs.Inequalities.{entry}
+use Rattle.line_check.specs.Terms.{entry, divided_up}
 use Rattle.box_search.specs.Terms.{Node, Split, is_split}
 
 -- the number of splits of a tree
 abbrev pub split_number : List Node → ℕ
 split_number tree = count_by is_split tree
 
--- how many whole numbers there are that cost less than the plan, at so much for each: the plan's cost over it, rounded up
-abbrev pub numbers_below : ℕ → ℕ → ℕ
-numbers_below cost each = (cost + each - 1) / each
-
--- one more than these, multiplied over the modules of a link
+-- the product, over the modules of a link, of one more than how many of a module cost less than the plan: the plan's cost over the module's,
+-- rounded up
 abbrev pub modules_room : ℕ → List Module → ℕ
 modules_room cost [] = 1
-modules_room cost (m ∷ modules) = (numbers_below cost m.cost + 1) * modules_room cost modules
+modules_room cost (m ∷ modules) = (divided_up cost m.cost + 1) * modules_room cost modules
 
 -- and over the modules of all links
 abbrev pub split_room : ℕ → List Link → ℕ

@@ -21,16 +21,6 @@ HasNodeCause p plan handed limit tree box (Spent cert) =
 HasNodeCause p plan handed limit tree box (Stuck cert evidence) = IsWideSomewhere p (whole_caps (capacities p.links (least_counts box))) evidence
 HasNodeCause p plan handed limit tree box _ = Unit {0}
 
--- each node of the tree has its cause
-abbrev pub HaveNodeCauses : Case → List CutLine → ℕ → Proof → Type 0
-HaveNodeCauses p handed limit proof = (i : ℕ) (box : TreeBox) (node : Node)
-    → IsNodeOf p.links proof.tree i box node
-    → HasNodeCause p proof.plan handed limit proof.tree box node
-
--- some leaf is open
-abbrev pub HasOpenLeaf : Case → Proof → Type 0
-HasOpenLeaf p proof = (i : ℕ) × (value : ℕ) × IsOpenAt p proof i value
-
 -- the plan's certificate, read as one of boxes, is one for the box of each open leaf
 abbrev pub IsCertificateOfLeaves : Case → Proof → Type 0
 IsCertificateOfLeaves p proof = (i value : ℕ) (leaf : IsOpenAt p proof i value)
@@ -48,9 +38,9 @@ pub record IsProofOf (p : Case) (given : Plan) (handed : List CutLine) (limit : 
   pub accepted : IsAcceptedProof p proof
   pub within : split_number proof.tree ≤ limit
   pub fewer : AreCharged p.links → split_number proof.tree < split_room proof.plan.cost p.links
-  pub causes : HaveNodeCauses p handed limit proof
+  pub causes : (i : ℕ) (box : TreeBox) (node : Node) → IsNodeOf p.links proof.tree i box node → HasNodeCause p proof.plan handed limit proof.tree box node
   pub below : (i value : ℕ) → IsOpenAt p proof i value → value < proof.plan.cost
-  pub told : ((least : ℕ) × (proof.verdict ≡ Above least)) ↔ HasOpenLeaf p proof
+  pub told : ((least : ℕ) × (proof.verdict ≡ Above least)) ↔ ((i : ℕ) × (value : ℕ) × IsOpenAt p proof i value)
   pub bounded : (least : ℕ) → proof.verdict ≡ Above least → IsCertificateOfLeaves p proof → proof.plan.bound ≤ least
 
 -- ---- what it shows
