@@ -14,13 +14,9 @@ use Rattle.proof_report.specs.declared.ending.ProvedReport.{ProvedReport}
 
 -- ---- texts
 
--- the report with this plan
-abbrev pub report_with : ProvedReport → Plan → PlannedReport
-report_with r plan = record { notes = r.notes; entries = r.entries; pool = r.pool; plan = plan }
-
 -- the report with the proof's plan
 abbrev pub proved_report : ProvedReport → PlannedReport
-proved_report r = report_with r r.proof.plan
+proved_report r = record { notes = r.notes; entries = r.entries; pool = r.pool; plan = r.proof.plan }
 
 -- the comment lines of a proof of the case
 abbrev pub proof_text : Case → Proof → List ℕ
@@ -55,7 +51,7 @@ pub record IsLinedReport (p : Case) (notes : Notes) (limit : ℕ) (r : ProvedRep
   pub transcript : IsTranscript p notes plan_commands (whole_report (proved_report r))
   pub acceptable : IsAcceptable p notes (whole_report (proved_report r))
   pub given : Plan
-  pub trimmed : IsTrimmedOnce p notes (report_with r given)
+  pub trimmed : IsTrimmedOnce p notes (record (proved_report r) { plan = given })
   pub handed : List CutLine
   pub begun : AreHandedIn r.pool (certificate_cuts given.certificate) handed
   pub proved : IsProofOf p given handed limit r.proof
