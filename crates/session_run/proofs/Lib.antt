@@ -1,4 +1,3 @@
-mod Acts
 pub mod Callers
 mod Closing
 pub mod Counts

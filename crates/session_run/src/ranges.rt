@@ -1,19 +1,7 @@
 ghost use Rattle.std.specs.Prelude.{All};
 ghost use Rattle.session_run.specs.inner.Ranges.{IsShortNamed};
-ghost use Rattle.plan_terms.specs.Terms.{HasShortLengths};
 
-use net_core::CutLine;
 use plan_types::Outcome;
-use planner::ranges::are_short;
-
-/// The lengths of each line are below 2^32 by their type, which a proof learns by this call. It takes time in the number of lines.
-pub fn have_short_lengths(lines: &[CutLine])
-    ensures { All HasShortLengths lines.now }
-{
-    for line in lines {
-        are_short(line.lengths.items());
-    }
-}
 
 /// A name has at most 255 bytes by its type, also one in an outcome, which a proof learns by this call.
 fn is_short_named(outcome: &Outcome)

@@ -6,10 +6,11 @@ ghost use Rattle.session_script.specs.Terms.{IsScript};
 ghost use Rattle.session_run.specs.Transcripts.{IsTranscript, outcome_caller, outcomes_of};
 ghost use Rattle.session_run.specs.inner.Running.{HaveRun, all_own};
 
-use crate::ranges::{are_short_named, have_short_lengths};
+use crate::ranges::are_short_named;
 use cut_pool::Board;
 use net_core::{CutLine, Entry, List, Network, NoMemory, discard};
 use plan_types::{Outcome, Report};
+use planner::ranges::are_short_cuts;
 use session_script::Command;
 use std::alloc::Global;
 use std::thread::Threads;
@@ -48,7 +49,7 @@ fn journal_and_pool<R: Threads + Sync>(
     let entries = List::from_slice(alloc, board.entries())?;
     match board.audited_lines(rt) {
         Ok(pool) => {
-            have_short_lengths(pool.items());
+            are_short_cuts(pool.items());
             Ok((entries, pool))
         }
         Err(no_memory) => {

@@ -9,4 +9,4 @@ pub returns-in-Ok-clause-pool : goal.returns-in-Ok-clause-pool
 returns-in-Ok-clause-pool g c = c.in-Ok.ensures
 
 pub returns-in-Ok-clause-short : goal.returns-in-Ok-clause-short
-returns-in-Ok-clause-short g c = subst (All HasShortLengths) c.items.ensures c.have_short_lengths.ensures
+returns-in-Ok-clause-short g c = subst (All HasShortLengths) c.items.ensures c.are_short_cuts.ensures
