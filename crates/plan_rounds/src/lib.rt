@@ -25,3 +25,4 @@ mod wide_rounds;
 pub use master_bound;
 pub use rounds::{Worked, work_rounds};
 pub use separator;
+pub use sorted_answers::are_short;

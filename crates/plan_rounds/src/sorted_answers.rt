@@ -18,8 +18,8 @@ pub struct Answered {
     pub wide: Option<Evidence>,
 }
 
-/// Lengths are below 2^32 by their type.
-fn are_short(lengths: &[u32])
+/// Lengths are below 2^32 by their type. It looks at none.
+pub fn are_short(lengths: &[u32])
     ensures { All (λ x. x < 2 ^ 32) lengths.now }
 {
     let _ = lengths;
