@@ -1,14 +1,8 @@
-ghost use Rattle.std.specs.Prelude.{◌<◌, ◌≤◌, ◌^◌, All, length};
+ghost use Rattle.std.specs.Prelude.{◌≤◌, All, length};
 ghost use Rattle.plan_terms.specs.Terms.{HasShortLengths};
 
 use net_core::{CutLine, Demand};
-
-/// Lengths are below 2^32 by their type, which a proof learns by this call. It takes constant time.
-pub fn are_short(lengths: &[u32])
-    ensures { All (λ x. x < 2 ^ 32) lengths.now }
-{
-    let _ = lengths;
-}
+use plan_rounds::are_short;
 
 /// The lengths of cuts are below 2^32 by their type, which a proof learns by this call. It takes time in the number of cuts.
 pub fn are_short_cuts(cuts: &[CutLine])
@@ -19,8 +13,8 @@ pub fn are_short_cuts(cuts: &[CutLine])
     }
 }
 
-/// Names of demands have at most 255 bytes by their type, which a proof learns by this call. It takes time in the number of demands.
-pub fn are_named(demands: &[Demand])
+/// A name has at most 255 bytes by its type. It takes time in the number of demands.
+pub(crate) fn are_named(demands: &[Demand])
     ensures { All (λ d. length d.name ≤ 255) demands.now }
 {
     for d in demands {
