@@ -1,21 +1,13 @@
 -- routings that are kept or become ones within other capacities
-use Rattle.std.proofs.Common.{◌≡◌, ◌∙◌, ℕ, zero, suc, ◌+◌, ◌≤◌, ◌<◌, ◌⊎◌, inl, inr, ⊎_elim, List, [], ◌∷◌, All, None, Some, Option, IfSome, length, slice_get, refl, sym, ap, subst, arith, set, length-set}
-use Rattle.net_core.proofs.Library.{cases_lt, slice_get_within, some_same}
+use Rattle.std.proofs.Common.{◌≡◌, ◌∙◌, ℕ, ◌+◌, ◌≤◌, ◌<◌, ◌⊎◌, inl, inr, ⊎_elim, List, All, Some, Option, IfSome, length, slice_get, refl, sym, subst, arith}
+use Rattle.net_core.proofs.Library.{cases_lt, slice_get_within}
 use Rattle.plan_terms.specs.Terms.{Caps, CutLine, Routing, Case, graph_in, AreDemands, Joins, IsCut, Carries, IsSurvivable}
 use Rattle.route_law.specs.Terms.{AreJoined}
 use Rattle.separator.specs.Terms.{IsRouted}
 use Rattle.able_counts.proofs.FoundForms.{routing_found}
-use Rattle.able_counts.specs.AbleTests.{AreKeptOrWithin, AreRoutingsWithin, IsRoutingOf, IsRoutingWithin, IsStopAt}
+use Rattle.able_counts.specs.AbleTests.{AreKeptOrWithin, AreRoutingsWithin, IsRoutingWithin, IsStopAt}
 use Rattle.able_counts.specs.declared.stop.Stop.{Stop}
 use Rattle.able_counts.specs.declared.stop.Stop.TheVariants as stop
-
--- what is read of a list after one of its items is written
-pub get_set : {X : Type 0} (xs : List X) (i k : ℕ) (y x : X) → slice_get (set xs i y) k ≡ Some x → ((k ≡ i) × (x ≡ y)) ⊎ (slice_get xs k ≡ Some x)
-get_set [] i k y x at = absurd (let e : None ≡ Some x = at in cc e)
-get_set (z ∷ xs) zero zero y x at = inl (refl, sym (some_same y x at))
-get_set (z ∷ xs) zero (suc k) y x at = inr at
-get_set (z ∷ xs) (suc i) zero y x at = inr at
-get_set (z ∷ xs) (suc i) (suc k) y x at = ⊎_elim (λ h. inl (ap suc h.0, h.1)) (λ h. inr h) (get_set xs i k y x at)
 
 module _ (p : Case) (nums : List ℕ) where
   pub kept_none : (a : List Routing) → AreKeptOrWithin p nums a a
@@ -23,22 +15,6 @@ module _ (p : Case) (nums : List ℕ) where
 
   pub kept_both : (a b c : List Routing) → AreKeptOrWithin p nums a b → AreKeptOrWithin p nums b c → AreKeptOrWithin p nums a c
   kept_both a b c one two = record { same = two.same ∙ one.same; each = λ s r at. ⊎_elim (λ old. one.each s r old) (λ within. inr within) (two.each s r at) }
-
-  -- a routing of state s is kept, or becomes one within the capacities
-  pub kept_set : (a : List Routing) (s : ℕ) (old new : Routing) → slice_get a s ≡ Some old → (new ≡ old) ⊎ IsRoutingWithin p s nums new → AreKeptOrWithin p nums a (set a s new)
-  kept_set a s old new here is = record {
-    same = length-set a s new;
-    each = λ k r at. ⊎_elim
-        (λ (h : (k ≡ s) × (r ≡ new)). subst (λ n. (slice_get a n ≡ Some r) ⊎ IsRoutingWithin p n nums r) (sym h.0)
-        (⊎_elim (λ same. inl (here ∙ ap (λ x. Some x) (sym (h.1 ∙ same)))) (λ within. inr (subst (IsRoutingWithin p s nums) (sym h.1) within)) is))
-        (λ h. inl h)
-        (get_set a s k new r at);
-  }
-
-  -- each is still a routing of its state
-  pub routings_kept : (a b : List Routing) → ((s : ℕ) (r : Routing) → slice_get a s ≡ Some r → IsRoutingOf p s r) → AreKeptOrWithin p nums a b
-      → (s : ℕ) (r : Routing) → slice_get b s ≡ Some r → IsRoutingOf p s r
-  routings_kept a b of kept s r at = ⊎_elim (λ old. of s r old) (λ within. record { nums = nums; within = within }) (kept.each s r at)
 
 module _ (p : Case) (s : ℕ) (caps : Caps) (scale : caps.scale ≡ 1) where
   -- a routing that is found
