@@ -1,32 +1,7 @@
 -- counts with one module less, and the modules of positive count
-use Rattle.std.proofs.Common.{◌≡◌, ◌∙◌, ℕ, zero, suc, ◌+◌, ◌-◌, ◌<◌, ⊎_elim, List, [], ◌∷◌, ◌++◌, Contains, get_or, length, slice_index, sum, take, refl, sym, ap, subst, add-one, zero-add, arith, set, append_assoc, append-nil}
-use Rattle.net_core.proofs.Library.{cases_lt, get_or_past, Contains-append_left, Contains-append_right, sum_by-set}
-use Rattle.trim_plan.specs.Trimmed.{module_count, links_in_use, modules_in_use, one_less}
-use Rattle.trim_plan.specs.inner.Sparing.{LowersCounts, all_modules}
-use Rattle.trim_plan.proofs.AtMost.{one_less_at_most}
-
--- ---- sums
-
-pub number_inside : (xs : List ℕ) (m : ℕ) → 0 < slice_index xs m → m < length xs
-number_inside xs m some = ⊎_elim (λ lt. lt) (λ past. absurd (let none : slice_index xs m ≡ 0 = get_or_past xs m 0 past in omega (arith, some, none))) (cases_lt m (length xs))
-
-pub link_inside : (counts : List (List ℕ)) (e m : ℕ) → 0 < module_count counts e m → e < length counts
-link_inside counts e m some = ⊎_elim (λ lt. lt)
-    (λ past. absurd (let none : get_or counts e [] ≡ [] = get_or_past counts e [] past in let at : module_count counts e m ≡ 0 = ap (λ (c : List ℕ). slice_index c m) none in omega (arith, some, at)))
-    (cases_lt e (length counts))
-
-sum_less : (xs : List ℕ) (m : ℕ) → 0 < slice_index xs m → sum (set xs m (slice_index xs m - 1)) < sum xs
-sum_less xs m some = omega (arith, sum_by-set (λ (x : ℕ). x) xs m (slice_index xs m - 1) 0 (number_inside xs m some), some)
-
-all_less : (counts : List (List ℕ)) (e m : ℕ) → 0 < module_count counts e m → all_modules (one_less counts e m) < all_modules counts
-all_less counts e m some =
-    let c = get_or counts e [] in
-    let less = sum_less c m some in
-    let all = sum_by-set sum counts e (set c m (slice_index c m - 1)) [] (link_inside counts e m some) in
-    omega (arith, less, all)
-
-pub lowers : (counts : List (List ℕ)) (e m : ℕ) → 0 < module_count counts e m → LowersCounts counts (one_less counts e m)
-lowers counts e m some = record { fewer = one_less_at_most counts e m; less = all_less counts e m some }
+use Rattle.std.proofs.Common.{◌≡◌, ◌∙◌, ℕ, zero, suc, ◌+◌, ◌<◌, List, [], ◌∷◌, ◌++◌, Contains, get_or, length, slice_index, take, refl, sym, ap, subst, add-one, zero-add, arith, append_assoc, append-nil}
+use Rattle.net_core.proofs.Library.{Contains-append_left, Contains-append_right}
+use Rattle.trim_plan.specs.Trimmed.{module_count, links_in_use, modules_in_use}
 
 -- ---- places
 

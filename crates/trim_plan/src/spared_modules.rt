@@ -104,8 +104,8 @@ fn spare_in_order(
 /// Takes modules off counts as long as the others carry the demands in each state: the dearest module first, and modules of one cost in
 /// link and module order.
 ///
-/// It asks once for each module that is taken off, and once for each kind that is left. It fails only where memory runs out.
-pub fn spare_modules(
+/// It asks once for each module that is taken off, and once for each module that is left.
+pub(crate) fn spare_modules(
     alloc: Global,
     instance: &Instance,
     test: &mut AbleTest,
