@@ -1,9 +1,6 @@
-use Rattle.std.proofs.Common.{◌≡◌, ◌∙◌, ◌++◌, List, ℕ, length, drop, get_or, take, ap, take_at}
-use Rattle.plan_swaps.proofs.Shapes.{shape_set}
+use Rattle.std.proofs.Common.{◌≡◌, ◌++◌, length, drop, get_or, take}
+use Rattle.plan_swaps.proofs.Shapes.{length_written, shape_set}
 use Rattle.plan_swaps.proofs.raised_counts.raise_link.Goals as goal
-
-length_written : (old new : List ℕ) → length new ≡ length old → length (take (length old) (new ++ drop (length new) old)) ≡ length old
-length_written old new same = ap (λ (xs : List ℕ). length xs) (take_at new (drop (length new) old) (length old) same) ∙ same
 
 pub returns-then-place-counts : goal.returns-then-place-counts
 returns-then-place-counts c links are =
