@@ -1,7 +1,7 @@
 -- The items of a tree in form can be written and read again.
-use Rattle.std.proofs.Common.{◌≡◌, ℕ, ◌+◌, ◌<◌, ◌≤◌, ◌^◌, true, List, [], ◌∷◌, ◌++◌, length, get_or, All, refl, sym, subst, arith, flat_map, map}
+use Rattle.std.proofs.Common.{◌≡◌, ℕ, ◌+◌, ◌<◌, ◌≤◌, ◌^◌, List, [], ◌∷◌, ◌++◌, length, get_or, All, refl, sym, subst, arith, flat_map, map}
 use Rattle.net_core.proofs.Library.{AllByRecursion, All-cons, All-head, All-nil, All-tail, slice_get-get_or}
-use Rattle.net_core.specs.Terms.{IsName, is_plain}
+use Rattle.net_core.specs.Terms.{IsName}
 use Rattle.plan_terms.specs.Terms.{CutLine, Demand, Evidence, Link, LinkId, MasterColumn, RouteColumn, WideKind, link_name}
 use Rattle.plan_report.specs.Terms.{IsEvidenceInForm, IsKindInForm, IsMasterColumnInForm, IsRouteColumnInForm, KnownNames, demand_name, evidence_items, master_column_items, numbers_items, route_column_items, wide_items}
 use Rattle.text_kit.specs.Terms.{Item, Verbatim, Whole, Closing, enclosed, IsWritable}
@@ -62,10 +62,6 @@ module _ (known : KnownNames) (demands : List Demand) (links_named : All (λ l. 
   demand_there k lt =
       let name : demand_name demands k ≡ (get_or demands k no_demand).name = rw (slice_get-get_or demands k no_demand lt) refl in
       subst (λ (w : List ℕ). IsWritable (Verbatim w)) (sym name) (named (get_or demands k no_demand).name (demands_named k no_demand lt))
-
-  -- a word that is written as it is
-  abbrev IsKey : List ℕ → Type 0
-  IsKey w = (1 ≤ length w) × (is_plain w ≡ true)
 
   route_column : (c : RouteColumn) → IsRouteColumnInForm known.links demands c → AreWritable (route_column_items known.links demands c)
   route_column = route_cases _
