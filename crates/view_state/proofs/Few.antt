@@ -1,18 +1,11 @@
 -- how many cells rows have
 use Rattle.std.proofs.Common.{ℕ, ◌≤◌, List, [], ◌∷◌, Option, None, Some, All, arith, length, map, slice_get}
-use Rattle.net_core.proofs.Library.{AllByRecursion, All-from_recursion, option_map_or}
+use Rattle.net_core.proofs.Library.{All-from_recursion, option_map_or}
 use Rattle.flow_rows.specs.declared.rows.FlowRow.{FlowRow}
 use Rattle.plan_terms.specs.Terms.{Demand, Link, Places}
 use Rattle.plan_view.specs.declared.rows.LoadRow.{LoadRow}
+use Rattle.view_text.proofs.Few.{each_fits, fits}
 use Rattle.view_state.specs.StateTables.{load_cells, load_heads, loaded_cells, path_cells, path_heads}
-
--- rows of at most n cells
-abbrev fits : ℕ → List (List ℕ) → Type 0
-fits n row = length row ≤ n
-
-each_fits : {X : Type 0} (f : X → List (List ℕ)) (n : ℕ) → ((x : X) → length (f x) ≤ n) → (xs : List X) → AllByRecursion (fits n) (map f xs)
-each_fits f n one [] = tt
-each_fits f n one (x ∷ xs) = (one x, each_fits f n one xs)
 
 load_fits : (places : Places) (nodes : List (List ℕ)) (row : LoadRow) (o : Option Link)
     → length (option_map_or (λ link. loaded_cells places nodes link row) o []) ≤ 5

@@ -10,10 +10,10 @@ use Rattle.view_text.specs.OutcomeCells.{outcome_cells, outcome_heads}
 use Rattle.view_text.specs.StateCells.{state_cells}
 
 -- rows of at most n cells
-abbrev fits : ℕ → List (List ℕ) → Type 0
+abbrev pub fits : ℕ → List (List ℕ) → Type 0
 fits n row = length row ≤ n
 
-each_fits : {X : Type 0} (f : X → List (List ℕ)) (n : ℕ) → ((x : X) → length (f x) ≤ n) → (xs : List X) → AllByRecursion (fits n) (map f xs)
+pub each_fits : {X : Type 0} (f : X → List (List ℕ)) (n : ℕ) → ((x : X) → length (f x) ≤ n) → (xs : List X) → AllByRecursion (fits n) (map f xs)
 each_fits f n one [] = tt
 each_fits f n one (x ∷ xs) = (one x, each_fits f n one xs)
 
