@@ -13,7 +13,7 @@ pub fn are_short_cuts(cuts: &[CutLine])
     }
 }
 
-/// A name has at most 255 bytes by its type. It takes time in the number of demands.
+/// Names of demands have at most 255 bytes by their type, which a proof learns by this call. It takes time in the number of demands.
 pub(crate) fn are_named(demands: &[Demand])
     ensures { All (λ d. length d.name ≤ 255) demands.now }
 {

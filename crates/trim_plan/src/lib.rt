@@ -22,4 +22,4 @@ pub use able_counts;
 pub use able_counts::Stop;
 pub use dearest::{Priced, dearest_first};
 pub use lowered_counts::{Place, module_count, one_less};
-pub use trim::{Block, Trimmed, trim};
+pub use trimmed_plan::{Block, Trimmed, trim};

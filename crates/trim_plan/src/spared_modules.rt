@@ -104,7 +104,7 @@ fn spare_in_order(
 /// Takes modules off counts as long as the others carry the demands in each state: the dearest module first, and modules of one cost in
 /// link and module order.
 ///
-/// It asks once for each module that is taken off, and once for each module that is left.
+/// It asks once for each module that is taken off, and once for each kind that is left. It fails only where memory runs out.
 pub(crate) fn spare_modules(
     alloc: Global,
     instance: &Instance,
