@@ -1,5 +1,4 @@
 ghost use Rattle.std.specs.Prelude.{◌<◌, ◌≤◌, ◌+◌, All, IfOk, OnOk, length};
-ghost use Rattle.std.specs.Thread.{IsSync};
 ghost use Rattle.separation_workers.specs.inner.Rounds.{AreFound, IsFoundOf, IsStateFound};
 ghost use Rattle.separation_workers.specs.inner.Together.{AreOfBoth};
 
@@ -75,13 +74,8 @@ fn find_or_stop(round: &Round, work: &Work, state: StateId) -> Result<RouteAnswe
     found
 }
 
-/// Takes the next state that nobody has taken, and adds its answer to those found; `false` if no state is left. The gate is a hold here.
-fn find_next<G: Gate>(
-    gate: &G,
-    round: &Round,
-    work: &Work,
-    found: &mut Vec<StateFound>,
-) -> Result<bool, NoMemory>
+/// Takes the next state that nobody has taken, and adds its answer to those found; `false` if no state is left. The hold hears of it.
+fn find_next(round: &Round, work: &Work, found: &mut Vec<StateFound>) -> Result<bool, NoMemory>
     requires end { work.now.end ≤ length round.now.instance.states.now.listed + 1 }
     requires before { All (IsStateFound round.now) found.old.items }
     ensures { OnOk result (All (IsStateFound round.now) found.new.items) }
@@ -89,21 +83,21 @@ fn find_next<G: Gate>(
     let Some(state) = work.take() else {
         return Ok(false);
     };
-    gate.before(round.caller, state.0);
+    round.hold.before(round.caller, state.0);
     let answer = find_or_stop(round, work, state)?;
-    gate.after(round.caller, state.0);
+    round.hold.after(round.caller, state.0);
     found.push(StateFound { state, answer })?;
     Ok(true)
 }
 
-/// The answers of the states that one worker takes. The gate is a hold here.
-fn find_some<G: Gate>(gate: &G, round: &Round, work: &Work) -> Result<Vec<StateFound>, NoMemory>
+/// The answers of the states that one worker takes. The hold hears of each.
+fn find_some(round: &Round, work: &Work) -> Result<Vec<StateFound>, NoMemory>
     requires { work.now.end ≤ length round.now.instance.states.now.listed + 1 }
     ensures { IfOk result (λ found. All (IsStateFound round.now) found.items) }
 {
     let mut found = Vec::new(round.alloc);
     for _ in 0..round.instance.states.count() {
-        if !find_next(gate, round, work, &mut found)? {
+        if !find_next(round, work, &mut found)? {
             break;
         }
     }
@@ -125,9 +119,8 @@ fn both(
 
 /// The answers that this thread and a number of helpers find, each helper on a thread of its own. A worker takes the next state that nobody
 /// has taken, so that one slow state holds nobody up. Where a thread can't be started, this one does its work.
-fn find_beside<R: Threads, G: Gate + Sync>(
+fn find_beside<R: Threads>(
     rt: &R,
-    gate: &G,
     round: &Round,
     work: &Work,
     helpers: u32,
@@ -136,19 +129,17 @@ fn find_beside<R: Threads, G: Gate + Sync>(
     ensures { IfOk result (λ found. All (IsStateFound round.now) found.items) }
 {
     if helpers == 0 {
-        return find_some(gate, round, work);
+        return find_some(round, work);
     }
     let here = move || -> Result<Vec<StateFound>, NoMemory>
-        requires sync { IsSync G.row }
-        requires end { work.now.end ≤ length round.now.instance.states.now.listed + 1 }
+        requires { work.now.end ≤ length round.now.instance.states.now.listed + 1 }
         ensures { IfOk result (λ v. All (IsStateFound round.entry.now) v.items) }
-    { find_some(gate, round, work) };
+    { find_some(round, work) };
     let beside = move || -> Result<Vec<StateFound>, NoMemory>
-        requires sync { IsSync G.row }
         requires some { 0 < helpers }
         requires end { work.now.end ≤ length round.now.instance.states.now.listed + 1 }
         ensures { IfOk result (λ v. All (IsStateFound round.entry.now) v.items) }
-    { find_beside(rt, gate, round, work, helpers - 1) };
+    { find_beside(rt, round, work, helpers - 1) };
     let (one, rest) = thread::join(rt, here, beside);
     both(one, rest)
 }
@@ -201,21 +192,20 @@ fn by_state(round: &Round, found: Vec<StateFound>) -> Result<List<Option<StateFo
 }
 
 /// The answer of the first state, found on this thread, if no state has a basis yet: the others begin with the basis that it leaves.
-fn find_first<G: Gate>(gate: &G, round: &Round, from: u32) -> Result<Vec<StateFound>, NoMemory>
+fn find_first(round: &Round, from: u32) -> Result<Vec<StateFound>, NoMemory>
     requires { from < length round.now.instance.states.now.listed + 1 }
     ensures { IfOk result (λ found. All (IsStateFound round.now) found.items) }
 {
     if is_begun(round) {
         return Ok(Vec::new(round.alloc));
     }
-    find_some(gate, round, &Work::of(from, from + 1))
+    find_some(round, &Work::of(from, from + 1))
 }
 
 /// The answers of the states in `from..to`. They begin with the basis of the state before them where that is nearer to an answer than their
 /// own.
-fn find_others<R: Threads, G: Gate + Sync>(
+fn find_others<R: Threads>(
     rt: &R,
-    gate: &G,
     round: &Round,
     from: u32,
     to: u32,
@@ -226,17 +216,16 @@ fn find_others<R: Threads, G: Gate + Sync>(
 {
     lend(round, from, to)?;
     let helpers = HELPERS.min(to - from - 1);
-    find_beside(rt, gate, round, &Work::of(from, to), helpers)
+    find_beside(rt, round, &Work::of(from, to), helpers)
 }
 
 /// The answers of the states in `from..to`, each at the place of its state. They begin with the basis of the state before them where that
 /// is nearer to an answer than their own. As long as no state has a basis, the first one is asked alone, and the others begin with its
 /// basis.
 ///
-/// The gate is a hold, which hears of a state on the thread that works on it. The caller's own gate isn't told here.
-pub fn find_states<R: Threads, G: Gate + Sync>(
+/// The hold hears of a state on the thread that works on it. The caller's own gate isn't told here.
+pub fn find_states<R: Threads>(
     rt: &R,
-    gate: &G,
     round: &Round,
     from: u32,
     to: u32,
@@ -245,12 +234,12 @@ pub fn find_states<R: Threads, G: Gate + Sync>(
     requires to { to ≤ length round.now.instance.states.now.listed + 1 }
     ensures { IfOk result (AreFound round.now) }
 {
-    let first = find_first(gate, round, from)?;
+    let first = find_first(round, from)?;
     let next = if first.is_empty() { from } else { from + 1 };
     if next == to {
         return by_state(round, first);
     }
-    let others = find_others(rt, gate, round, next, to);
+    let others = find_others(rt, round, next, to);
     let found = both(Ok(first), others)?;
     by_state(round, found)
 }

@@ -2,6 +2,7 @@ ghost use Rattle.std.specs.Prelude.{◌≡◌, ◌<◌, IfSome, length};
 ghost use Rattle.plan_terms.specs.Terms.{case_of, IsSurvivable};
 ghost use Rattle.hint_board.specs.Hints.{hint_links};
 
+use crate::hold::Hold;
 use hint_board::HintBoard;
 use net_core::{Caps, Instance, StateId};
 use separator::flow_router::RouteAnswer;
@@ -22,6 +23,8 @@ pub struct Round<'i, 'c, 'h, 'k> {
     /// The caller's number.
     pub caller: u32,
     pub hints: &'h HintBoard,
+    /// What hears of each state, on the thread that works on it.
+    pub hold: &'h Hold,
     /// What is kept of each state, from state 0 on. A state beyond the end of the list is asked without.
     pub kept: &'k [KeptState],
     /// How states are asked. When they are asked by routing alone, the hint board isn't looked at either.
@@ -30,6 +33,14 @@ pub struct Round<'i, 'c, 'h, 'k> {
     pub ghost scale: { 0 < caps.now.scale },
     pub ghost count: { length caps.now.nums ≡ length instance.net.now.links },
     pub ghost links: { hint_links hints.now ≡ length instance.net.now.links },
+}
+
+/// What the caller's own thread leads a round with: the runtime by which it waits and starts other threads, and the gate that it tells of
+/// each state.
+#[derive(Drop)]
+pub struct Lead<'r, R, G> {
+    pub rt: &'r R,
+    pub gate: &'r G,
 }
 
 /// A state of a round, with its answer.

@@ -6,9 +6,8 @@ ghost use Rattle.separator.specs.inner.Working.{AddsCut, AreCutsAnswered, AreCut
 ghost use Rattle.separation_workers.specs.Callers.{SeesOn};
 ghost use Rattle.separation_workers.specs.inner.Rounds.{AreFound, IsInRound, IsPutApart};
 
-use crate::hold::Hold;
 use crate::parallel_search::find_states;
-use crate::round::{Round, StateFound};
+use crate::round::{Lead, Round, StateFound};
 use crate::workers::{answer_at, answer_cut};
 use board_desk::Caller;
 use net_core::{List, NoMemory, StateId};
@@ -24,8 +23,7 @@ const BATCH: u32 = 4;
 
 /// Looks for a violated set of nodes in a state. If there is one, its cut goes into the pool and to the answers.
 fn answer_set<R: Wait, G: Gate>(
-    rt: &R,
-    gate: &G,
+    lead: &Lead<R, G>,
     round: &Round,
     state: StateId,
     sets: &RoomySets,
@@ -42,9 +40,9 @@ fn answer_set<R: Wait, G: Gate>(
 {
     match set_in_state(round.alloc, &round.instance, state, round.caps, sets)? {
         Some(cut) => {
-            gate.before(round.caller, state.0);
-            gate.after(round.caller, state.0);
-            let answer = answer_cut(rt, round, state, cut, caller)?;
+            lead.gate.before(round.caller, state.0);
+            lead.gate.after(round.caller, state.0);
+            let answer = answer_cut(lead.rt, round, state, cut, caller)?;
             answers.push(answer)?;
             Ok(())
         }
@@ -54,8 +52,7 @@ fn answer_set<R: Wait, G: Gate>(
 
 /// Cuts of violated sets of nodes, one for each state in which one is found, all put into the pool.
 fn answer_all_sets<R: Wait, G: Gate>(
-    rt: &R,
-    gate: &G,
+    lead: &Lead<R, G>,
     round: &Round,
     sets: &RoomySets,
     caller: &mut Caller,
@@ -70,15 +67,14 @@ fn answer_all_sets<R: Wait, G: Gate>(
 {
     let mut answers = List::new(round.alloc);
     for s in 0..round.instance.states.count() {
-        answer_set(rt, gate, round, StateId(s), sets, caller, &mut answers)?;
+        answer_set(lead, round, StateId(s), sets, caller, &mut answers)?;
     }
     Ok(answers)
 }
 
 /// Cuts of sets of nodes that are violated with the room of a level, one for each state in which one is found, all put into the pool.
 fn answer_sets<R: Wait, G: Gate>(
-    rt: &R,
-    gate: &G,
+    lead: &Lead<R, G>,
     round: &Round,
     level: u32,
     caller: &mut Caller,
@@ -91,14 +87,13 @@ fn answer_sets<R: Wait, G: Gate>(
         (caller_seen caller.new).history (cuts_since (caller_seen caller.old) (caller_seen caller.new))) }
 {
     let sets = sets_of_round(round.alloc, &round.instance, round.caps, level)?;
-    answer_all_sets(rt, gate, round, &sets, caller)
+    answer_all_sets(lead, round, &sets, caller)
 }
 
 /// Cuts of sets of nodes that are violated with the most room, from the room of `level` down, with which some are found; `level` becomes
 /// the one of that room.
 fn answer_roomy_sets<R: Wait, G: Gate>(
-    rt: &R,
-    gate: &G,
+    lead: &Lead<R, G>,
     round: &Round,
     level: &mut u32,
     caller: &mut Caller,
@@ -110,10 +105,10 @@ fn answer_roomy_sets<R: Wait, G: Gate>(
     ensures cuts { IfOk result (AreCutsAnswered (case_of round.now.instance) round.now.caps.now (length round.now.instance.states.now.listed + 1)
         (caller_seen caller.new).history (cuts_since (caller_seen caller.old) (caller_seen caller.new))) }
 {
-    let cuts = answer_sets(rt, gate, round, *level, caller)?;
+    let cuts = answer_sets(lead, round, *level, caller)?;
     if cuts.len() == 0 && *level < NO_ROOM {
         *level += 1;
-        return answer_roomy_sets(rt, gate, round, level, caller);
+        return answer_roomy_sets(lead, round, level, caller);
     }
     Ok(cuts)
 }
@@ -136,8 +131,7 @@ fn put_answer(
 
 /// The answers of the states in `from..to` that are cuts, all put into the pool. The other answers are added to `others`.
 fn answer_places<R: Wait, G: Gate>(
-    rt: &R,
-    gate: &G,
+    lead: &Lead<R, G>,
     round: &Round,
     from: u32,
     to: u32,
@@ -157,7 +151,7 @@ fn answer_places<R: Wait, G: Gate>(
 {
     let mut cuts = List::new(round.alloc);
     for s in from..to {
-        let answer = answer_at(rt, gate, round, StateId(s), places, caller)?;
+        let answer = answer_at(lead, round, StateId(s), places, caller)?;
         put_answer(answer, &mut cuts, others)?;
     }
     Ok(cuts)
@@ -165,9 +159,7 @@ fn answer_places<R: Wait, G: Gate>(
 
 /// Asks the states in `from..to` in parallel. The cuts are returned, and the other answers are added to `others`.
 fn answer_batch<R: Threads + Wait, G: Gate>(
-    rt: &R,
-    gate: &G,
-    hold: &Hold,
+    lead: &Lead<R, G>,
     round: &Round,
     from: u32,
     to: u32,
@@ -184,26 +176,15 @@ fn answer_batch<R: Threads + Wait, G: Gate>(
     ensures others { IfOk result (λ cuts. cuts ≡ [] → ContinueTo (case_of round.now.instance) round.now.caps.now from to others.old others.new) }
 {
     for state in from..to {
-        gate.before(round.caller, state);
+        lead.gate.before(round.caller, state);
     }
-    let mut places = find_states(rt, hold, round, from, to)?;
-    answer_places(
-        rt,
-        gate,
-        round,
-        from,
-        to,
-        places.items_mut(),
-        caller,
-        others,
-    )
+    let mut places = find_states(lead.rt, round, from, to)?;
+    answer_places(lead, round, from, to, places.items_mut(), caller, others)
 }
 
 /// Asks the states in `from..to`, batch after batch, until one gives cuts, and returns these. The other answers are added to `others`.
 fn ask_until_cuts<R: Threads + Wait, G: Gate>(
-    rt: &R,
-    gate: &G,
-    hold: &Hold,
+    lead: &Lead<R, G>,
     round: &Round,
     from: u32,
     to: u32,
@@ -222,7 +203,7 @@ fn ask_until_cuts<R: Threads + Wait, G: Gate>(
     let mut at = from;
     while at < to {
         let end = at + BATCH.min(to - at);
-        let cuts = answer_batch(rt, gate, hold, round, at, end, caller, others)?;
+        let cuts = answer_batch(lead, round, at, end, caller, others)?;
         if cuts.len() > 0 {
             return Ok(cuts);
         }
@@ -241,9 +222,7 @@ fn first_state(answers: &[StateAnswer]) -> u32 {
 
 /// Asks the states in `0..start` until cuts are found. `later` has the answers of the states from `start` on, none of which is a cut.
 fn ask_before<R: Threads + Wait, G: Gate>(
-    rt: &R,
-    gate: &G,
-    hold: &Hold,
+    lead: &Lead<R, G>,
     round: &Round,
     start: u32,
     later: List<StateAnswer>,
@@ -260,7 +239,7 @@ fn ask_before<R: Threads + Wait, G: Gate>(
     ensures among { IfOk result (λ answers. All (Contains (cuts_answered answers)) (cuts_since (caller_seen caller.old) (caller_seen caller.new))) }
 {
     let mut answers = List::new(round.alloc);
-    let cuts = ask_until_cuts(rt, gate, hold, round, 0, start, caller, &mut answers)?;
+    let cuts = ask_until_cuts(lead, round, 0, start, caller, &mut answers)?;
     if cuts.len() == 0 {
         return answers_of_both(answers, later);
     }
@@ -270,9 +249,7 @@ fn ask_before<R: Threads + Wait, G: Gate>(
 
 /// Asks the states from `first` on, and then those before it, until cuts are found.
 fn ask_ring<R: Threads + Wait, G: Gate>(
-    rt: &R,
-    gate: &G,
-    hold: &Hold,
+    lead: &Lead<R, G>,
     round: &Round,
     first: &mut u32,
     caller: &mut Caller,
@@ -287,9 +264,9 @@ fn ask_ring<R: Threads + Wait, G: Gate>(
     let count = round.instance.states.count();
     let start = (*first).min(count);
     let mut later = List::new(round.alloc);
-    let cuts = ask_until_cuts(rt, gate, hold, round, start, count, caller, &mut later)?;
+    let cuts = ask_until_cuts(lead, round, start, count, caller, &mut later)?;
     if cuts.len() == 0 {
-        return ask_before(rt, gate, hold, round, start, later, first, caller);
+        return ask_before(lead, round, start, later, first, caller);
     }
     *first = first_state(cuts.items());
     Ok(cuts)
@@ -300,9 +277,7 @@ fn ask_ring<R: Threads + Wait, G: Gate>(
 /// parallel, beginning with `first`, the one that was violated last when states were asked. The first batch with cuts ends it, and those
 /// cuts are the answer; where there are none, the answers of all states are.
 pub fn answer_some<R: Threads + Wait, G: Gate>(
-    rt: &R,
-    gate: &G,
-    hold: &Hold,
+    lead: &Lead<R, G>,
     round: &Round,
     level: &mut u32,
     first: &mut u32,
@@ -315,9 +290,9 @@ pub fn answer_some<R: Threads + Wait, G: Gate>(
     ensures answers { IfOk result (AreAnswersUntilCut (case_of round.now.instance) round.now.caps.now (caller_seen caller.new).history) }
     ensures among { IfOk result (λ answers. All (Contains (cuts_answered answers)) (cuts_since (caller_seen caller.old) (caller_seen caller.new))) }
 {
-    let cuts = answer_roomy_sets(rt, gate, round, level, caller)?;
+    let cuts = answer_roomy_sets(lead, round, level, caller)?;
     if cuts.len() == 0 {
-        return ask_ring(rt, gate, hold, round, first, caller);
+        return ask_ring(lead, round, first, caller);
     }
     Ok(cuts)
 }

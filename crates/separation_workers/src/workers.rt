@@ -10,7 +10,7 @@ ghost use Rattle.separation_workers.specs.inner.Rounds.{AreFound, IsFoundOf, IsI
 use crate::hints::post;
 use crate::hold::Hold;
 use crate::parallel_search::{find_state, find_states};
-use crate::round::{KeptState, Round, StateFound};
+use crate::round::{KeptState, Lead, Round, StateFound};
 use crate::some_states::answer_some;
 use crate::spot::spot_in_turn;
 use board_desk::Caller;
@@ -46,8 +46,7 @@ pub struct DeskMark<'a> {
 /// thread that works on it.
 #[derive(Drop)]
 pub struct Workers<'r, 'd, 'a, R, G> {
-    rt: &'r R,
-    gate: &'r G,
+    lead: Lead<'r, R, G>,
     hold: &'r Hold,
     alloc: Global,
     hints: &'r HintBoard,
@@ -80,8 +79,7 @@ impl<'r, 'd, 'a, R, G> Workers<'r, 'd, 'a, R, G> {
         ensures { result.caller ≡ caller.entry }
     {
         Workers {
-            rt,
-            gate,
+            lead: Lead { rt, gate },
             hold,
             alloc,
             hints,
@@ -174,8 +172,7 @@ pub fn answer_cut<R: Wait>(
 
 /// The answer of a state. If it is a cut, that goes into the pool, and its lengths on the hint board.
 fn answer_state<R: Wait, G: Gate>(
-    rt: &R,
-    gate: &G,
+    lead: &Lead<R, G>,
     round: &Round,
     state: StateId,
     found: RouteAnswer,
@@ -190,13 +187,13 @@ fn answer_state<R: Wait, G: Gate>(
     ensures answer { IfOk result (λ a. IsAnswerOf (case_of round.now.instance) round.now.caps.now (caller_seen caller.new).history state.0 a.answer) }
     ensures among { IfOk result (λ a. All (Contains (cut_answered a.answer)) (cuts_since (caller_seen caller.old) (caller_seen caller.new))) }
 {
-    gate.after(round.caller, state.0);
+    lead.gate.after(round.caller, state.0);
     match found {
         RouteAnswer::Routed(routing) => Ok(StateAnswer {
             state,
             answer: Separated::Routed(routing),
         }),
-        RouteAnswer::Violated(cut) => answer_cut(rt, round, state, cut, caller),
+        RouteAnswer::Violated(cut) => answer_cut(lead.rt, round, state, cut, caller),
         RouteAnswer::Wide(evidence) => Ok(StateAnswer {
             state,
             answer: Separated::Wide(evidence),
@@ -206,8 +203,7 @@ fn answer_state<R: Wait, G: Gate>(
 
 /// The answer of a state, from what the workers left at its place. A cut goes into the pool, and its lengths on the hint board.
 pub fn answer_at<R: Wait, G: Gate>(
-    rt: &R,
-    gate: &G,
+    lead: &Lead<R, G>,
     round: &Round,
     state: StateId,
     places: &mut [Option<StateFound>],
@@ -224,13 +220,12 @@ pub fn answer_at<R: Wait, G: Gate>(
     ensures among { IfOk result (λ a. All (Contains (cut_answered a.answer)) (cuts_since (caller_seen caller.old) (caller_seen caller.new))) }
 {
     let found = found_of(round, places, state)?;
-    answer_state(rt, gate, round, state, found, caller)
+    answer_state(lead, round, state, found, caller)
 }
 
 /// The answer of each state. The cuts go into the pool in the order of the states.
 fn answer_states<R: Wait, G: Gate>(
-    rt: &R,
-    gate: &G,
+    lead: &Lead<R, G>,
     round: &Round,
     places: &mut [Option<StateFound>],
     caller: &mut Caller,
@@ -246,7 +241,7 @@ fn answer_states<R: Wait, G: Gate>(
 {
     let mut answers = List::new(round.alloc);
     for s in 0..round.instance.states.count() {
-        let answer = answer_at(rt, gate, round, StateId(s), places, caller)?;
+        let answer = answer_at(lead, round, StateId(s), places, caller)?;
         answers.push(answer)?;
     }
     Ok(answers)
@@ -254,9 +249,7 @@ fn answer_states<R: Wait, G: Gate>(
 
 /// Separates the states of a round in parallel, and puts their cuts into the pool.
 fn answer_round<R: Threads + Wait, G: Gate>(
-    rt: &R,
-    gate: &G,
-    hold: &Hold,
+    lead: &Lead<R, G>,
     round: &Round,
     caller: &mut Caller,
 ) -> Result<List<StateAnswer>, NoMemory>
@@ -270,10 +263,10 @@ fn answer_round<R: Threads + Wait, G: Gate>(
 {
     let states = round.instance.states.count();
     for state in 0..states {
-        gate.before(round.caller, state);
+        lead.gate.before(round.caller, state);
     }
-    let mut places = find_states(rt, hold, round, 0, states)?;
-    answer_states(rt, gate, round, places.items_mut(), caller)
+    let mut places = find_states(lead.rt, round, 0, states)?;
+    answer_states(lead, round, places.items_mut(), caller)
 }
 
 impl<'r, 'd, 'a, R: Threads + Wait, G: Gate> Separate for Workers<'r, 'd, 'a, R, G> {
@@ -286,7 +279,7 @@ impl<'r, 'd, 'a, R: Threads + Wait, G: Gate> Separate for Workers<'r, 'd, 'a, R,
     ghost seen = { λ s. s.seen };
 
     fn admit(&mut self, cut: Cut) -> Result<Spot, NoMemory> {
-        spot_in_turn(self.rt, &mut self.caller, cut)
+        spot_in_turn(self.lead.rt, &mut self.caller, cut)
     }
 
     fn separate(
@@ -302,10 +295,11 @@ impl<'r, 'd, 'a, R: Threads + Wait, G: Gate> Separate for Workers<'r, 'd, 'a, R,
             caps,
             caller: self.caller.number(),
             hints: self.hints,
+            hold: self.hold,
             kept: self.kept.items(),
             question: StateQuestion::SetsFirst,
         };
-        answer_round(self.rt, self.gate, self.hold, &round, &mut self.caller)
+        answer_round(&self.lead, &round, &mut self.caller)
     }
 
     fn separate_until_cut(
@@ -320,13 +314,12 @@ impl<'r, 'd, 'a, R: Threads + Wait, G: Gate> Separate for Workers<'r, 'd, 'a, R,
             caps,
             caller: self.caller.number(),
             hints: self.hints,
+            hold: self.hold,
             kept: self.kept.items(),
             question: StateQuestion::RoutingAlone,
         };
         answer_some(
-            self.rt,
-            self.gate,
-            self.hold,
+            &self.lead,
             &round,
             &mut self.level,
             &mut self.first,
@@ -335,6 +328,6 @@ impl<'r, 'd, 'a, R: Threads + Wait, G: Gate> Separate for Workers<'r, 'd, 'a, R,
     }
 
     fn note(&self, figures: RoundFigures) {
-        self.gate.rounded(self.caller.number(), figures);
+        self.lead.gate.rounded(self.caller.number(), figures);
     }
 }

@@ -5,10 +5,10 @@ use Rattle.separation_workers.specs.inner.Rounds.{IsStateFound}
 use Rattle.separation_workers.proofs.parallel_search.find_next.Goals as goal
 
 pub find_or_stop-requires : goal.find_or_stop-requires
-find_or_stop-requires g c = omega (arith, c.in-Some.ensures, c.requires.end)
+find_or_stop-requires c = omega (arith, c.in-Some.ensures, c.requires.end)
 
 pub returns : goal.returns
-returns g c =
+returns c =
     let found = IsStateFound c.args.round.now in
     let before = c.args.found.now.items in
     let one : StateFound = record { state = c.in-Some.state; answer = c.in_ok-answer.answer } in
