@@ -23,7 +23,7 @@ abbrev pub is_split : Node → Bool
 is_split (Split link at_module number) = true
 is_split _ = false
 
--- the node that a place of a tree becomes; an open box is spent
+-- the node that a place of a tree becomes; an open box becomes a spent leaf
 abbrev pub node_of : Twig → Node
 node_of (twig.Settled node) = node
 node_of (twig.Stuck v evidence) = Stuck v.cert evidence
@@ -35,7 +35,7 @@ IsLeafTwig t = is_split (node_of t) ≡ false
 
 -- ---- counts and boxes
 
--- counts with their cost, less than so much, and a routing within them for each state
+-- counts with their cost, which is less than so much, and a routing within them for each state
 pub record AreCheaperCounts (p : Case) (cost : ℕ) (c : Cheaper) : Type 0 where
   pub shape : AreCounts p.links c.counts
   pub limits : AreWithinLimits p.links c.counts
@@ -43,7 +43,7 @@ pub record AreCheaperCounts (p : Case) (cost : ℕ) (c : Cheaper) : Type 0 where
   pub paid : c.cost ≡ total_cost p.links c.counts
   pub cheaper : c.cost < cost
 
--- least counts that aren't large: at most 2^44, and one more for each split
+-- least counts are low: at most 2^44, and one more for each split
 abbrev pub AreLow : ℕ → TreeBox → Type 0
 AreLow n box = All (All (λ s. s.least ≤ 2 ^ 44 + n)) box
 
@@ -51,13 +51,13 @@ AreLow n box = All (All (λ s. s.least ≤ 2 ^ 44 + n)) box
 abbrev pub HaveCounts : TreeBox → Type 0
 HaveCounts box = All (All (λ s. IfSome s.most (λ most. s.least ≤ most))) box
 
--- a box of a search: a span for each module, which isn't empty, with a least count that isn't large
+-- a box of a search: a span for each module, none of them empty, with low least counts
 pub record IsSearchBox (links : List Link) (n : ℕ) (box : TreeBox) : Type 0 where
   pub shape : AreCounts links (least_counts box)
   pub some : HaveCounts box
   pub low : AreLow n box
 
--- a certificate has its value for a box, which is no less than that of the plan's certificate
+-- a certificate with its value for the box, which is at least the value of the plan's certificate
 pub record IsValued (p : Case) (plan : Plan) (tested : List Tested) (box : TreeBox) (v : Valued) : Type 0 where
   pub has : HasBoxValue (names_by tested false) p.links box v.cert v.value
   pub least : (value : ℕ) → HasPlanValue p.links plan.certificate box value → value ≤ v.value
@@ -80,7 +80,7 @@ pub record IsOpenBox (p : Case) (plan : Plan) (handed : List CutLine) (tested : 
   pub unsettled : IsUnsettled p.links plan handed box
   pub unfixed : IsFixedBox box → ⊥
 
--- evidence that the one choice of counts of a box is too wide, which is worth less than the plan
+-- evidence that a number is too wide at the single choice of counts of a box, which is worth less than the plan
 pub record IsStuckBox (p : Case) (plan : Plan) (tested : List Tested) (box : TreeBox) (v : Valued) (evidence : Evidence) : Type 0 where
   pub valued : IsValued p plan tested box v
   pub below : v.value < plan.cost

@@ -20,28 +20,28 @@ abbrev pub IsSoundEntry : Case → Entry → Type 0
 IsSoundEntry p (entry.Cut cut) = IsCut p cut
 IsSoundEntry p (entry.Line line) = Unit {0}
 
--- cuts of the case and lines, tested one by one; no lines where none are made
+-- cuts of the case and lines, each with its test; there are no lines where none are made
 pub record IsKnown (p : Case) (k : Known) : Type 0 where
   pub sound : All (IsSoundEntry p) k.entries
   pub tested : AreTested p (map source_of k.entries) k.tested
   pub few : length k.entries < 2 ^ 31
   pub plain : k.divides ≡ false → lines_among k.entries ≡ []
 
--- items are put after those of a list
+-- the new list begins with the old one
 pub record Extends {X : Type 0} (old new : List X) : Type 0 where
   pub more : List X
   pub is : new ≡ old ++ more
 
--- the case of an aim
+-- the case of the aim's instance
 abbrev pub aimed : Aim → Case
 aimed a = case_of a.instance.now
 
--- a certificate is the plan's, by indices of cuts among entries
+-- the certificate is the plan's, with its cuts given by their indices in the entries
 pub record IsOwnCert (entries : List Entry) (plan : Plan) (cert : BoxCert) : Type 0 where
   pub den : cert.den ≡ plan.certificate.den
   pub named : AllZip (λ m l. (slice_get entries m.cut ≡ Some (entry.Cut l.cut)) × (m.num ≡ l.num)) cert.lines plan.certificate.lines
 
--- an aim that a search can have: a plan of the case that carries its demands
+-- what a search can aim at: a plan of the case that carries its demands
 pub record IsAim (entries : List Entry) (a : Aim) : Type 0 where
   pub survivable : IsSurvivable (aimed a)
   pub demands : a.plan.now.demands ≡ (aimed a).demands
@@ -52,7 +52,7 @@ pub record IsAim (entries : List Entry) (a : Aim) : Type 0 where
 abbrev pub handed_in : Search → List CutLine
 handed_in s = cuts_among (take s.handed s.known.entries)
 
--- how many entries there are at most after whole points were asked about, and lines made
+-- how many entries there are at most after whole points were asked about, and lines were made
 abbrev pub most_entries : Search → ℕ
 most_entries s = max (length s.known.entries) s.room
 
@@ -70,7 +70,7 @@ pub record IsSearch (p : Case) (s : Search) : Type 0 where
   pub enough : s.handed ≤ s.room
   pub small : s.room ≤ 2 ^ 15
 
--- a search has learned more
+-- a search has learned more: its old entries are the first of the new ones
 pub record HasLearned (old new : Search) : Type 0 where
   pub extends : Extends old.known.entries new.known.entries
   pub tested : Extends old.known.tested new.known.tested

@@ -2,11 +2,11 @@ use net_core::Instance;
 use plan_types::Plan;
 use tree_check::BoxCert;
 
-/// What a tree is to show: that no counts of the instance cost less than the plan does.
+/// What a tree has to show: that no counts of the instance cost less than the plan.
 #[derive(Clone, Copy)]
 pub struct Aim<'a> {
     pub instance: &'a Instance<'a>,
     pub plan: &'a Plan,
-    /// The plan's certificate, by the indices of its cuts.
+    /// The plan's certificate, with its cuts given by their indices in the search.
     pub own: &'a BoxCert,
 }

@@ -38,7 +38,7 @@ pub(crate) fn ask_within(
     }
 }
 
-/// Asks about any counts: they carry the demands, or lesser ones within the limits of plans do; or something stops them.
+/// Asks about any counts: they carry the demands, or lower counts within the limits of plans do, or something stops them.
 pub(crate) fn ask(
     alloc: Global,
     aim: &Aim,

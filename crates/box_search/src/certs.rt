@@ -12,7 +12,7 @@ use std::alloc::Global;
 use tree_check::nodes::value_in;
 use tree_check::{BoxCert, Boxed};
 
-/// A certificate with its value for a box, in units of the network.
+/// A certificate with its value for a box: no counts of the box cost less than this many units of the network.
 #[derive(Drop)]
 pub struct Valued {
     pub cert: BoxCert,
@@ -29,7 +29,7 @@ pub fn empty_cert(alloc: Global) -> BoxCert
     }
 }
 
-/// A copy of a certificate. It takes time and memory in its lines.
+/// A copy of a certificate. It takes time and memory in the number of its lines.
 pub fn copied(cert: &BoxCert) -> Result<BoxCert, NoMemory>
     ensures { IfOk result (λ copy. copy ≡ cert.now) }
 {
@@ -39,7 +39,7 @@ pub fn copied(cert: &BoxCert) -> Result<BoxCert, NoMemory>
     })
 }
 
-/// The one of the greater value for a box: the one so far, or a copy of another, which has to exceed it.
+/// The certificate of greater value for a box: the best one so far, or a copy of another if that exceeds it.
 pub(crate) fn greater(
     aim: &Aim,
     known: &Known,
@@ -81,7 +81,7 @@ fn empty_valued(alloc: Global, aim: &Aim, known: &Known, boxed: &Boxed) -> Value
     }
 }
 
-/// The greatest of three certificates for a box: that of no lines, the plan's, and one more.
+/// The certificate of greatest value for a box among three: the one of no lines, the plan's, and the one of the box that was split.
 pub(crate) fn greatest(
     alloc: Global,
     aim: &Aim,

@@ -24,7 +24,7 @@ use std::alloc::Global;
 use tree_check::fixed_counts::fixed_counts;
 use tree_check::{BoxCert, Boxed, Node};
 
-/// What is found at a box of one choice of counts that no known cut empties, and whose best certificate doesn't close it.
+/// What is found at a box with a single choice of counts, if no known cut empties it and its best certificate doesn't close it.
 fn look_fixed(
     alloc: Global,
     aim: &Aim,
@@ -60,16 +60,16 @@ fn look_fixed(
     }
 }
 
-/// What comes of a whole point.
+/// What came of asking about a whole point.
 #[derive(Drop)]
 enum Tried {
     Cheaper(Cheaper),
-    /// A cut of it is new.
+    /// A new cut stops it.
     More,
     Nothing,
 }
 
-/// Asks about the counts of a whole point.
+/// Asks about the counts of a whole point, if they cost less than the plan.
 fn try_whole(
     alloc: Global,
     aim: &Aim,
@@ -103,15 +103,15 @@ fn try_whole(
     }
 }
 
-/// What a look at a box's program leaves.
+/// What came of a look at a box's program.
 #[derive(Drop)]
 enum Round {
     Found(Found),
-    /// The best certificate, the box's rank, and whether a new cut was found.
+    /// The box's best certificate, its rank, and whether a new cut was found.
     Open(Valued, u128, bool),
 }
 
-/// Looks at a box's program once, and asks about its point if that is whole.
+/// Solves a box's program once, and asks about the counts of its point if that is whole.
 fn look_once(
     alloc: Global,
     aim: &Aim,
@@ -147,7 +147,7 @@ fn look_once(
     }
 }
 
-/// An open box.
+/// A box that stays open, with its best certificate and its rank.
 fn open(search: &Search, boxed: Boxed, best: Valued, rank: u128) -> Found
     ensures { result ≡ Found.Twig (Twig.Open (record { boxed = boxed; best = best; rank = rank; seen = search.now.known.cuts_end })) }
 {
@@ -159,7 +159,7 @@ fn open(search: &Search, boxed: Boxed, best: Valued, rank: u128) -> Found
     }))
 }
 
-/// What is found at a box of several choices of counts.
+/// What is found at a box with several choices of counts. Its program is solved again as long as whole points give new cuts.
 fn look_open(
     alloc: Global,
     aim: &Aim,
@@ -198,7 +198,8 @@ fn look_open(
     Ok(open(search, boxed, best, rank))
 }
 
-/// What is found at such a box after lines were made for it, where lines are to be made and it isn't that of all counts.
+/// What is found at a box with several choices of counts. First lines are made for it, if the search makes lines and it isn't the box of
+/// all counts.
 fn look_divided(
     alloc: Global,
     aim: &Aim,
@@ -227,9 +228,11 @@ fn look_divided(
     look_open(alloc, aim, search, boxed, best, depth)
 }
 
-/// What is found at a box: that it is empty, that the greatest of its certificates closes it, that its one choice of counts carries the
-/// demands or not, or that it has to be split. It takes the time of a program's optimum over the kept cuts and lines, of lines made in
-/// rounds, and of the tests of counts, and keeps what it found.
+/// What is found at a box: that it is empty, that one of its certificates closes it, that its single choice of counts carries the demands
+/// or doesn't, or that it has to be split. The cuts and lines that are found are kept in the search.
+///
+/// It takes the time of a program's optimum over the kept cuts and lines, of lines made in rounds, and of the tests of counts. It fails
+/// only where memory runs out.
 pub fn look(
     alloc: Global,
     aim: &Aim,

@@ -18,22 +18,22 @@ use tree_check::Boxed;
 use tree_check::nodes::is_empty;
 use tree_check::tests::Tests;
 
-/// The cuts and lines of a proof in the order in which they were found, each tested. Its place is its index in the search.
+/// The cuts and lines of a search, in the order in which they were found, each with its test. They are named by their index in this list.
 #[derive(Drop)]
 pub struct Known {
     pub entries: List<Entry>,
     pub tested: List<Tested>,
-    /// The programs of boxes take the cuts and lines from this place on.
+    /// The programs of boxes have the cuts and lines from this index on.
     pub first: usize,
-    /// What divides each of their numbers.
+    /// The greatest common divisor of the numbers of those cuts and lines; 0 if there are none.
     pub unit: u128,
-    /// The place after the last cut that was put.
+    /// The index after the last cut.
     pub cuts_end: usize,
     /// Whether lines are made of the cuts.
     pub divides: bool,
 }
 
-/// How many entries there are, so that those which are put later may be taken off again.
+/// A place to go back to: entries that are added after it can be taken off again.
 #[derive(Clone, Copy)]
 pub(crate) struct Mark {
     pub entries: usize,
@@ -41,7 +41,7 @@ pub(crate) struct Mark {
     cuts_end: usize,
 }
 
-/// The first items of a list. It takes time in the items that go, and no memory.
+/// The first items of a list. It takes time in the number of items that are dropped, and no memory.
 pub fn first_items<T: Drop>(items: List<T>, count: usize) -> List<T>
     ensures { result ≡ take count items }
 {
@@ -50,7 +50,7 @@ pub fn first_items<T: Drop>(items: List<T>, count: usize) -> List<T>
     List::from_vec(all)
 }
 
-/// Cuts as entries.
+/// Entries of these cuts, in their order.
 fn entries_of(alloc: Global, cuts: List<CutLine>) -> Result<List<Entry>, NoMemory>
     ensures { IfOk result (λ entries. entries ≡ map Entry.Cut cuts) }
 {
@@ -62,7 +62,7 @@ fn entries_of(alloc: Global, cuts: List<CutLine>) -> Result<List<Entry>, NoMemor
 }
 
 impl Known {
-    /// Cuts of an instance, each tested. It takes time in the cuts times the links, and memory for the cuts.
+    /// The cuts of an instance, each with its test. It takes time in cuts times links, and memory for the cuts.
     pub fn new(
         alloc: Global,
         instance: &Instance,
@@ -88,7 +88,7 @@ impl Known {
         })
     }
 
-    /// Puts an entry last, with its test.
+    /// Adds an entry with its test.
     fn put(&mut self, tested: Tested, entry: Entry) -> Result<(), NoMemory>
         ensures entries { OnOk result (self.new.entries ≡ self.old.entries ++ entry ∷ []) }
         ensures tested { OnOk result (self.new.tested ≡ self.old.tested ++ tested ∷ []) }
@@ -100,7 +100,7 @@ impl Known {
         Ok(())
     }
 
-    /// Puts a cut last.
+    /// Adds a cut.
     pub(crate) fn push(
         &mut self,
         alloc: Global,
@@ -121,7 +121,7 @@ impl Known {
         Ok(())
     }
 
-    /// From here on the programs of boxes take what is put from now on, and no longer what is there.
+    /// From now on the programs of boxes have the entries that are added later, and none of those that there are.
     pub(crate) fn set_aside(&mut self)
         ensures entries { self.new.entries ≡ self.old.entries }
         ensures tested { self.new.tested ≡ self.old.tested }
@@ -131,7 +131,7 @@ impl Known {
         self.unit = 0;
     }
 
-    /// How far the entries go.
+    /// The place after the last entry.
     pub(crate) fn mark(&self) -> Mark
         ensures { result.entries ≡ length self.now.entries }
     {
@@ -142,7 +142,7 @@ impl Known {
         }
     }
 
-    /// Takes off what was put since a mark.
+    /// Takes off the entries that were added since a mark.
     pub(crate) fn back_to(&mut self, alloc: Global, mark: Mark)
         ensures entries { self.new.entries ≡ take mark.entries self.old.entries }
         ensures tested { self.new.tested ≡ take mark.entries self.old.tested }
@@ -158,7 +158,7 @@ impl Known {
         self.cuts_end = mark.cuts_end;
     }
 
-    /// Puts a line last, if it holds.
+    /// Adds a line, if its test says that it holds.
     pub(crate) fn push_line(
         &mut self,
         alloc: Global,
@@ -182,7 +182,7 @@ impl Known {
         Ok(())
     }
 
-    /// What nodes are tested by.
+    /// What the nodes of a tree are tested with.
     pub(crate) fn tests<'a>(&'a self, aim: &Aim<'a>) -> Tests<'a>
         ensures instance { result.instance.now ≡ aim.now.instance.now }
         ensures tested { result.tested.now ≡ self.now.tested }
@@ -195,7 +195,7 @@ impl Known {
         }
     }
 
-    /// The optimum of the program of a box; none where a number is too wide. It takes the time of the program's exact simplex.
+    /// The optimum of the program of a box; `None` if a number is too wide. It takes the time of the program's exact simplex.
     pub fn solved(
         &self,
         alloc: Global,
@@ -213,7 +213,7 @@ impl Known {
         solved(alloc, links, aim.plan.cost, lines, boxed)
     }
 
-    /// The first cut or line that empties a box. It takes time in the cuts and lines times the modules, and no memory.
+    /// The index of the first cut or line that empties a box. It takes time in the cuts and lines times the modules, and no memory.
     pub fn emptied_by(&self, aim: &Aim, boxed: &Boxed) -> Option<u32>
         requires { IsKnown (aimed aim.now) self.now }
         ensures none { result ≡ None → (i : ℕ) → EmptiesBox (names_by self.now.tested false) (aimed aim.now).links boxed.now i → ⊥ }
@@ -229,14 +229,14 @@ impl Known {
     }
 }
 
-/// Whether two cuts are the same.
+/// Whether two cuts have the same state, right side and lengths.
 fn is_same(a: &CutLine, b: &CutLine) -> bool
     ensures { IsTrue result ↔ (a.now ≡ b.now) }
 {
     a.state == b.state && a.right == b.right && a.lengths == b.lengths
 }
 
-/// The index of a cut in a list; none where it isn't there. It takes time in the list.
+/// The index of a cut in a list; `None` if it isn't there. It takes time in the length of the list.
 pub fn index_of(cuts: &[CutLine], cut: &CutLine) -> Option<u32>
     requires { length cuts.now < 2 ^ 31 }
     ensures { MatchOption result (Contains cuts.now cut.now → ⊥) (λ i. slice_get cuts.now i ≡ Some cut.now) }
@@ -257,7 +257,7 @@ fn is_entry_of(entry: &Entry, cut: &CutLine) -> bool {
     }
 }
 
-/// Whether a cut is among entries. It takes time in the entries.
+/// Whether a cut is among the entries. It takes time in the number of entries.
 pub(crate) fn has_cut(entries: &[Entry], cut: &CutLine) -> bool {
     entries.iter().any(|entry| is_entry_of(entry, cut))
 }

@@ -1,5 +1,5 @@
-//! What a search for a branch tree finds at a box of module counts: that it is empty or closed, cheaper counts, or a box that stays open,
-//! with the best certificate of the cuts and lines that the search knows.
+//! What a search for a branch tree finds at a box of module counts: that it is empty or closed, cheaper counts, or that it stays open, with
+//! its best certificate of the cuts and lines that the search knows.
 //!
 //! ```text
 //! make_first_lines(alloc, &aim, &mut search, &whole, &mut root)?;

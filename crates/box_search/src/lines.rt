@@ -14,24 +14,24 @@ use std::alloc::Global;
 use table_maker::{Part, TableTask, narrow_lines, set_cuts, table_lines};
 use tree_check::{BoxCert, Boxed};
 
-/// How many times lines are made at the box of all counts, and how many at once.
+/// In how many rounds lines are made at the box of all counts, and how many lines in each.
 const ROUNDS: usize = 20;
 
 const MOST_FIRST: usize = 40;
 
-/// Where a program is too wide with the lines of a round, the next one has fewer by this factor.
+/// If a round's lines make a program too wide, the next round makes fewer by this factor.
 const FEWER: usize = 3;
 
 /// How many lines are made at each other box.
 const MOST_IN_BOX: usize = 10;
 
-/// Table lines are made where a link has more kinds of modules than this: divided lines tell nearly all where they are fewer.
+/// Table lines are made if a link has more kinds of modules than this. With fewer kinds, divided lines tell nearly all that they tell.
 const FEW_KINDS: usize = 2;
 
-/// The greatest weight of a table line: small weights keep the numbers of programs narrow.
+/// The greatest weight of a table line. Small weights keep the numbers of programs narrow.
 const MOST_WEIGHT: u32 = 20;
 
-/// Puts lines last that hold, as far as there is room.
+/// Adds the lines that hold, as long as there is room.
 fn push_lines(
     alloc: Global,
     aim: &Aim,
@@ -53,7 +53,7 @@ fn push_lines(
     Ok(())
 }
 
-/// Puts a cut last, if there is room.
+/// Adds a cut, if there is room.
 fn push_cut(alloc: Global, aim: &Aim, search: &mut Search, cut: CutLine) -> Result<(), NoMemory>
     requires search { IsSearch (aimed aim.now) search.old }
     requires room { most_entries search.old < 2 ^ 31 }
@@ -69,7 +69,7 @@ fn push_cut(alloc: Global, aim: &Aim, search: &mut Search, cut: CutLine) -> Resu
     search.known.push(alloc, aim.instance, cut)
 }
 
-/// Puts cuts last, as far as there is room.
+/// Adds cuts, as long as there is room.
 fn push_cuts(
     alloc: Global,
     aim: &Aim,
@@ -90,7 +90,7 @@ fn push_cuts(
     Ok(())
 }
 
-/// Whether table lines are made: whether some link has more than a few kinds of modules.
+/// Whether table lines are made: whether some link has more than two kinds of modules.
 fn has_kinds(aim: &Aim) -> bool {
     let mut links = aim.instance.net.links().items().iter();
     links.any(|link| link.modules.len() > FEW_KINDS)
@@ -107,7 +107,7 @@ fn cuts_of(alloc: Global, entries: &[Entry]) -> Result<List<CutLine>, NoMemory> 
     Ok(cuts)
 }
 
-/// A program's amounts, in parts over their denominator.
+/// The amounts of a program's point, as numerators over its denominator.
 fn parts_of(alloc: Global, solution: &Solution) -> Result<List<Part>, NoMemory> {
     let mut parts = List::new(alloc);
     for amount in solution.amounts.items() {
@@ -121,7 +121,7 @@ fn parts_of(alloc: Global, solution: &Solution) -> Result<List<Part>, NoMemory> 
     Ok(parts)
 }
 
-/// Puts cuts of node sets last, and then the lines of small right sides that table lines are made over.
+/// Adds cuts of node sets, and then the lines of small right sides from which table lines are made.
 fn push_narrow(alloc: Global, aim: &Aim, search: &mut Search) -> Result<(), NoMemory>
     requires search { IsSearch (aimed aim.now) search.old }
     requires room { most_entries search.old < 2 ^ 31 }
@@ -137,7 +137,7 @@ fn push_narrow(alloc: Global, aim: &Aim, search: &mut Search) -> Result<(), NoMe
     push_lines(alloc, aim, search, lines)
 }
 
-/// Puts lines last, which the programs of boxes take in place of what is there.
+/// Adds lines that the programs of boxes have from now on in place of what is there.
 fn push_aside(
     alloc: Global,
     aim: &Aim,
@@ -155,8 +155,8 @@ fn push_aside(
     push_lines(alloc, aim, search, lines)
 }
 
-/// Puts lines of small numbers last, which the programs of boxes take in place of the cuts; before them what table lines are made over,
-/// where there are to be some.
+/// Adds lines of small numbers, which the programs of boxes have in place of the cuts. If table lines are made, what they are made from is
+/// added before.
 fn make_coarse(alloc: Global, aim: &Aim, search: &mut Search) -> Result<(), NoMemory>
     requires search { IsSearch (aimed aim.now) search.old }
     requires room { most_entries search.old < 2 ^ 31 }
@@ -174,7 +174,7 @@ fn make_coarse(alloc: Global, aim: &Aim, search: &mut Search) -> Result<(), NoMe
     push_aside(alloc, aim, search, lines)
 }
 
-/// Puts divided lines last that the point of a box's program misses, at most this number.
+/// Adds at most `most` divided lines that the point of a box's program violates.
 fn push_divided(
     alloc: Global,
     aim: &Aim,
@@ -196,12 +196,12 @@ fn push_divided(
     push_lines(alloc, aim, search, lines)
 }
 
-/// The entries that the programs of boxes don't take.
+/// The entries that the programs of boxes don't have.
 fn before(tested: &[Tested], first: usize) -> &[Tested] {
     &tested[..first.min(tested.len())]
 }
 
-/// Puts table lines last that a point misses, at most this number.
+/// Adds at most `most` table lines that a point violates.
 fn push_tables(
     alloc: Global,
     aim: &Aim,
@@ -228,8 +228,8 @@ fn push_tables(
     push_lines(alloc, aim, search, lines)
 }
 
-/// Puts lines last that the point of a box's program misses: divided ones, or before them table lines, and divided ones only where it
-/// misses no table line.
+/// Adds lines that the point of a box's program violates. With `tables` these are table lines, and divided lines only if it violates no
+/// table line; otherwise they are divided lines.
 fn push_missed(
     alloc: Global,
     aim: &Aim,
@@ -257,18 +257,18 @@ fn push_missed(
     push_divided(alloc, aim, search, boxed, solution, most)
 }
 
-/// The outcome of a round of lines.
+/// What came of a round of lines.
 #[derive(Drop)]
 enum Made {
-    /// The optimum of the program with the lines.
+    /// The optimum of the program with the new lines.
     Solved(Solution),
-    /// The program is too wide with the lines, and they are taken off again.
+    /// With the new lines the program is too wide, and they are taken off again.
     Wide,
-    /// There is no line to be put.
+    /// No line was added.
     Nothing,
 }
 
-/// Makes lines once that the point of a box's program misses: table lines too, or divided ones alone.
+/// Makes lines once that the point of a box's program violates: table lines or divided ones with `tables`, and otherwise divided ones.
 fn make_round(
     alloc: Global,
     aim: &Aim,
@@ -299,7 +299,7 @@ fn make_round(
     }
 }
 
-/// Makes lines in rounds, until a round finds none: the optimum of the last program.
+/// Makes lines in rounds, until a round adds none or 20 are done, and gives the optimum of the last program.
 fn make_in_rounds(
     alloc: Global,
     aim: &Aim,
@@ -327,7 +327,7 @@ fn make_in_rounds(
     Ok(solution)
 }
 
-/// Makes lines in rounds, and keeps the certificate of the last program.
+/// Makes lines in rounds, and puts the certificate of the last program into `root`.
 fn make_certified(
     alloc: Global,
     aim: &Aim,
@@ -350,13 +350,13 @@ fn make_certified(
     Ok(())
 }
 
-/// Makes lines at the box of all counts, where lines are to be made: coarse ones if there are none yet, and then others in rounds, up to
-/// 40 in each of up to 20. The certificate of the last program that wasn't too wide takes the place of `root`; where there was none, that
-/// stays.
+/// Makes lines at the box of all counts, if the search makes lines: coarse ones if there are none yet, and then others in up to 20 rounds,
+/// up to 40 in each. The certificate of the last program that wasn't too wide replaces `root`, which stays if there was none.
 ///
-/// Where a link has more than two kinds of modules, the cuts of node sets come first, up to 1,024, with the lines that table lines are
-/// made over; and a round makes table lines of weights up to 20, or divided lines where the program's point misses no table line.
-/// Each round takes the time of a program's optimum, and memory for the lines that it keeps.
+/// If a link has more than two kinds of modules, up to 1,024 cuts of node sets come first, and lines from which table lines are made. A
+/// round then makes table lines of weights up to 20, or divided lines if the program's point violates no table line.
+///
+/// Each round takes the time of a program's optimum, and memory for the lines that it keeps. It fails only where memory runs out.
 pub fn make_first_lines(
     alloc: Global,
     aim: &Aim,
@@ -380,7 +380,7 @@ pub fn make_first_lines(
     make_certified(alloc, aim, search, boxed, root)
 }
 
-/// Makes lines once at another box, where lines are to be made.
+/// Makes lines once at another box, if the search makes lines.
 pub(crate) fn make_box_lines(
     alloc: Global,
     aim: &Aim,

@@ -5,10 +5,10 @@ ghost use Rattle.box_search.specs.inner.Lowering.{HaveRoomFor, IsLoweredLink};
 use net_core::{Counts, Instance, List, Module, NoMemory};
 use std::alloc::Global;
 
-/// The room of a link that no load exceeds: all demands together are below 2^44 units.
+/// A capacity that no load exceeds, in units of demand: all demands together are below 2^44 units.
 const MOST_LOAD: u64 = (1 << 44) - 1;
 
-/// How many modules of a count are needed for so much room; all where they are too few.
+/// How many of the `count` modules are needed for the capacity that is missing; all of them if they are too few.
 fn needed(capacity: u64, count: u64, missing: u64) -> u64
     requires { 0 < capacity }
     ensures fewer { result ≤ count }
@@ -19,7 +19,7 @@ fn needed(capacity: u64, count: u64, missing: u64) -> u64
     count.min(missing.div_ceil(capacity))
 }
 
-/// The counts of a link, of which those stay that the room for every load needs, the first modules first.
+/// The counts of a link, lowered to what the capacity for any load needs. The first modules are kept first.
 fn lowered_link(alloc: Global, modules: &[Module], counts: &[u64]) -> Result<List<u64>, NoMemory>
     requires each { All IsModule modules.now }
     requires count { length counts.now ≡ length modules.now }
@@ -36,7 +36,7 @@ fn lowered_link(alloc: Global, modules: &[Module], counts: &[u64]) -> Result<Lis
     Ok(lowered)
 }
 
-/// Counts within the limits of plans that have room for every load that the given ones have room for.
+/// Counts within the limits of plans whose capacities suffice for every load for which those of the given ones do.
 pub(crate) fn lowered_counts(
     alloc: Global,
     instance: &Instance,

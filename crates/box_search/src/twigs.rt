@@ -2,14 +2,14 @@ use crate::certs::Valued;
 use net_core::Evidence;
 use tree_check::{Boxed, Node};
 
-/// A box that isn't settled, with the certificate of the greatest value that is known.
+/// A box that isn't settled, with its certificate of greatest value among the known ones.
 #[derive(Drop)]
 pub struct OpenBox {
     pub boxed: Boxed,
     pub best: Valued,
-    /// What the box's program is worth, in thousandths of a unit: boxes of least rank are split first.
+    /// The optimum of the box's program, in thousandths of a unit of the network. Boxes of least rank are split first.
     pub rank: u128,
-    /// Where the last cut ended when it was looked at.
+    /// Where the cuts ended when the box was looked at: the `cuts_end` of the known entries.
     pub seen: usize,
 }
 
@@ -17,7 +17,7 @@ pub struct OpenBox {
 #[derive(Drop)]
 pub enum Twig {
     Settled(Node),
-    /// A leaf of one choice of counts, of which a number of some state's routing program is too wide.
+    /// A leaf with a single choice of counts, at which a number of some state's routing program is too wide.
     Stuck(Valued, Evidence),
     Open(OpenBox),
 }

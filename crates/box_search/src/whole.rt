@@ -9,7 +9,7 @@ use std::alloc::Global;
 use tree_check::boxes::span_at;
 use tree_check::{Boxed, Span};
 
-/// The least counts of a link's modules.
+/// The least count of each of a link's modules.
 fn least_of_link(
     alloc: Global,
     boxed: &[List<Span>],
@@ -26,7 +26,7 @@ fn least_of_link(
     Ok(numbers)
 }
 
-/// The least counts of all modules.
+/// The least count of each module.
 fn least_of_box(alloc: Global, links: &[Link], boxed: &[List<Span>]) -> Result<Counts, NoMemory>
     ensures { IfOk result (AreCounts links.now) }
 {
@@ -46,7 +46,7 @@ fn set_number(numbers: &mut [u64], m: usize, n: u64)
     }
 }
 
-/// Sets a count in the list of a link.
+/// Sets a count in the list of a link, if there is such a link and module.
 fn set_count(counts: &mut [List<u64>], e: usize, m: usize, n: u64)
     ensures { (links : List Link) → AreCounts links counts.old → AreCounts links counts.new }
 {
@@ -55,7 +55,7 @@ fn set_count(counts: &mut [List<u64>], e: usize, m: usize, n: u64)
     }
 }
 
-/// The counts of a box's whole point; none where some amount isn't whole.
+/// The counts of the program's point; `None` if some amount isn't whole.
 pub(crate) fn whole_counts(
     alloc: Global,
     aim: &Aim,

@@ -7,15 +7,15 @@ use Rattle.plan_terms.specs.Terms.{Link, Module, modules_capacity}
 abbrev pub modules_at : List Link → ℕ → List Module
 modules_at links e = slice_index_or (map (λ l. l.modules) links) e []
 
--- Counts of a link that are lowered: none is greater, each is below 2^44, and the capacity that they install below 2^45 units. They have
--- room for what the counts have room for, or for all demands together.
+-- Lowered counts of a link: none is greater, each is below 2^44, and their capacity is below 2^45 units. Their capacity is at least that of the counts, or
+-- enough for all demands together.
 pub record IsLoweredLink (modules : List Module) (counts lowered : List ℕ) : Type 0 where
   pub fewer : AllZip ◌≤◌ lowered counts
   pub few : All (λ n. n < 2 ^ 44) lowered
   pub small : modules_capacity modules lowered < 2 ^ 45
   pub room : (modules_capacity modules counts ≡ modules_capacity modules lowered) ⊎ (2 ^ 44 ≤ modules_capacity modules lowered + 1)
 
--- Counts of all links that are lowered, each link by itself.
+-- lowered counts of all links, each link by itself
 pub record HaveRoomFor (links : List Link) (counts lowered : List (List ℕ)) : Type 0 where
   pub count : length lowered ≡ length links
   pub each : (e : ℕ) → e < length links → IsLoweredLink (modules_at links e) (slice_index_or counts e []) (slice_index_or lowered e [])
