@@ -9,13 +9,13 @@ use Rattle.box_search.specs.Terms.{Node, Split, is_split}
 abbrev pub split_number : List Node → ℕ
 split_number tree = count_by is_split tree
 
--- the product, over the modules of a link, of one more than how many of a module cost less than the plan: the plan's cost over the module's,
--- rounded up
+-- for each module of a link, how many numbers of it cost less than the plan (the plan's cost over the module's, rounded up), and one more;
+-- multiplied over the modules
 abbrev pub modules_room : ℕ → List Module → ℕ
 modules_room cost [] = 1
 modules_room cost (m ∷ modules) = (divided_up cost m.cost + 1) * modules_room cost modules
 
--- and over the modules of all links
+-- the same, multiplied over the modules of all links
 abbrev pub split_room : ℕ → List Link → ℕ
 split_room cost [] = 1
 split_room cost (l ∷ links) = modules_room cost l.modules * split_room cost links
@@ -37,8 +37,8 @@ pub record IsCheapNode (links : List Link) (cost : ℕ) (tree : List Node) (i : 
   pub stands : IsNodeOf links tree i box node
   pub cheap : IsCheapSplit links cost box node
 
--- Where all modules cost something, all nodes belong to the tree, and each split is at a number of modules that cost less than the plan,
--- the tree has fewer splits than the product, over all modules, of one more than how many such numbers there are.
+-- Where all modules cost something, all nodes belong to the tree, and each split is at a number of modules that cost less than the plan, the tree has fewer
+-- splits than it has room for.
 abbrev pub SplitsAreFew : Type 0
 SplitsAreFew = (links : List Link) (cost : ℕ) (tree : List Node)
     → AreCharged links

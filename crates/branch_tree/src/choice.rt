@@ -15,13 +15,13 @@ use std::alloc::Global;
 use tree_check::boxes::{is_split, lower_side, span_at, upper_side};
 use tree_check::{Boxed, Span};
 
-/// How many modules are tried at each split.
+/// How many choices are compared by their programs at each split.
 const TRIED: usize = 8;
 
-/// From here on a number is too large to split at, unless it is a least count.
+/// A box isn't split at this number or a greater one, unless it is a least count.
 const LARGE: u128 = 1 << 44;
 
-/// Where a box is split: at a module and a number.
+/// Where a box is split: at a module, and a number of it.
 #[derive(Clone, Copy)]
 pub(crate) struct Choice {
     pub place: Place,
@@ -35,7 +35,7 @@ struct Scored {
     score: u128,
 }
 
-/// The cost at a place of a list; 0 past its end.
+/// The cost of the module at a place of a list; 0 past its end.
 fn cost_in(modules: &[Module], m: usize) -> u64
     ensures { result ≡ slice_index (map (λ m. m.cost) modules.now) m }
 {
@@ -58,7 +58,7 @@ fn module_cost(aim: &Aim, place: Place) -> u64
     }
 }
 
-/// Whether a box may be split so: the number of modules costs less than the plan.
+/// Whether a box may be split at a choice: its number of modules costs less than the plan.
 fn is_choice(aim: &Aim, boxed: &Boxed, choice: Choice) -> bool
     ensures { IsTrue result ↔ IsCheapChoice (aimed aim.now).links aim.now.plan.now.cost boxed.now choice }
 {
@@ -67,7 +67,8 @@ fn is_choice(aim: &Aim, boxed: &Boxed, choice: Choice) -> bool
         && module_cost(aim, choice.place) as u128 * (choice.at as u128) < aim.plan.cost
 }
 
-/// The choice of an amount, with its score: the cost of what is missing to the nearest whole number.
+/// The choice of an amount. Its score is the distance to the nearest whole number, in parts over the denominator, times the cost of a
+/// module.
 fn score_of(aim: &Aim, amount: &Amount, den: u128) -> Scored
     ensures { result.choice.at ≤ 2 ^ 44 }
 {
@@ -85,7 +86,7 @@ fn score_of(aim: &Aim, amount: &Amount, den: u128) -> Scored
     }
 }
 
-/// The choice of an amount that isn't whole, if the box may be split so.
+/// The choice of an amount that isn't whole, if the box may be split there.
 fn choice_of(aim: &Aim, boxed: &Boxed, amount: &Amount, den: u128) -> Option<Scored>
     ensures { IfSome result (λ s. IsTriable (aimed aim.now).links aim.now.plan.now.cost boxed.now s.choice) }
 {
@@ -99,7 +100,7 @@ fn choice_of(aim: &Aim, boxed: &Boxed, amount: &Amount, den: u128) -> Option<Sco
     Some(next)
 }
 
-/// The choices that a point leaves.
+/// The choices of a program's point: those of its amounts that aren't whole.
 fn choices(
     alloc: Global,
     aim: &Aim,
@@ -117,12 +118,12 @@ fn choices(
     Ok(all)
 }
 
-/// How late a choice is tried.
+/// The rank of a choice by its score: the greater the score, the less.
 fn lateness(scored: &Scored) -> u128 {
     u128::MAX - scored.score
 }
 
-/// The best scores first.
+/// The choices in the order of their scores, the greatest first.
 fn best_first(alloc: Global, all: List<Scored>) -> Result<List<Scored>, NoMemory>
     ensures { IfOk result (IsPermutation all) }
 {
@@ -131,7 +132,8 @@ fn best_first(alloc: Global, all: List<Scored>) -> Result<List<Scored>, NoMemory
     Ok(all)
 }
 
-/// What a side of a split is worth, in thousandths of a unit: what the plan costs where the side is empty or closed.
+/// What a side of a split is worth, in thousandths of a unit of the network: the optimum of its program, but no more than the plan's cost,
+/// and that cost if a cut or line empties the side. 0 if a number of its program is too wide.
 fn worth(alloc: Global, aim: &Aim, known: &Known, side: &Boxed) -> Result<u128, NoMemory>
     requires { IsKnown (aimed aim.now) known.now }
 {
@@ -145,7 +147,7 @@ fn worth(alloc: Global, aim: &Aim, known: &Known, side: &Boxed) -> Result<u128, 
     }
 }
 
-/// The product of the rises of a box's two sides.
+/// The product of the rises of a box's two sides. A side's rise is by how much it is worth more than the box, at least 1.
 fn rises(
     alloc: Global,
     aim: &Aim,
@@ -169,7 +171,7 @@ fn rises(
     Ok(first.saturating_mul(second))
 }
 
-/// The choice of the greatest product of rises among the first ones.
+/// Among the first choices, the one with the greatest product of rises.
 fn best_tried(
     alloc: Global,
     aim: &Aim,
@@ -197,7 +199,7 @@ fn best_tried(
     Ok(best)
 }
 
-/// The choice that the optimum of a box's program leaves, if any.
+/// The choice by the optimum of a box's program; `None` if that is too wide, or leaves no choice.
 fn by_program(
     alloc: Global,
     aim: &Aim,
@@ -215,14 +217,14 @@ fn by_program(
     best_tried(alloc, aim, known, boxed, solution.rank, all.items())
 }
 
-/// The first span of several counts.
+/// The index of the first span of several counts.
 fn first_unfixed(spans: &[Span]) -> Option<usize>
     ensures { MatchOption result (All IsFixedSpan spans.now) (IsFreeSpan spans.now) }
 {
     spans.iter().position(|s| !is_fixed(s))
 }
 
-/// The first module of several counts.
+/// The first module with a span of several counts.
 fn first_free(boxed: &[List<Span>]) -> Option<Place>
     ensures { MatchOption result (IsFixedBox boxed.now) (HasFreePlace boxed.now) }
 {
@@ -234,7 +236,7 @@ fn first_free(boxed: &[List<Span>]) -> Option<Place>
     None
 }
 
-/// The first module of several counts, at its least count.
+/// The first module with a span of several counts, at its least count.
 fn at_least(aim: &Aim, boxed: &Boxed) -> Choice
     requires { IsSplittable (aimed aim.now).links aim.now.plan.now.cost boxed.now }
     ensures { IsTriable (aimed aim.now).links aim.now.plan.now.cost boxed.now result }
@@ -246,7 +248,7 @@ fn at_least(aim: &Aim, boxed: &Boxed) -> Choice
     Choice { place, at }
 }
 
-/// Where an open box is split.
+/// Where an open box is split: by the optimum of its program if that leaves a choice, else at the first module with several counts.
 #[tactic(auto, using(crate::proofs::Choices::choice_of))]
 pub(crate) fn choose(
     alloc: Global,

@@ -14,14 +14,14 @@ use std::alloc::Global;
 use tree_check::boxes::{lower_side, upper_side, whole_box};
 use tree_check::{BoxCert, Node};
 
-/// What becomes of a tree.
+/// What comes of growing a tree: the tree, or cheaper counts.
 #[derive(Drop)]
 pub(crate) enum Growth {
     Tree(Tree),
     Cheaper(Cheaper),
 }
 
-/// What becomes of a box that is split.
+/// What comes of splitting a box: its two sides, or cheaper counts.
 #[derive(Drop)]
 enum Sides {
     Twigs(Twig, Twig),
@@ -80,7 +80,7 @@ fn look_upper(
     look(alloc, aim, search, side, &open.best.cert, splits + 1)
 }
 
-/// The sides of a split, of which the first one left a twig.
+/// What comes of a split whose first side left a twig.
 fn sides_with(first: Twig, found: Found) -> Sides
     ensures { result ≡ sides_with first found }
 {
@@ -93,7 +93,7 @@ fn sides_with(first: Twig, found: Found) -> Sides
     }
 }
 
-/// What is found at the two sides of a split.
+/// What comes of a split: the twigs of its two sides, or cheaper counts.
 fn look_sides(
     alloc: Global,
     aim: &Aim,
@@ -127,7 +127,7 @@ fn look_sides(
     }
 }
 
-/// The split that a choice is.
+/// The node of the split at a choice.
 fn split_of(choice: &Choice) -> Node
     requires link { choice.now.place.link < 2 ^ 32 }
     requires inside { choice.now.place.module < 2 ^ 32 }
@@ -140,7 +140,7 @@ fn split_of(choice: &Choice) -> Node
     }
 }
 
-/// Another twig at a place of a tree.
+/// Replaces the twig at a place of a tree.
 fn replace(tree: &mut Tree, at: usize, twig: Twig)
     requires { at < length tree.old.twigs.items }
     ensures { tree.new.twigs.items ≡ slice_set tree.old.twigs.items at twig }
@@ -148,7 +148,7 @@ fn replace(tree: &mut Tree, at: usize, twig: Twig)
     set_twig(&mut tree.twigs, at, twig);
 }
 
-/// Looks at an open box anew, where cuts were found since.
+/// Looks at an open box again, if cuts were found since it was looked at last.
 fn look_again(
     alloc: Global,
     aim: &Aim,
@@ -187,10 +187,10 @@ fn look_again(
     }
 }
 
-/// What a turn leaves.
+/// What one turn of growing comes to.
 #[derive(Drop)]
 enum Turn {
-    /// One box was split.
+    /// A box was split.
     Split,
     /// No box is open.
     Done,
@@ -230,7 +230,7 @@ fn split_at(
     }
 }
 
-/// Splits the open box of least rank.
+/// Splits the open box of least rank. Boxes of least rank are looked at again before, if cuts were found since.
 fn grow_once(
     alloc: Global,
     aim: &Aim,
@@ -265,7 +265,7 @@ fn grow_once(
     }
 }
 
-/// Where the growth of a tree is after one more split, and a cheapest plan of this cost so far. It takes time in the size of the tree.
+/// The figures of a tree after one more split, for a cheapest plan so far of this cost. It takes time in the size of the tree.
 fn figures_of(tree: &Tree, cost: u128, splits: u32, limit: u32) -> TreeFigures {
     let (open, bound) = open_boxes(&tree.twigs, cost);
     TreeFigures {
@@ -277,7 +277,7 @@ fn figures_of(tree: &Tree, cost: u128, splits: u32, limit: u32) -> TreeFigures {
     }
 }
 
-/// The tree of the box of all counts alone. That has this certificate besides.
+/// The tree with the box of all counts alone, which may use the certificate `root`.
 fn first_tree(
     alloc: Global,
     aim: &Aim,
@@ -299,7 +299,7 @@ fn first_tree(
     }
 }
 
-/// Grows a tree of no split by as many splits as a limit says, or until no box is open, or until cheaper counts are found.
+/// Grows a tree without splits until it has `limit` of them, no box is open, or cheaper counts are found. The gate is told of each split.
 fn grow<G: Gate>(
     alloc: Global,
     aim: &Aim,
@@ -330,7 +330,7 @@ fn grow<G: Gate>(
     Ok(None)
 }
 
-/// What becomes of a tree in which no cheaper counts were found, or some.
+/// The result of growing a tree, in which cheaper counts were found or weren't.
 fn growth_of(tree: Tree, found: Option<Cheaper>) -> Growth
     ensures { result ≡ growth_of tree found }
 {
@@ -343,8 +343,8 @@ fn growth_of(tree: Tree, found: Option<Cheaper>) -> Growth
     }
 }
 
-/// Grows a tree by what is known, by as many splits as a limit says, or until no box is open, or until cheaper counts are found. The box
-/// of all counts has this certificate besides.
+/// Grows a tree from what is known, until it has `limit` splits, no box is open, or cheaper counts are found. The box of all counts may use
+/// the certificate `root`.
 fn grown_on<G: Gate>(
     alloc: Global,
     aim: &Aim,
@@ -370,8 +370,8 @@ fn grown_on<G: Gate>(
     Ok(growth_of(tree, found))
 }
 
-/// Grows a tree so, after lines were made for its root if lines are to be made. The best certificate of the box of all counts that they
-/// give takes the place of `root`.
+/// Makes lines for the root, if the search makes lines, and grows a tree until it has `limit` splits, no box is open, or cheaper counts are
+/// found. The best certificate that the lines give for the box of all counts replaces `root`.
 pub(crate) fn grown<G: Gate>(
     alloc: Global,
     aim: &Aim,

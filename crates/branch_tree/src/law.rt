@@ -1,12 +1,13 @@
 ghost use Rattle.branch_tree.specs.FewSplits.{SplitsAreFew};
 ghost use Rattle.branch_tree.specs.Proving.{NoneIsSpent};
 
-/// A tree whose splits are at numbers of modules that cost less than the plan has few splits. The call does nothing, and takes no time.
+/// A tree has few splits if each is at a number of modules that cost less than the plan. The call does nothing, and takes no time.
 pub fn splits_are_few()
     ensures { SplitsAreFew }
 {}
 
-/// A search with a limit of as many splits as a tree has room for leaves no box open for want of splits. The call does nothing, and takes no time.
+/// If the limit of a search is at least the number of splits for which a tree has room, no box stays open for want of splits. The call does
+/// nothing, and takes no time.
 pub fn none_is_spent()
     ensures { NoneIsSpent }
 {}

@@ -1,7 +1,7 @@
-//! The search for a branch tree that shows a plan to be cheapest, or how far from it the plan may be.
+//! Searches for a branch tree that shows a plan to be cheapest, or how far from cheapest it may be.
 //!
 //! ```text
-//! let proof = prove(alloc, &net, &states, plan, cuts, 9999)?;
+//! let proof = prove(alloc, &net, &states, plan, cuts, 9999, &gate)?;
 //! match proof.verdict {
 //!     Verdict::Cheapest => ..,              // no counts that carry the demands cost less than proof.plan
 //!     Verdict::Above(least) => ..,          // none cost less than this

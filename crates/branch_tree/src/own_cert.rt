@@ -8,7 +8,7 @@ use plan_types::Plan;
 use std::alloc::Global;
 use tree_check::{BoxCert, Multiplier};
 
-/// A plan's certificate, read as one of boxes: by the indices of its cuts.
+/// The certificate of a plan as one of boxes, with its cuts given by their indices in the list.
 pub(crate) fn own_cert(alloc: Global, plan: &Plan, cuts: &[CutLine]) -> Result<BoxCert, NoMemory>
     requires few { length cuts.now < 2 ^ 31 }
     requires own { All (λ l. Contains cuts.now l.cut) plan.now.certificate.lines }

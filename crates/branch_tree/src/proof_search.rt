@@ -22,7 +22,7 @@ use std::alloc::Global;
 use std::mem;
 use tree_check::{BoxCert, Proof};
 
-/// The plan with cheaper counts.
+/// The plan with the counts, the cost and the routings of cheaper counts.
 fn with_cheaper(plan: Plan, cheaper: Cheaper) -> Plan
     ensures { result ≡ record plan { counts = cheaper.counts; cost = cheaper.cost; routings = cheaper.routings } }
 {
@@ -34,7 +34,7 @@ fn with_cheaper(plan: Plan, cheaper: Cheaper) -> Plan
     }
 }
 
-/// The plan with cheaper counts, which exchanges of modules make cheaper still.
+/// The plan with cheaper counts, made cheaper still by exchanges of modules.
 fn cheaper_plan(
     alloc: Global,
     instance: &Instance,
@@ -51,7 +51,7 @@ fn cheaper_plan(
     swap(alloc, instance, with_cheaper(plan, cheaper))
 }
 
-/// What is known of this number of the first cuts of entries alone.
+/// What is known of the first `most` cuts of the entries, without any line.
 fn first_known(
     alloc: Global,
     instance: &Instance,
@@ -71,7 +71,7 @@ fn first_known(
     Known::new(alloc, instance, first_items(cuts, most), divides)
 }
 
-/// Takes off what is known but this number of the first cuts, where there are more entries than that.
+/// If more than `most` entries are known, forgets all but the first `most` cuts.
 fn keep_first(
     alloc: Global,
     instance: &Instance,
@@ -92,7 +92,8 @@ fn keep_first(
     Ok(())
 }
 
-/// What a search has learned, with as many further entries as whole points may add: so they don't grow without bound.
+/// Keeps what a search has learned for the next tree, but no more than the room for cuts and lines, so that entries don't pile up from tree
+/// to tree.
 fn begin_anew(alloc: Global, instance: &Instance, search: &mut Search) -> Result<(), NoMemory>
     requires { IsSearch (case_of instance.now) search.old }
     ensures search { OnOk result (IsSearch (case_of instance.now) search.new) }
@@ -104,14 +105,14 @@ fn begin_anew(alloc: Global, instance: &Instance, search: &mut Search) -> Result
     Ok(())
 }
 
-/// The entries that a search has found.
+/// The entries of a search.
 fn entries_of(search: Search) -> List<Entry>
     ensures { result ≡ search.known.entries }
 {
     search.known.entries
 }
 
-/// The proof that a tree is, with the entries that its nodes name in the order of a proof.
+/// The proof with a tree. The cuts and lines that its nodes name are put into the order of a proof.
 fn proof_of(alloc: Global, plan: Plan, entries: List<Entry>, tree: Tree) -> Result<Proof, NoMemory>
     requires { length entries < 2 ^ 31 }
     ensures { IfOk result (IsProofMade plan entries tree.twigs.items) }
@@ -127,7 +128,7 @@ fn proof_of(alloc: Global, plan: Plan, entries: List<Entry>, tree: Tree) -> Resu
     })
 }
 
-/// The proof of a plan, or of a cheaper one that the search finds: then the tree begins anew.
+/// The proof of a plan. Whenever cheaper counts are found, the plan gets these, and a new tree is grown.
 fn proved<'a, G: Gate>(
     alloc: Global,
     instance: &'a Instance<'a>,
@@ -166,8 +167,8 @@ fn proved<'a, G: Gate>(
     }
 }
 
-/// How many cuts and lines are kept at most, where this number of cuts was handed in: with lines there is room for cuts of node sets, for a
-/// coarse line of each handed-in cut, and for one that table lines are made over of each cut.
+/// How many cuts and lines are kept at most, if `handed` cuts were handed in. With lines there is room for the cuts of node sets, for a
+/// coarse line of each handed-in cut, and for one line of each cut from which table lines are made.
 fn room_for(handed: usize, divides: bool) -> usize
     requires { handed ≤ 8192 }
     ensures enough { handed ≤ result }
@@ -180,7 +181,7 @@ fn room_for(handed: usize, divides: bool) -> usize
     }
 }
 
-/// A test of counts that tries the routings of a plan first.
+/// A test of counts that begins with the routings of a plan.
 fn test_of(alloc: Global, instance: &Instance, plan: &Plan) -> Result<AbleTest, NoMemory>
     requires demands { plan.now.demands ≡ instance.now.demands.now }
     requires routed { IsRoutedPlan (case_of instance.now) plan.now }
@@ -189,7 +190,7 @@ fn test_of(alloc: Global, instance: &Instance, plan: &Plan) -> Result<AbleTest, 
     AbleTest::new(alloc, instance, plan.routings.copy()?)
 }
 
-/// A search that knows handed-in cuts.
+/// A search that knows the handed-in cuts.
 fn first_search(
     alloc: Global,
     instance: &Instance,
@@ -216,7 +217,7 @@ fn first_search(
     })
 }
 
-/// The proof of a plan, or of a cheaper one, from handed-in cuts and its own certificate.
+/// The proof of a plan, or of a cheaper one, from handed-in cuts and the plan's certificate as one of boxes.
 fn searched_from<'a, G: Gate>(
     alloc: Global,
     instance: &'a Instance<'a>,
@@ -275,24 +276,25 @@ fn searched<G: Gate>(
 
 /// Searches for a branch tree that shows a plan to be cheapest, with at most `limit` splits.
 ///
-/// The limit is at most 9,999. All modules cost something. The plan carries its demands, has the cost of its counts and a certified bound,
-/// and is in form and in lowest terms; its demands belong to the network, and no state separates one. The cuts are those of the network
-/// with their right sides at the demands, at most 8,192, among them those of the plan's certificate.
+/// The limit is at most 9,999, and all modules cost something. The plan carries its demands, has the cost of its counts and a certified
+/// bound, and is in form and in lowest terms; its demands belong to the network, and no state separates one. The cuts are those of the
+/// network with their right sides at the demands, at most 8,192, among them those of the plan's certificate.
 ///
-/// The answer's plan is the given one but for its counts, cost and routings, and costs at most what the given one does: exchanges of
-/// modules and cheaper counts on the way make it so. Its tree is of this plan. The cuts that the search finds come after the given ones.
-/// Where the tree has no open leaf the verdict is `Cheapest`, else `Above` with the least of the plan's cost and the open leaves' values,
-/// in units of the network. An open leaf is `Spent` where the limit of splits was reached, or `Stuck`, a box of one choice of counts of
-/// which a number of some state's routing program is too wide. The gate is told of each split; where a cheaper plan is found the tree
-/// begins anew, and so do the splits.
+/// The answer's plan is the given one with other counts, cost and routings, and costs at most as much: exchanges of modules and counts
+/// found on the way make it cheaper. The tree is about this plan. The cuts that the search finds come after the given ones.
 ///
-/// On the triangle with modules of 10.00 for 5.00 and a demand of 12.00 from A to C, two modules on each link are cheapest where each link
+/// If the tree has no open leaf, the verdict is `Cheapest`; else it is `Above`, with the least of the plan's cost and the open leaves'
+/// values, in units of the network. An open leaf is `Spent` if the limit of splits was reached. It is `Stuck` if it has a single choice of
+/// counts, at which a number of some state's routing program is too wide. The gate is told of each split. Whenever a cheaper plan is found,
+/// a new tree is begun, and splits are counted from 0 again.
+///
+/// On the triangle with modules of 10.00 for 5.00 and a demand of 12.00 from A to C, two modules on each link are cheapest if each link
 /// fails alone, for 30.00: AC is split at 1, then AB.
 ///
-/// The box whose program is worth least is split first, where the product of the rises of its two sides is greatest among eight modules.
-/// Each split takes up to nineteen programs of as many rows as twice the modules, one more for each cut that a whole point violates, and
-/// routing programs for whole points and for boxes of one choice of counts. It takes memory for a number of each module for each cut, and
-/// for the boxes that are open.
+/// The box whose program is worth least is split first. Of up to eight modules it is split at the one for which the product of the rises of
+/// the two sides is greatest. Each split takes up to nineteen programs with twice as many rows as modules, one more for each cut that a
+/// whole point violates, and routing programs for whole points and for boxes with a single choice of counts. It takes memory for a number
+/// per module and cut, and for the open boxes. It fails only where memory runs out.
 pub fn prove<G: Gate>(
     alloc: Global,
     net: &Network,
@@ -323,21 +325,21 @@ pub fn prove<G: Gate>(
     prove_instance(alloc, &instance, plan, cuts, limit, false, gate)
 }
 
-/// As `prove`, of a plan of an instance. Where it `divides`, the tree's leaves may also name lines that are made of the cuts, and come with
-/// the proof: sums of cuts that are divided and rounded up know that modules are whole. With them a tree has few splits, and where links
-/// have two kinds of modules the value without any split is mostly within a tenth of the least cost.
+/// Does as `prove` for a plan of an instance. If `divides` is set, the leaves of the tree may also name lines that are made of the cuts and
+/// come with the proof: sums of cuts that are divided and rounded up, which use that modules are whole. With lines a tree has few splits.
+/// If links have two kinds of modules, the value without any split is mostly within a tenth of the least cost.
 ///
-/// Before the tree grows, each cut gets a line whose right side is at most 64, and programs take these in place of the given cuts. Then
-/// lines are made that the point of the program of all counts misses, up to 40 in each of up to 20 rounds, and up to 10 at each other box
-/// that is looked at. Where a program gets too wide with the lines of a round, they are taken off again, and the next round has a third as many; the
-/// certificate of the last program that isn't too wide counts for the box of all counts, whatever happens later.
+/// Before the tree grows, each cut gets a line whose right side is at most 64, and programs have these in place of the given cuts. Then
+/// lines are made that the point of the program of all counts violates, up to 40 in each of up to 20 rounds, and up to 10 at each other box
+/// that is looked at. If a program gets too wide with the lines of a round, they are taken off again, and the next round makes a third as
+/// many. The certificate of the last program that isn't too wide stays known for the box of all counts.
 ///
-/// Where a link has more than two kinds of modules, the cuts of node sets come first, up to 1,024, and rounds make table lines of weights up
-/// to 20 besides, over cuts and lines of right sides up to 4,096.
+/// If a link has more than two kinds of modules, up to 1,024 cuts of node sets come first, and rounds also make table lines of weights up
+/// to 20, from cuts and lines of right sides up to 4,096.
 ///
-/// But for cuts of boxes of one choice of counts, the cuts and lines of the answer are at most 6,144 more than three times the given cuts. A
-/// round takes a program, and time in the cuts and lines times the modules times the square of the kinds of modules; one of table lines
-/// takes, for each line, up to 4,096 times the kinds.
+/// The answer has at most 6,144 more cuts and lines than three times the given cuts, not counting cuts of boxes with a single choice of
+/// counts. A round takes a program, and time in the cuts and lines times the modules times the square of the kinds of modules; each table
+/// line takes up to 4,096 times the kinds. It fails only where memory runs out.
 pub fn prove_instance<G: Gate>(
     alloc: Global,
     instance: &Instance,

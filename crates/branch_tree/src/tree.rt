@@ -8,14 +8,14 @@ use net_core::{List, NoMemory};
 use std::alloc::Global;
 use tree_check::{Node, Verdict};
 
-/// A tree in preorder that grows.
+/// A growing tree, with its places in preorder.
 #[derive(Drop)]
 pub(crate) struct Tree {
     pub twigs: Vec<Twig>,
 }
 
 impl Tree {
-    /// The tree of one place.
+    /// The tree of a single place.
     pub(crate) fn new(alloc: Global, root: Twig) -> Result<Tree, NoMemory>
         ensures { IfOk result (λ tree. tree.twigs.items ≡ root ∷ []) }
     {
@@ -24,7 +24,7 @@ impl Tree {
         Ok(Tree { twigs })
     }
 
-    /// A split in the place of an open box, followed by its two sides. It takes time in the size of the tree.
+    /// Replaces an open box by a split, followed by its two sides. It takes time in the size of the tree.
     pub(crate) fn split(
         &mut self,
         at: usize,
@@ -39,7 +39,7 @@ impl Tree {
     }
 }
 
-/// Another item at a place.
+/// Replaces the item at a place.
 fn set_item<T: Drop>(items: &mut [T], at: usize, item: T)
     requires { at < length items.old }
     ensures { items.new ≡ slice_set items.old at item }
@@ -47,7 +47,7 @@ fn set_item<T: Drop>(items: &mut [T], at: usize, item: T)
     items[at] = item;
 }
 
-/// Another item at a place, and two more after it.
+/// Replaces the item at a place, and adds two more after it.
 fn put_three<T: Drop>(
     items: &mut Vec<T>,
     at: usize,
@@ -64,7 +64,7 @@ fn put_three<T: Drop>(
     Ok(())
 }
 
-/// Another twig at a place.
+/// Replaces the twig at a place.
 pub(crate) fn set_twig(twigs: &mut [Twig], at: usize, twig: Twig)
     requires { at < length twigs.old }
     ensures { twigs.new ≡ slice_set twigs.old at twig }
@@ -79,7 +79,7 @@ struct Ranked {
     rank: u128,
 }
 
-/// A place with its rank; none where it isn't open.
+/// The place with its rank, if it is an open box.
 fn rank_at(twig: &Twig, at: usize) -> Option<Ranked>
     ensures { MatchOption result (IsOpenTwig twig.now → ⊥) (λ r. (r.at ≡ at) × IsOpenTwig twig.now) }
 {
@@ -93,7 +93,7 @@ fn rank_at(twig: &Twig, at: usize) -> Option<Ranked>
     }
 }
 
-/// The place of lesser rank, if there is any; the first one of two of the same rank.
+/// The place of lesser rank, if there is one; the first of two places of the same rank.
 fn lesser(first: Option<Ranked>, second: Option<Ranked>) -> Option<Ranked>
     ensures either { (result ≡ first) ⊎ (result ≡ second) }
     ensures none { result ≡ None → (first ≡ None) × (second ≡ None) }
@@ -107,7 +107,7 @@ fn lesser(first: Option<Ranked>, second: Option<Ranked>) -> Option<Ranked>
     }
 }
 
-/// The first open box of least rank.
+/// The place of the first open box of least rank.
 pub(crate) fn least_open(twigs: &[Twig]) -> Option<usize>
     ensures { MatchOption result (AreSettled twigs.now) (IsOpenPlace twigs.now) }
 {
@@ -121,7 +121,8 @@ pub(crate) fn least_open(twigs: &[Twig]) -> Option<usize>
     }
 }
 
-/// How many boxes of a tree are open, and the least of a plan's cost and of what the open leaves show: no plan costs less.
+/// How many boxes of a tree are open, and the least of the plan's cost and the values of the leaves that aren't settled. No counts that
+/// carry the demands cost less than that.
 pub(crate) fn open_boxes(twigs: &[Twig], cost: u128) -> (usize, u128) {
     let mut open = 0usize;
     let mut least = cost;
@@ -141,12 +142,12 @@ pub(crate) fn open_boxes(twigs: &[Twig], cost: u128) -> (usize, u128) {
 /// What the nodes of a tree show.
 #[derive(Clone, Copy)]
 struct Shown {
-    /// Whether a leaf is open.
+    /// Whether some leaf is open.
     unsettled: bool,
     least: u128,
 }
 
-/// What is shown, with an open leaf of this value.
+/// What is shown together with an open leaf of this value.
 fn with_open(shown: Shown, value: u128) -> Shown
     ensures { result ≡ record { unsettled = true; least = min shown.least value } }
 {
@@ -156,7 +157,7 @@ fn with_open(shown: Shown, value: u128) -> Shown
     }
 }
 
-/// The node of a twig, and what is shown with it. An open box is spent.
+/// The node of a twig, and what is shown together with it. An open box becomes a spent leaf.
 fn node_of(twig: Twig, shown: Shown) -> (Node, Shown)
     ensures node { result.0 ≡ node_of twig }
     ensures shown { result.1 ≡ shown_with shown twig }

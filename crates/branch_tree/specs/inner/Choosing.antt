@@ -12,21 +12,21 @@ pub record IsSplittable (links : List Link) (cost : ℕ) (box : TreeBox) : Type 
   pub unfixed : IsFixedBox box → ⊥
   pub below : (value : ℕ) → HasFreeValue links box value → value < cost
 
--- a box can be split so, at a number of modules that costs less than the plan
+-- a box can be split at the choice, and its number of modules costs less than the plan
 pub record IsCheapChoice (links : List Link) (cost : ℕ) (box : TreeBox) (c : Choice) : Type 0 where
   pub split : IsSplitOf box c.place.link c.place.module c.at
   pub cheap : entry (module_costs links) c.place.link c.place.module * c.at < cost
 
--- and the number is at most 2^44, or the module's least count
+-- a box can be split at the choice, whose number of modules costs less than the plan, and is at most 2^44 or the module's least count
 pub record IsTriable (links : List Link) (cost : ℕ) (box : TreeBox) (c : Choice) : Type 0 where
   pub choice : IsCheapChoice links cost box c
   pub low : (c.at ≤ 2 ^ 44) ⊎ (c.at ≡ (span_at box c.place.link c.place.module).least)
 
--- a span of several counts is at this place
+-- the span at this place has several counts
 abbrev pub IsFreeSpan : List Span → ℕ → Type 0
 IsFreeSpan spans m = (s : Span) × (slice_get spans m ≡ Some s) × (IsFixedSpan s → ⊥)
 
--- module m of a link, which has several counts
+-- the module at this place has several counts
 pub record HasFreePlace (box : TreeBox) (place : Place) : Type 0 where
   pub spans : List Span
   pub link : slice_get box place.link ≡ Some spans

@@ -9,11 +9,11 @@ use Rattle.branch_tree.specs.inner.Showing.{all_shown, verdict_of}
 use Rattle.box_search.specs.declared.known.Known.{Known}
 use Rattle.box_search.specs.declared.twigs.Twig.{Twig}
 
--- all of these entries, at most this number; or only the first of their cuts, up to this number
+-- the known entries are all of these, if they are at most so many; or else the first of their cuts, up to this number
 abbrev pub AreFirstOf : ℕ → List Entry → Known → Type 0
 AreFirstOf most entries k = ((k.entries ≡ entries) × (length entries ≤ most)) ⊎ (k.entries ≡ map entry.Cut (take most (cuts_among entries)))
 
--- the proof of a plan whose nodes are those of places that name entries
+-- the proof of a plan whose nodes are those of the tree's places, which name entries
 pub record IsProofMade (plan : Plan) (entries : List Entry) (twigs : List Twig) (proof : Proof) : Type 0 where
   pub plan_is : proof.plan ≡ plan
   pub cuts : proof.cuts ≡ cuts_among entries
@@ -21,7 +21,7 @@ pub record IsProofMade (plan : Plan) (entries : List Entry) (twigs : List Twig) 
   pub tree : proof.tree ≡ map (moved_node (place_of entries)) (map node_of twigs)
   pub verdict : proof.verdict ≡ verdict_of (all_shown plan.cost twigs)
 
--- the outcome of a search, without further lines where none are made
+-- the result of a search, without lines where none are made
 pub record IsProofWith (p : Case) (divides : Bool) (given : Plan) (handed : List CutLine) (limit : ℕ) (proof : Proof) : Type 0 where
   pub proof_is : IsProofOf p given handed limit proof
   pub plain : divides ≡ false → proof.lines ≡ []

@@ -1,4 +1,4 @@
--- places of trees on the way, and the boxes that they take
+-- places of growing trees, and their boxes
 use Rattle.std.specs.Prelude.{◌≡◌, ℕ, List, Some, count_by, slice_get}
 use Rattle.tree_check.specs.Trees.{TreeBox, sides_of}
 use Rattle.box_search.specs.Finds.{is_split, node_of}
@@ -7,25 +7,25 @@ use Rattle.box_search.specs.declared.twigs.OpenBox.{OpenBox}
 use Rattle.box_search.specs.declared.twigs.Twig.{Twig}
 use Rattle.box_search.specs.declared.twigs.Twig.TheVariants as twig
 
--- the boxes of the sides of a place; only a split has some
+-- the boxes of the two sides, if the place is a split
 abbrev pub twig_sides : TreeBox → Twig → List TreeBox
 twig_sides box t = sides_of box (node_of t)
 
--- places in preorder, which take these boxes in turn, and leave none
+-- places in preorder that take these boxes in turn, and use them up
 abbrev pub AreTwigsOf : (TreeBox → Twig → Type 0) → List TreeBox → List Twig → Type 0
 AreTwigsOf = ArePlaced twig_sides
 
--- how many splits the places are
+-- how many of the places are splits
 abbrev pub twig_splits : List Twig → ℕ
 twig_splits twigs = count_by (λ t. is_split (node_of t)) twigs
 
--- an open box
+-- the place is an open box
 abbrev pub IsOpenTwig : Twig → Type 0
 IsOpenTwig (twig.Settled node) = ⊥
 IsOpenTwig (twig.Stuck v evidence) = ⊥
 IsOpenTwig (twig.Open o) = Unit {0}
 
--- an open box is at this place
+-- at this index there is an open box
 pub record IsOpenPlace (twigs : List Twig) (i : ℕ) : Type 0 where
   pub opened : OpenBox
   pub at : slice_get twigs i ≡ Some (twig.Open opened)

@@ -6,13 +6,13 @@ use Rattle.branch_tree.specs.declared.tree.Shown.{Shown}
 use Rattle.box_search.specs.declared.twigs.Twig.{Twig}
 use Rattle.box_search.specs.declared.twigs.Twig.TheVariants as twig
 
--- what is shown with one place more
+-- what is shown together with one more place
 abbrev pub shown_with : Shown → Twig → Shown
 shown_with shown (twig.Settled node) = shown
 shown_with shown (twig.Stuck v evidence) = record { unsettled = true; least = min shown.least v.value }
 shown_with shown (twig.Open o) = record { unsettled = true; least = min shown.least o.best.value }
 
--- what is shown with all these places more
+-- what is shown together with all these places
 abbrev pub shown_more : Shown → List Twig → Shown
 shown_more shown [] = shown
 shown_more shown (t ∷ twigs) = shown_more (shown_with shown t) twigs
