@@ -1,4 +1,4 @@
--- the outcome of a proof: the report of a plan with its branch tree, or the first separation
+-- the result of a proof: the report of a plan with its branch tree, or the first separation
 use Rattle.std.specs.Prelude.{◌≡◌, ◌≢◌, ℕ, ◌≤◌, ◌++◌, List, [], All, AllPairs, Contains, flat_map, length, map}
 use Rattle.plan_terms.specs.Terms.{Case, CutLine, Notes}
 use Rattle.plan_report.specs.Terms.{Certificate, Plan}
@@ -28,7 +28,7 @@ proof_text p proof = flat_map comment_line (proof_lines p.links p.demands p.plac
 abbrev pub certificate_cuts : Certificate → List CutLine
 certificate_cuts c = map (λ l. l.cut) c.lines
 
--- The cuts that a search begins with: those of a pool, and after them those of a certificate that the pool lacks, each once.
+-- the cuts that a search begins with: those of a pool, and after them those of a certificate that the pool lacks, each once
 pub record AreHandedIn (pool own cuts : List CutLine) : Type 0 where
   pub others : List CutLine
   pub whole : cuts ≡ pool ++ others
@@ -42,11 +42,11 @@ pub record IsTrimmedOnce (p : Case) (notes : Notes) (r : PlannedReport) : Type 0
   pub blocks : List Block
   pub trimmed : IsTrimmedReport p notes r blocks
 
--- ---- its outcome
+-- ---- the result
 
--- The report is a transcript of one plan command, its one outcome is the proof's plan, and no finding holds of it. The proof is one of
--- the trimmed plan by a search with this limit that begins with the cuts of the pool and of the plan's certificate; with a limit of 0 its
--- tree is the root alone. Where it says that the plan is cheapest, no able counts cost less; and none cost less than the value that it tells.
+-- The report is a transcript of one plan command, its one outcome is the proof's plan, and it has no finding. The proof is for the trimmed plan, by a
+-- search with this limit that begins with the cuts of the pool and of the plan's certificate; with a limit of 0 its tree is the root alone. If it says that
+-- the plan is cheapest, no counts that can carry the demands cost less; and none cost less than the value that it tells.
 pub record IsLinedReport (p : Case) (notes : Notes) (limit : ℕ) (r : ProvedReport) : Type 0 where
   pub transcript : IsTranscript p notes plan_commands (whole_report (proved_report r))
   pub acceptable : IsAcceptable p notes (whole_report (proved_report r))
@@ -59,7 +59,7 @@ pub record IsLinedReport (p : Case) (notes : Notes) (limit : ℕ) (r : ProvedRep
   pub cheapest : ShowsCheapest p r.proof
   pub above : ShowsBound p r.proof
 
--- such a report whose proof is over cuts alone
+-- such a report with a proof over cuts alone
 pub record IsProvedReport (p : Case) (notes : Notes) (limit : ℕ) (r : ProvedReport) : Type 0 where
   pub lined : IsLinedReport p notes limit r
   pub plain : r.proof.lines ≡ []

@@ -15,13 +15,13 @@ use std::thread::Threads;
 use trimmed_report::lone_plan::PlannedReport;
 use trimmed_report::{TrimEnding, trim_once};
 
-/// The report of one plan command of caller 1, with the proof of its plan apart.
+/// The report of one plan command of caller 1, with the proof of its plan apart from the other parts.
 #[derive(Drop)]
 pub struct ProvedReport {
     pub notes: Notes,
     pub entries: List<Entry>,
     pub pool: List<CutLine>,
-    /// Its plan is the report's.
+    /// The proof, with the report's plan in it.
     pub proof: Proof,
 }
 
@@ -30,11 +30,11 @@ pub struct ProvedReport {
 pub enum ProofEnding {
     /// The report of a plan with its branch tree.
     Proved(ProvedReport),
-    /// The first state that separates a demand which has a need, and the first such demand, by its name.
+    /// The first state that separates a demand with a need, and the name of the first such demand.
     Separated { state: StateId, demand: Name },
 }
 
-/// Searches for a branch tree of a report's plan, with at most `limit` splits, over cuts alone or over divided lines too.
+/// Searches for a branch tree of a report's plan, with at most `limit` splits, and with divided lines if `divides` is set.
 fn prove_planned<G: Gate>(
     alloc: Global,
     instance: &Instance,
@@ -59,7 +59,7 @@ fn prove_planned<G: Gate>(
     })
 }
 
-/// Searches for a branch tree of a trimmed plan, where there is one.
+/// Searches for a branch tree of the trimmed plan, if there is one.
 fn prove_trimmed<G: Gate>(
     alloc: Global,
     instance: &Instance,
@@ -85,7 +85,7 @@ fn prove_trimmed<G: Gate>(
 /// Plans an instance as `plan_once` does, takes off modules that can be spared, and searches for a branch tree with at most `limit` splits.
 /// It may never return.
 ///
-/// All modules cost something. It takes the time and the memory of `trim_once` and then of `prove`.
+/// All modules cost something. It takes the time and the memory of `trim_once` and then of `prove`. It fails only where memory runs out.
 pub fn prove_once<R: Threads + Wait + Sync, G: Gate + Sync>(
     rt: &R,
     alloc: Global,
@@ -101,10 +101,12 @@ pub fn prove_once<R: Threads + Wait + Sync, G: Gate + Sync>(
     prove_trimmed(alloc, instance, ending, limit, false, gate)
 }
 
-/// As `prove_once`, but the tree may name lines besides the cuts, as that of `prove_instance` does where it divides; they come with the
-/// proof. With a limit of 0 there are no splits: the tree is its root alone, with the best certificate for all counts. It may never return.
+/// Does as `prove_once`, but the tree may also name lines that are made of the cuts, as that of `prove_instance` does if `divides` is set;
+/// they come with the proof. With a limit of 0 there are no splits: the tree is its root alone, with the best certificate for all counts.
+/// It may never return.
 ///
-/// All modules cost something. It takes the time and the memory of `trim_once` and then of `prove_instance`.
+/// All modules cost something. It takes the time and the memory of `trim_once` and then of `prove_instance`. It fails only where memory
+/// runs out.
 pub fn prove_once_by_lines<R: Threads + Wait + Sync, G: Gate + Sync>(
     rt: &R,
     alloc: Global,

@@ -8,7 +8,7 @@ use net_core::{Copied, CutLine, Instance, List, NoMemory};
 use plan_types::Certificate;
 use std::alloc::Global;
 
-/// Puts a copy of a cut last, unless the list has it.
+/// Adds a copy of a cut, unless the list has it.
 fn hand_in(cuts: &mut List<CutLine>, cut: &CutLine) -> Result<(), NoMemory>
     requires few { length cuts.old < 2 ^ 31 }
     ensures has { OnOk result (Contains cuts.new cut.now) }
@@ -37,7 +37,7 @@ pub(crate) fn handed_cuts(
     Ok(cuts)
 }
 
-/// Works cuts out anew, which shows that each is a cut of the instance. It takes a search from each node for each cut.
+/// Computes each cut again from its lengths, which shows that it is a cut of the instance. It takes a search from each node for each cut.
 pub(crate) fn work_out(alloc: Global, instance: &Instance, cuts: &[CutLine]) -> Result<(), NoMemory>
     requires { All (λ cut. ∥ IsCut (case_of instance.now) cut ∥₁) cuts.now }
     ensures { IfOk result (λ _. All (IsCut (case_of instance.now)) cuts.now) }

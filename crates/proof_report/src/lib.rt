@@ -1,4 +1,4 @@
-//! The report of a plan with the branch tree that shows it to be cheapest, or how far from it the plan may be.
+//! The report of a plan with the branch tree that shows it to be cheapest, or how far from cheapest it may be.
 #![tactic(auto)]
 
 mod charged;

@@ -14,7 +14,7 @@ use std::alloc::Global;
 use tree_lines::put_proof;
 use trimmed_report::lone_plan::PlannedReport;
 
-/// The report with the proof's plan, and the proof.
+/// The parts of a proved report: the report with the proof's plan, and the proof.
 fn parted(report: ProvedReport) -> Result<(PlannedReport, Proof), NoMemory>
     ensures { IfOk result (λ r. (r.0 ≡ proved_report report) × (r.1 ≡ report.proof)) }
 {
@@ -28,7 +28,7 @@ fn parted(report: ProvedReport) -> Result<(PlannedReport, Proof), NoMemory>
     Ok((planned, report.proof))
 }
 
-/// Puts the comment lines of a proof of an instance's plan last.
+/// Appends the comment lines of a proof of an instance's plan.
 fn put_lines(text: &mut Bytes, instance: &Instance, proof: &Proof) -> Result<(), NoMemory>
     requires { IsToldProof proof.now }
     ensures { OnOk result (AddsLines text.old
@@ -43,8 +43,8 @@ fn put_lines(text: &mut Bytes, instance: &Instance, proof: &Proof) -> Result<(),
     )
 }
 
-/// The text of the report of a plan with its branch tree: the report, then comment lines for each cut of the tree, for each line that is
-/// made of them, for each node in preorder, and for what it shows, as `# cheapest`. Reading the text gives the report again.
+/// The text of a report with its branch tree: the report, then comment lines for each cut of the tree, for each line that is made of cuts,
+/// for each node in preorder, and for what the tree shows, such as `# cheapest`. Reading the text gives the report again.
 ///
 /// It takes time and memory in the number of the text's bytes, and memory for a copy of the plan.
 pub fn write_lined(
