@@ -1,12 +1,12 @@
 use check_answers::Status;
 use net_core::Bytes;
 
-/// What people are told of a plan.
+/// What people are told of a plan. The text is for standard output, and the message for standard error.
 #[derive(Drop)]
 pub struct PlanAnswer {
     pub status: Status,
-    /// What is printed.
+    /// What is printed; empty if there is no plan.
     pub text: Bytes,
-    /// What is said beside it.
+    /// What is said besides; empty if there is nothing to say.
     pub message: Bytes,
 }

@@ -9,7 +9,7 @@ use net_core::{Bytes, Link, List, NoMemory};
 use proof_report::are_dear;
 use std::alloc::Global;
 
-/// The first link of which a module costs nothing.
+/// The first link with a module that costs nothing.
 pub(crate) fn first_free(links: &[Link]) -> Option<&Link>
     ensures { MatchOption result (AreCharged links.now) (λ l. (e : ℕ) × IsFirstFreeLink links.now e l.now) }
 {
@@ -21,7 +21,7 @@ pub(crate) fn first_free(links: &[Link]) -> Option<&Link>
     None
 }
 
-/// What is said of a link of which a module costs nothing.
+/// What is said of a link with a module that costs nothing.
 fn free_text(alloc: Global, network: &[u8], name: &[u8]) -> Result<Bytes, NoMemory>
     ensures { IfOk result (λ text. text ≡ free_link_message network.now name.now) }
 {
@@ -36,7 +36,7 @@ fn free_text(alloc: Global, network: &[u8], name: &[u8]) -> Result<Bytes, NoMemo
     Ok(text)
 }
 
-/// The answer to a network with a link of which a module costs nothing.
+/// The answer to a network in which a module of this link costs nothing.
 pub(crate) fn free_answer(
     alloc: Global,
     network: &[u8],

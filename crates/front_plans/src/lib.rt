@@ -1,4 +1,4 @@
-//! A plan for people: what they read of it, or its report, and what is said where there is none.
+//! A plan for people: its tables or its report, or what is said if there is no plan.
 //!
 //! ```text
 //! let answer = plan_for_people(&rt, alloc, b"net.txt", &problem, None, false, &gate)?;

@@ -15,7 +15,7 @@ use std::alloc::Global;
 use tree_check::{Proof, Verdict};
 use view_text::{CostProof, put_first_block, put_view};
 
-/// What a proof tells of the cost of its plan.
+/// What a proof tells about the cost of its plan.
 fn told(proof: &Proof) -> CostProof
     requires { length proof.now.tree < 2 ^ 32 }
     ensures { result ≡ told_of_proof proof.now }
@@ -27,7 +27,7 @@ fn told(proof: &Proof) -> CostProof
     }
 }
 
-/// The outcomes of a report of this plan alone.
+/// The outcomes of a report that has only this plan.
 fn lone_outcomes(alloc: Global, plan: Plan) -> Result<List<Outcome>, NoMemory>
     ensures { IfOk result (λ outcomes. outcomes ≡ Outcome.Planned 1 1 plan ∷ []) }
 {
@@ -40,7 +40,7 @@ fn lone_outcomes(alloc: Global, plan: Plan) -> Result<List<Outcome>, NoMemory>
     Ok(outcomes)
 }
 
-/// The outcomes of a report of a proved plan.
+/// The outcomes of a report with a proved plan.
 fn report_outcomes(alloc: Global, report: &ProvedReport) -> Result<List<Outcome>, NoMemory>
     ensures { IfOk result (λ outcomes. outcomes ≡ told_outcomes report.now) }
 {
@@ -65,7 +65,7 @@ fn view_of(
     Ok(text)
 }
 
-/// The first block of that view.
+/// The first block of the view of these outcomes.
 fn block_of(
     alloc: Global,
     network: &[u8],
@@ -116,7 +116,7 @@ fn brief(
     block_of(alloc, network, problem, outcomes.items(), cost)
 }
 
-/// The answer of a report whose view is wanted.
+/// The answer with the view of a report.
 fn shown(
     alloc: Global,
     network: &[u8],
@@ -136,7 +136,7 @@ fn shown(
     })
 }
 
-/// The text of a report with the lines of its proof.
+/// The text of a report, with the comment lines of its proof.
 fn report_bytes(
     alloc: Global,
     problem: &Problem,
@@ -156,7 +156,7 @@ fn report_bytes(
     write_lined(alloc, &instance, report, limit)
 }
 
-/// The answer of a report that is wanted itself.
+/// The answer with a report itself; the first block of its view is the message.
 fn reported(
     alloc: Global,
     network: &[u8],
@@ -177,7 +177,7 @@ fn reported(
     })
 }
 
-/// The answer of a report of a plan: its text, or its view.
+/// The answer for a report of a plan: the report if it is `wanted`, else its view.
 pub(crate) fn planned_answer(
     alloc: Global,
     network: &[u8],

@@ -16,7 +16,7 @@ use std::alloc::Global;
 use std::sync::Wait;
 use std::thread::Threads;
 
-/// The answer of a report of a plan.
+/// The answer for a report of a plan: the report if it is `wanted`, else its view.
 fn answer_proved(
     alloc: Global,
     network: &[u8],
@@ -31,7 +31,7 @@ fn answer_proved(
     planned_answer(alloc, network, problem, report, limit, wanted)
 }
 
-/// The answer of a problem that has no plan.
+/// The answer to a problem without a plan, in which this state separates this demand.
 fn answer_separated(
     alloc: Global,
     network: &[u8],
@@ -95,7 +95,7 @@ fn ending_of<R: Threads + Wait + Sync, G: Gate + Sync>(
     prove_once_by_lines(rt, alloc, &instance, limit, gate)
 }
 
-/// The answer to a problem of which all modules cost something.
+/// The answer to a problem in which all modules cost something.
 fn answer_charged<R: Threads + Wait + Sync, G: Gate + Sync>(
     rt: &R,
     alloc: Global,
@@ -113,7 +113,7 @@ fn answer_charged<R: Threads + Wait + Sync, G: Gate + Sync>(
     answer_ending(alloc, network, problem, ending, limit, wanted)
 }
 
-/// The answer to a problem of which a module of this link costs nothing.
+/// The answer to a problem in which a module of this link costs nothing.
 fn answer_free(
     alloc: Global,
     network: &[u8],
@@ -131,7 +131,7 @@ fn answer_free(
     free_answer(alloc, network, link.name.bytes())
 }
 
-/// The answer of a plan with a branch tree of at most this number of splits.
+/// The answer to a problem, with a branch tree of at most `limit` splits.
 fn plan_within<R: Threads + Wait + Sync, G: Gate + Sync>(
     rt: &R,
     alloc: Global,
@@ -150,15 +150,16 @@ fn plan_within<R: Threads + Wait + Sync, G: Gate + Sync>(
     }
 }
 
-/// A plan of a problem whose network's file has this name, for people: it is planned by one plan command of caller 1, trimmed, and made cheaper,
-/// and a branch tree over cuts and lines that are made of them tells how near to the cheapest it is. The tree has at most as many splits as
-/// somebody says, at most 9,999, and else as many as `default_splits` says; with 0 it is its root alone. It may never return.
+/// A plan of a problem for people; `network` is the name of the network's file. It is planned by one plan command of caller 1, trimmed and
+/// made cheaper, and a branch tree over cuts and lines made of them tells how near to the cheapest it is. The tree has at most `splits`
+/// splits, at most 9,999, or `default_splits` if that is `None`; with 0 it is its root alone. It may never return.
 ///
-/// The text is the view of the plan. Where the report is wanted, it is the report with the lines of its tree, and the message the view's first
-/// block. Where demands can't be carried, the message names each with the state that separates it; where a module costs nothing, it names the
-/// first link with such a module. Both end in the planner's own line.
+/// The text is the view of the plan. If the report is `wanted`, the text is the report with the comment lines of the tree, and the message
+/// is the first block of the view. If demands can't be carried, the message names each of them with the state that separates it; if a
+/// module costs nothing, it names the first link with such a module. Both messages end with the planner's own line.
 ///
-/// It takes the time and the memory of `prove_once_by_lines` and of `put_view` or `write_lined`; where there is no plan those of `separations`.
+/// It takes the time and the memory of `prove_once_by_lines` and of `put_view` or `write_lined`; if there is no plan, those of
+/// `separations`. It fails only where memory runs out.
 pub fn plan_for_people<R: Threads + Wait + Sync, G: Gate + Sync>(
     rt: &R,
     alloc: Global,
