@@ -1,4 +1,4 @@
--- the outcome of a plan for people: a status, a text, and a message beside it
+-- the result of a plan for people: a status, a text, and a message
 use Rattle.std.specs.Prelude.{◌≡◌, ℕ, ◌≤◌, ◌<◌, ◌⊎◌, Bool, true, false, Option, None, Some, List, [], ◌++◌, All, codes, length, slice_get, take}
 use Rattle.plan_terms.specs.Terms.{Case, Link, Notes}
 use Rattle.plan_report.specs.Terms.{SpellsReport, known_to, report_text, Outcome}
@@ -19,14 +19,14 @@ use Rattle.view_text.specs.declared.proof.CostProof.TheVariants.{Cheapest, Above
 
 -- ---- splits
 
--- how many splits a branch tree has at most where nobody says: 100 up to 20 nodes, 10 up to 40, and else none
+-- how many splits a branch tree has at most by default: 100 up to 20 nodes, 10 up to 40, and else none
 abbrev pub IsDefaultLimit : ℕ → ℕ → Type 0
 IsDefaultLimit nodes limit =
     ((nodes ≤ 20) × (limit ≡ 100))
     ⊎ ((20 < nodes) × (nodes ≤ 40) × (limit ≡ 10))
     ⊎ ((40 < nodes) × (limit ≡ 0))
 
--- the number of splits that somebody says, and else the number for this number of nodes
+-- the number of splits that is asked for, or the default for this number of nodes
 abbrev pub IsLimitOf : Option ℕ → ℕ → ℕ → Type 0
 IsLimitOf None nodes limit = IsDefaultLimit nodes limit
 IsLimitOf (Some splits) nodes limit = limit ≡ splits
@@ -42,12 +42,12 @@ cost_told boxes (verdict.Above least) = Above boxes least
 abbrev pub told_of_proof : Proof → CostProof
 told_of_proof proof = cost_told (length proof.tree) proof.verdict
 
--- the one outcome of the report
+-- the outcomes of the report: its plan alone
 abbrev pub told_outcomes : ProvedReport → List Outcome
 told_outcomes r = (whole_report (proved_report r)).outcomes
 
--- The text is the view of the report with what its proof tells; or, where the report is wanted, it is the report's with the lines of the proof,
--- it spells the report, and the first block of the view is beside it.
+-- The text is the view of the report with what its proof tells. Or, if the report is wanted, the text is the report with the comment lines of the proof,
+-- which is read back as the report, and the message is the first block of the view.
 abbrev pub PrintsReport : List ℕ → Bool → Case → ProvedReport → List ℕ → List ℕ → Type 0
 PrintsReport network false p r text message = IsReportView network p (told_outcomes r) (told_of_proof r.proof) text × (message ≡ [])
 PrintsReport network true p r text message =
@@ -55,8 +55,8 @@ PrintsReport network true p r text message =
     × SpellsReport (known_to p) text (whole_report (proved_report r))
     × IsFirstBlock network p (told_outcomes r) (told_of_proof r.proof) message
 
--- The texts are of the report of a plan: a transcript of one plan command of caller 1 of which no finding holds, with a proof by a search with
--- this limit. Where the proof says that the plan is cheapest, no able counts cost less.
+-- Text and message are of the report of a plan: a transcript of one plan command of caller 1 without a finding, with a proof by a search with this limit.
+-- If the proof says that the plan is cheapest, no counts that can carry the demands cost less.
 pub record PrintsPlan (network : List ℕ) (limit : ℕ) (wanted : Bool) (p : Case) (notes : Notes) (text message : List ℕ) : Type 0 where
   pub report : ProvedReport
   pub proved : IsLinedReport p notes limit report
@@ -80,39 +80,39 @@ pub record SaysSeparations (network : List ℕ) (p : Case) (message : List ℕ) 
 abbrev pub IsDearLink : Link → Type 0
 IsDearLink l = All (λ m. 0 < m.cost) l.modules
 
--- link e is the first of which a module costs nothing
+-- link e is the first one with a module that costs nothing
 pub record IsFirstFreeLink (links : List Link) (e : ℕ) (link : Link) : Type 0 where
   pub at : slice_get links e ≡ Some link
   pub here : IsDearLink link → ⊥
   pub before : All IsDearLink (take e links)
 
--- what is said of such a link, and last the planner's line of it
+-- what is said of such a link, with the planner's line of it at the end
 abbrev pub free_link_message : List ℕ → List ℕ → List ℕ
 free_link_message network name =
     network ++ codes ": a module of link " ++ name
     ++ codes " costs nothing\n  a plan is shown to be cheap only where each module costs something; give it a cost, as 0.001\n"
     ++ codes "refused network free-module at 0\n"
 
--- the message names the first link of which a module costs nothing
+-- the message names the first link with a module that costs nothing
 abbrev pub SaysFreeLink : List ℕ → List Link → List ℕ → Type 0
 SaysFreeLink network links message = (e : ℕ) × (link : Link) × IsFirstFreeLink links e link × (message ≡ free_link_message network link.name)
 
 -- ---- all
 
--- The outcome of a plan where all modules cost something: its texts, or a message of all separations.
+-- the result of a plan where all modules cost something: its texts, or a message of all separations
 abbrev pub EndsChargedPlan : List ℕ → ℕ → Bool → Case → Notes → Status → List ℕ → List ℕ → Type 0
 EndsChargedPlan network limit wanted p notes status text message =
     ((status ≡ Done) × PrintsPlan network limit wanted p notes text message)
     ⊎ ((status ≡ NotSurvivable) × (text ≡ []) × SaysSeparations network p message)
 
--- The outcome of a plan with a branch tree of at most this number of splits: a module costs nothing, or the outcome where all cost something.
+-- the result of a plan with a branch tree of at most this number of splits: a module costs nothing, or the result where all cost something
 abbrev pub EndsPlanWithin : List ℕ → ℕ → Bool → Case → Notes → Status → List ℕ → List ℕ → Type 0
 EndsPlanWithin network limit wanted p notes status text message =
     ((status ≡ BadNetwork) × (text ≡ []) × SaysFreeLink network p.links message)
     ⊎ (AreCharged p.links × EndsChargedPlan network limit wanted p notes status text message)
 
--- The outcome of a plan for people, unless memory runs out. The network's file has this name, somebody says how many splits there are at most, or
--- it is by default, and the report is wanted or its view.
+-- The result of a plan for people, unless memory runs out. The network's file has this name; the number of splits is asked for or the default; and the
+-- report or its view is wanted.
 abbrev pub EndsPlanForPeople : List ℕ → Option ℕ → Bool → Case → Notes → Status → List ℕ → List ℕ → Type 0
 EndsPlanForPeople network splits wanted p notes status text message =
     (limit : ℕ) × IsLimitOf splits (length p.nodes) limit × EndsPlanWithin network limit wanted p notes status text message

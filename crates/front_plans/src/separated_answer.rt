@@ -11,7 +11,7 @@ use net_core::{Bytes, Instance, List, NoMemory, StateId};
 use separation_texts::{put_separations, separated_line, separations};
 use std::alloc::Global;
 
-/// Puts what is said before the lines of the separations last.
+/// Appends what is said before the lines of the separations.
 fn put_words(text: &mut Bytes, network: &[u8]) -> Result<(), NoMemory>
     ensures { OnOk result (text.new ≡ text.old ++ separated_words network.now) }
 {
@@ -19,7 +19,7 @@ fn put_words(text: &mut Bytes, network: &[u8]) -> Result<(), NoMemory>
     text.append(b": there is no plan, since some demands can't be carried\n")
 }
 
-/// Puts the planner's line of the first separation last.
+/// Appends the planner's line of the first separation.
 fn put_line(
     text: &mut Bytes,
     alloc: Global,
@@ -34,7 +34,7 @@ fn put_line(
     text.append(line.items())
 }
 
-/// What is said of an instance of which this state and this demand are the first separation.
+/// What is said of an instance whose first separation is of this state and this demand.
 fn separated_text(
     alloc: Global,
     network: &[u8],
@@ -53,7 +53,7 @@ fn separated_text(
     Ok(text)
 }
 
-/// The answer of an instance that has no plan, of which this state and this demand are the first separation.
+/// The answer to an instance without a plan, whose first separation is of this state and this demand.
 pub(crate) fn separated_answer(
     alloc: Global,
     network: &[u8],

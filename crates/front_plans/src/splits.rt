@@ -1,8 +1,8 @@
 ghost use Rattle.std.specs.Prelude.{◌≤◌, IfSome};
 ghost use Rattle.front_plans.specs.FrontPlans.{IsDefaultLimit, IsLimitOf};
 
-/// How many splits a branch tree has at most where nobody says: 100 for up to 20 nodes, 10 for up to 40, and else none, so that the tree is its
-/// root alone. It takes constant time, and no memory.
+/// How many splits a branch tree has at most by default: 100 for up to 20 nodes, 10 for up to 40, and none for more, so that the tree is
+/// its root alone. It takes constant time, and no memory.
 pub fn default_splits(nodes: usize) -> u32
     ensures limit { IsDefaultLimit nodes result }
     ensures few { result ≤ 100 }
@@ -16,7 +16,7 @@ pub fn default_splits(nodes: usize) -> u32
     }
 }
 
-/// How many splits there are at most: as many as somebody says, or as many as `default_splits` says.
+/// How many splits a branch tree has at most: `splits`, or `default_splits` if that is `None`.
 pub(crate) fn limit_of(splits: Option<u32>, nodes: usize) -> u32
     requires { IfSome splits (λ n. n ≤ 9999) }
     ensures limit { IsLimitOf splits nodes result }
