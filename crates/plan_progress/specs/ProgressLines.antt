@@ -7,7 +7,7 @@ use Rattle.view_cells.specs.Terms.{counted, tenths_per_cent}
 use Rattle.outside_io.specs.declared.figures.RoundFigures.{RoundFigures}
 use Rattle.outside_io.specs.declared.figures.TreeFigures.{TreeFigures}
 
--- what a certificate is worth in whole units, rounded down; 0 where that isn't told
+-- the value of a certificate in whole units, rounded down; 0 if it has none
 abbrev pub worth : RoundFigures → ℕ
 worth f = f.raw_num / f.raw_den
 
@@ -28,10 +28,10 @@ split_costs places f =
 abbrev pub split_rest : TreeFigures → ℕ → List ℕ
 split_rest f gap = codes ", gap " ++ tenths_per_cent gap ++ codes ", " ++ counted f.open (codes "box") (codes "boxes") ++ codes " open\n"
 
--- the line of a split box, with this gap
+-- the line of a split, with this gap in tenths of a per cent
 abbrev pub split_line : Places → TreeFigures → ℕ → List ℕ
 split_line places f gap = split_costs places f ++ split_rest f gap
 
--- the line of a split box, with its gap, is put last
+-- the line of a split, with its gap, is appended to the text
 abbrev pub HasSplitLine : Places → TreeFigures → List ℕ → List ℕ → Type 0
 HasSplitLine places f old new = (gap : ℕ) × IsGap f.cost f.bound gap × (new ≡ old ++ split_line places f gap)

@@ -7,7 +7,7 @@ use net_core::{Bytes, List, NoMemory, Places};
 use outside_io::{Gate, RoundFigures, TreeFigures};
 use std::alloc::Global;
 
-/// A gate that holds nobody, and tells a line of each round and of each tenth of a tree's splits, unless it is quiet or memory runs out.
+/// A gate that holds nobody. It tells a line of each round, and of each tenth of a tree's splits, unless it is quiet or memory runs out.
 #[derive(Drop)]
 pub struct TellingGate<'t, T> {
     alloc: Global,
@@ -18,8 +18,8 @@ pub struct TellingGate<'t, T> {
 }
 
 impl<'t, T: Teller> TellingGate<'t, T> {
-    /// A gate that tells this teller, with money in a network's decimal places. It takes constant time, and no
-    /// memory; each line that it tells takes some.
+    /// A gate that tells this teller, with money in a network's decimal places. It takes constant time, and no memory; each line that it
+    /// tells takes some.
     pub fn new(alloc: Global, places: Places, quiet: bool, teller: &'t T) -> TellingGate<'t, T> {
         TellingGate {
             alloc,
@@ -48,12 +48,12 @@ fn split_text(alloc: Global, places: Places, figures: &TreeFigures) -> Result<By
     Ok(text)
 }
 
-/// How many tenths of its splits a tree has.
+/// How many tenths of its splits a tree has made.
 fn tenths(splits: u32, limit: u32) -> u64 {
     (splits as u64 * 10).checked_div(limit as u64).unwrap_or(0)
 }
 
-/// Whether a tree has reached another tenth of its splits with the latest one.
+/// Whether the latest split was the one that reached another tenth.
 fn is_tenth(figures: &TreeFigures) -> bool {
     let before = figures.splits.saturating_sub(1);
     tenths(figures.splits, figures.limit) != tenths(before, figures.limit)

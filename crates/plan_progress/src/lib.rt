@@ -1,4 +1,4 @@
-//! What a planning tells on its way: a line of each round, and a line of each tenth of the splits of a branch tree.
+//! What a planning tells while it runs: a line for each round, and one for each tenth of the splits of a branch tree.
 //!
 //! ```text
 //! let gate = TellingGate::new(alloc, net.places(), false, &teller);

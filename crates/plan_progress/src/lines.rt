@@ -7,15 +7,15 @@ use plan_view::gap_of;
 use text_kit::write::{put_decimal, put_money_word};
 use view_cells::cells::{put_counted, put_tenths};
 
-/// What a certificate is worth in whole units, rounded down; 0 where that isn't told.
+/// The value of a certificate in whole units of the network, rounded down; 0 if it has none.
 fn worth(figures: &RoundFigures) -> u128
     ensures { result ≡ worth figures.now }
 {
     figures.raw_num.checked_div(figures.raw_den).unwrap_or(0)
 }
 
-/// Puts the line of a round last, with money in a network's decimal places. It takes time in the line, and asks for memory only where the text
-/// has no room left.
+/// Appends the line of a round, with money in a network's decimal places. It takes time in the line's length, and asks for memory only if
+/// the text has no room left.
 pub fn put_round(text: &mut Bytes, places: Places, figures: &RoundFigures) -> Result<(), NoMemory>
     ensures { OnOk result (text.new ≡ text.old ++ round_line places figures.now) }
 {
@@ -30,7 +30,7 @@ pub fn put_round(text: &mut Bytes, places: Places, figures: &RoundFigures) -> Re
     text.append(b" carried\n")
 }
 
-/// Puts what is told of the splits and of the costs last.
+/// Appends what is told of the splits and of the costs.
 fn put_split_costs(text: &mut Bytes, places: Places, figures: &TreeFigures) -> Result<(), NoMemory>
     ensures { OnOk result (text.new ≡ text.old ++ split_costs places figures.now) }
 {
@@ -44,7 +44,7 @@ fn put_split_costs(text: &mut Bytes, places: Places, figures: &TreeFigures) -> R
     put_money_word(text, places, figures.bound)
 }
 
-/// Puts what is told of the gap and of the open boxes last.
+/// Appends what is told of the gap, in tenths of a per cent, and of the open boxes.
 fn put_split_rest(text: &mut Bytes, figures: &TreeFigures, gap: u32) -> Result<(), NoMemory>
     ensures { OnOk result (text.new ≡ text.old ++ split_rest figures.now gap) }
 {
@@ -55,7 +55,7 @@ fn put_split_rest(text: &mut Bytes, figures: &TreeFigures, gap: u32) -> Result<(
     text.append(b" open\n")
 }
 
-/// Puts the line of a split box with this gap last.
+/// Appends the line of a split, with this gap in tenths of a per cent.
 fn put_split_gap(
     text: &mut Bytes,
     places: Places,
@@ -68,7 +68,7 @@ fn put_split_gap(
     put_split_rest(text, figures, gap)
 }
 
-/// Puts the line of a split box last, with money in a network's decimal places. It takes time in the tenths of a per cent of the gap.
+/// Appends the line of a split, with money in a network's decimal places. It takes time in the gap's tenths of a per cent.
 pub fn put_split(text: &mut Bytes, places: Places, figures: &TreeFigures) -> Result<(), NoMemory>
     ensures { OnOk result (HasSplitLine places figures.now text.old text.new) }
 {

@@ -1,11 +1,11 @@
-/// Whom a planning tells how far it is. What is told is told at once, by any thread; where that fails, nothing is said of it. No answer
-/// depends on it. Threads that share one ask that it is `Sync` too.
+/// Someone to whom a planning tells its progress. A line is told at once, by any thread; if telling fails, nothing is said of it, and no
+/// answer depends on it. If threads share a teller, it has to be `Sync` too.
 pub trait Teller {
     /// Tells a line.
     fn tell(&self, line: &[u8]);
 }
 
-/// Nobody is told anything.
+/// A teller that drops all lines.
 #[derive(Clone, Copy, Debug)]
 pub struct NoTeller;
 
