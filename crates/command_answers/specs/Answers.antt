@@ -1,4 +1,4 @@
--- the outcome of each command once its files are read: a status, and a text
+-- the result of each command once its files are read: a status, and a text
 use Rattle.std.specs.Prelude.{◌≡◌, ℕ, ◌+◌, ◌⊎◌, List, [], ◌∷◌, ◌++◌, All, codes, decimal, length}
 use Rattle.plan_terms.specs.Terms.{Notes, Three, Case}
 use Rattle.plan_report.specs.Terms.{known_to, SpellsReport, report_text, Plan, Quality, Tight, Loose, Planned, Report}
@@ -20,8 +20,8 @@ use Rattle.check_answers.specs.declared.status.Status.TheVariants.{Done, BadNetw
 
 -- ---- reports
 
--- The text is that of this report, which is a transcript of the commands, from the opening demands of the case. No finding holds of
--- it, and no counts that can carry the demands of a plan of it cost less than the plan's bound.
+-- The text is that of this report, which is a transcript of the commands, from the opening demands of the case. The report has no finding, and no counts
+-- that can carry the demands of one of its plans cost less than that plan's bound.
 pub record IsPrintedReport (p : Case) (notes : Notes) (commands : List Command) (r : Report) (text : List ℕ) : Type 0 where
   pub transcript : IsTranscript p notes commands r
   pub clean : HasNoFinding notes p r
@@ -37,7 +37,7 @@ pub record IsPlanReport (p : Case) (notes : Notes) (text : List ℕ) : Type 0 wh
   pub alone : report.outcomes ≡ Planned 1 1 plan ∷ []
   pub printed : IsPrintedReport p notes plan_commands report text
 
--- the outcome of planning, unless memory runs out: a text that spells the report of a plan, or the first separation
+-- the result of planning, unless memory runs out: a text that is read back as the report of a plan, or the first separation
 abbrev pub EndsPlan : Case → Notes → Status → List ℕ → Type 0
 EndsPlan p notes status text =
     ((status ≡ Done) × ((planned : IsPlanReport p notes text) × SpellsReport (known_to p) text planned.report))
@@ -45,7 +45,7 @@ EndsPlan p notes status text =
 
 -- ---- a trimmed plan
 
--- The text is the report of a plan from which no module can be spared, and then a comment line for each module: what keeps it. It spells
+-- The text is the report of a plan from which no module can be spared, and then a comment line for each module that tells what keeps it. It is read back as
 -- the report.
 pub record IsPrintedTrim (p : Case) (notes : Notes) (text : List ℕ) : Type 0 where
   pub report : PlannedReport
@@ -54,7 +54,7 @@ pub record IsPrintedTrim (p : Case) (notes : Notes) (text : List ℕ) : Type 0 w
   pub printed : text ≡ report_text (known_to p) (whole_report report) ++ block_lines p.links p.demands blocks
   pub spelled : SpellsReport (known_to p) text (whole_report report)
 
--- the outcome of trimming, unless memory runs out: such a text, or the first separation
+-- the result of trimming, unless memory runs out: the text of a trimmed plan, or the first separation
 abbrev pub EndsTrim : Case → Notes → Status → List ℕ → Type 0
 EndsTrim p notes status text = ((status ≡ Done) × IsPrintedTrim p notes text) ⊎ ((status ≡ NotSurvivable) × NamesFirstSeparation p text)
 
@@ -64,19 +64,19 @@ EndsTrim p notes status text = ((status ≡ Done) × IsPrintedTrim p notes text)
 abbrev pub free_module_line : List ℕ
 free_module_line = codes "refused network free-module at 0\n"
 
--- The text is the report of a plan, and then the comment lines of its branch tree. It spells the report.
+-- the text is the report of a plan, and then the comment lines of its branch tree; it is read back as the report
 pub record IsPrintedProof (p : Case) (notes : Notes) (limit : ℕ) (text : List ℕ) : Type 0 where
   pub report : ProvedReport
   pub proved : IsProvedReport p notes limit report
   pub printed : text ≡ report_text (known_to p) (whole_report (proved_report report)) ++ proof_text p report.proof
   pub spelled : SpellsReport (known_to p) text (whole_report (proved_report report))
 
--- where all modules cost something: such a text, or the first separation
+-- the result of a proof where all modules cost something: the text of a proof, or the first separation
 abbrev pub EndsCharged : ℕ → Case → Notes → Status → List ℕ → Type 0
 EndsCharged limit p notes status text =
     ((status ≡ Done) × IsPrintedProof p notes limit text) ⊎ ((status ≡ NotSurvivable) × NamesFirstSeparation p text)
 
--- The outcome of a proof, unless memory runs out: the line that a module costs nothing, or the outcome where all cost something.
+-- the result of a proof, unless memory runs out: the line that a module costs nothing, or the result where all cost something
 abbrev pub EndsProve : ℕ → Case → Notes → Status → List ℕ → Type 0
 EndsProve limit p notes status text =
     ((status ≡ BadNetwork) × (AreCharged p.links → ⊥) × (text ≡ free_module_line))
@@ -84,7 +84,7 @@ EndsProve limit p notes status text =
 
 -- ---- an import
 
--- the text is the report of a plan with the file's counts and flows in the place of its own, and spells it
+-- the text is the report of a plan with the file's counts and flows in the place of its own, and is read back as it
 pub record IsPrintedImport (p : Case) (notes : Notes) (file : FlowFile) (text : List ℕ) : Type 0 where
   pub report : Report
   pub imported : IsImportedReport p notes file report
@@ -97,7 +97,7 @@ pub record NamesImportFault (p : Case) (notes : Notes) (file : FlowFile) (text :
   pub first : HasImportFault p notes file fault
   pub printed : text ≡ import_fault_line p fault
 
--- The outcome of importing a file, unless memory runs out: the report with its design, its first fault, or the first separation of the case.
+-- the result of importing a file, unless memory runs out: the report with its design, its first fault, or the first separation of the case
 abbrev pub EndsImported : Case → Notes → FlowFile → Status → List ℕ → Type 0
 EndsImported p notes file status text =
     ((status ≡ Done) × IsPrintedImport p notes file text)
@@ -125,13 +125,13 @@ quality_word (Loose cause) = codes "loose"
 abbrev pub raw_lines : Plan → List ℕ
 raw_lines plan = codes "\nraw " ++ decimal plan.raw_num ++ 32 ∷ decimal plan.raw_den ++ codes "\nquality " ++ quality_word plan.quality ++ 10 ∷ []
 
--- the lines of a plan of a sample
+-- the summary of a sample's plan
 abbrev pub summary : ℕ → ℕ → Case → Plan → List ℕ
 summary seed nodes p plan =
     codes "sample " ++ decimal seed ++ 32 ∷ decimal nodes ++ 10 ∷ size_line p
     ++ codes "cost " ++ money_word Three plan.cost ++ codes "\nbound " ++ money_word Three plan.bound ++ raw_lines plan
 
--- the text has the lines of a plan whose report is that of a plan of the case
+-- the text is the summary of a plan whose report is that of a plan of the case
 pub record IsSummary (seed nodes : ℕ) (p : Case) (notes : Notes) (text : List ℕ) : Type 0 where
   pub report : List ℕ
   pub planned : IsPlanReport p notes report

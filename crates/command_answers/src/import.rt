@@ -22,7 +22,7 @@ use std::alloc::Global;
 use std::sync::Wait;
 use std::thread::Threads;
 
-/// Puts a word and two names last.
+/// Appends a word and two names.
 fn put_names(text: &mut Bytes, word: &[u8], first: &[u8], second: &[u8]) -> Result<(), NoMemory>
     ensures { OnOk result (text.new ≡ text.old ++ spaced (word.now ∷ first.now ∷ second.now ∷ [])) }
 {
@@ -31,7 +31,7 @@ fn put_names(text: &mut Bytes, word: &[u8], first: &[u8], second: &[u8]) -> Resu
     put_word(text, second)
 }
 
-/// Puts a word and three names last.
+/// Appends a word and three names.
 fn put_three_names(
     text: &mut Bytes,
     word: &[u8],
@@ -45,7 +45,7 @@ fn put_three_names(
     put_word(text, third)
 }
 
-/// Puts the words of a fault last.
+/// Appends the words of a fault.
 fn put_fault(text: &mut Bytes, instance: &Instance, fault: ImportFault) -> Result<(), NoMemory>
     ensures { OnOk result (text.new ≡ text.old ++ spaced (import_fault_words (case_of instance.now) fault)) }
 {
@@ -94,7 +94,7 @@ fn answer_fault(alloc: Global, instance: &Instance, fault: ImportFault) -> Resul
     })
 }
 
-/// The answer of a plan with an imported design.
+/// The answer with a plan that has an imported design.
 fn answer_imported(
     alloc: Global,
     instance: &Instance,
@@ -108,7 +108,7 @@ fn answer_imported(
     planned(alloc, instance.net, instance.states, report)
 }
 
-/// The answer of an import into an instance that has no plan.
+/// The answer to an import into an instance without a plan.
 fn answer_separated(
     alloc: Global,
     instance: &Instance,
@@ -140,8 +140,8 @@ fn answer_ending(
     }
 }
 
-/// The report of a plan of an instance with the design of a file; or the line of the file's first fault, or of the first demand that a
-/// state separates. It may never return.
+/// The answer to an import into an instance: the report of a plan with the file's design, or the line of the file's first fault or of the
+/// first demand that a state separates. It may never return.
 fn answer_instance<R: Threads + Wait + Sync, G: Gate + Sync>(
     rt: &R,
     alloc: Global,
@@ -156,8 +156,8 @@ fn answer_instance<R: Threads + Wait + Sync, G: Gate + Sync>(
     answer_ending(alloc, instance, ending)
 }
 
-/// The answer of an import into a problem. It takes the time and the memory of `import_plan`, and those of the report's text. It may never
-/// return.
+/// The answer to an import into a problem. It takes the time and the memory of `import_plan`, and those of the report's text. It may never
+/// return, and fails only where memory runs out.
 pub fn answer_import<R: Threads + Wait + Sync, G: Gate + Sync>(
     rt: &R,
     alloc: Global,

@@ -16,7 +16,7 @@ use std::alloc::Global;
 use std::sync::Wait;
 use std::thread::Threads;
 
-/// The answer to a network that isn't survivable.
+/// The answer to a network that isn't survivable: the line of the first demand that a state separates.
 pub fn separated(
     alloc: Global,
     states: &States,
@@ -33,7 +33,7 @@ pub fn separated(
     })
 }
 
-/// The answer of a report that is in form.
+/// The answer with a report that is in form.
 pub fn reported(
     alloc: Global,
     net: &Network,
@@ -52,7 +52,7 @@ pub fn reported(
     })
 }
 
-/// The answer of a plan, by its report.
+/// The answer with the report of a plan.
 pub fn planned(
     alloc: Global,
     net: &Network,
@@ -68,7 +68,7 @@ pub fn planned(
     reported(alloc, net, states, &report)
 }
 
-/// The answer of a plan of an instance, by its report.
+/// The answer with the report of a plan of an instance.
 fn answer_planned(
     alloc: Global,
     instance: &Instance,
@@ -80,7 +80,7 @@ fn answer_planned(
     planned(alloc, instance.net, instance.states, report)
 }
 
-/// The answer of an instance that has no plan.
+/// The answer to an instance without a plan.
 fn answer_separated(
     alloc: Global,
     instance: &Instance,
@@ -104,7 +104,7 @@ fn answer_lone(alloc: Global, instance: &Instance, lone: LonePlan) -> Result<Ans
     }
 }
 
-/// The report of a plan of an instance, or the line of the first demand that a state separates. It may never return.
+/// The answer to an instance: the report of a plan, or the line of the first demand that a state separates. It may never return.
 fn answer_instance<R: Threads + Wait + Sync, G: Gate + Sync>(
     rt: &R,
     alloc: Global,
@@ -117,8 +117,8 @@ fn answer_instance<R: Threads + Wait + Sync, G: Gate + Sync>(
     answer_lone(alloc, instance, lone)
 }
 
-/// The report of a plan of a problem, or the line of the first demand that a state separates. It takes the time and the memory of `plan_once`,
-/// and those of the report's text. It may never return.
+/// The answer to a problem: the report of a plan, or the line of the first demand that a state separates. It takes the time and the memory
+/// of `plan_once`, and those of the report's text. It may never return, and fails only where memory runs out.
 pub fn answer_plan<R: Threads + Wait + Sync, G: Gate + Sync>(
     rt: &R,
     alloc: Global,

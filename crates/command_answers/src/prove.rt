@@ -24,7 +24,7 @@ fn free_module(alloc: Global) -> Result<Answer, NoMemory>
     })
 }
 
-/// The answer of a plan with its branch tree: its report, and the comment lines of the tree.
+/// The answer with a plan and its branch tree: the report, and the comment lines of the tree.
 fn answer_proved(
     alloc: Global,
     instance: &Instance,
@@ -40,7 +40,7 @@ fn answer_proved(
     })
 }
 
-/// The answer of an instance that has no plan.
+/// The answer to an instance without a plan.
 fn answer_separated(
     alloc: Global,
     instance: &Instance,
@@ -73,8 +73,8 @@ fn answer_ending(
     }
 }
 
-/// The report of a plan of an instance with its branch tree of at most `limit` splits; or the line of the first demand that a state
-/// separates. It may never return.
+/// The answer to an instance: the report of a plan with a branch tree of at most `limit` splits, or the line of the first demand that a
+/// state separates. It may never return.
 fn answer_instance<R: Threads + Wait + Sync, G: Gate + Sync>(
     rt: &R,
     alloc: Global,
@@ -90,8 +90,9 @@ fn answer_instance<R: Threads + Wait + Sync, G: Gate + Sync>(
     answer_ending(alloc, instance, ending, limit)
 }
 
-/// The answer of a proof of a problem with at most `limit` splits, at most 9,999. It takes the time and the memory of a plan, a trim and a
-/// branch tree, and those of the report's text. It may never return.
+/// The answer to a problem: the report of a plan with a branch tree of at most `limit` splits, which is at most 9,999; or the line of the
+/// first demand that a state separates, or of a module that costs nothing. It takes the time and the memory of a plan, a trim and a branch
+/// tree, and those of the report's text. It may never return, and fails only where memory runs out.
 pub fn answer_prove<R: Threads + Wait + Sync, G: Gate + Sync>(
     rt: &R,
     alloc: Global,

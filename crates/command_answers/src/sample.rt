@@ -20,7 +20,7 @@ use std::sync::Wait;
 use std::thread::Threads;
 use text_kit::write::{put_decimal, put_money_word};
 
-/// Puts words and a number last.
+/// Appends words and a number.
 fn put_counted(text: &mut Bytes, words: &[u8], n: u128) -> Result<(), NoMemory>
     ensures { OnOk result (text.new ≡ text.old ++ words.now ++ decimal n) }
 {
@@ -28,7 +28,7 @@ fn put_counted(text: &mut Bytes, words: &[u8], n: u128) -> Result<(), NoMemory>
     put_decimal(text, n)
 }
 
-/// Puts words and money of three places last.
+/// Appends words and an amount of money with three decimal places.
 fn put_cost(text: &mut Bytes, words: &[u8], n: u128) -> Result<(), NoMemory>
     ensures { OnOk result (text.new ≡ text.old ++ words.now ++ money_word Three n) }
 {
@@ -36,7 +36,7 @@ fn put_cost(text: &mut Bytes, words: &[u8], n: u128) -> Result<(), NoMemory>
     put_money_word(text, Places::Three, n)
 }
 
-/// The sample network of a seed and its demands, as its text is read back.
+/// The sample network of a seed, and its demands, as they are read back from their text.
 fn read_back(alloc: Global, seed: u64, nodes: u32) -> Result<(Network, Demands), NoMemory>
     requires { (4 ≤ nodes) × (nodes ≤ 40) }
     ensures nodes { IfOk result (λ read. read.0.nodes ≡ sample_nodes nodes) }
@@ -56,7 +56,7 @@ fn read_back(alloc: Global, seed: u64, nodes: u32) -> Result<(Network, Demands),
     }
 }
 
-/// Puts the line of a network's size last.
+/// Appends the line of a network's size.
 fn put_size(text: &mut Bytes, instance: &Instance) -> Result<(), NoMemory>
     ensures { OnOk result (text.new ≡ text.old ++ size_line (case_of instance.now)) }
 {
@@ -81,7 +81,7 @@ fn quality_word(quality: &Quality) -> &'static [u8]
     }
 }
 
-/// Puts the lines of a raw value and of how good it is last.
+/// Appends the end of a line, and the lines of a plan's raw value and quality.
 fn put_raw(text: &mut Bytes, plan: &Plan) -> Result<(), NoMemory>
     ensures { OnOk result (text.new ≡ text.old ++ raw_lines plan.now) }
 {
@@ -92,7 +92,7 @@ fn put_raw(text: &mut Bytes, plan: &Plan) -> Result<(), NoMemory>
     text.append(b"\n")
 }
 
-/// The lines of a plan of a sample.
+/// The summary of a sample's plan.
 fn summary_of(
     alloc: Global,
     seed: u64,
@@ -113,7 +113,7 @@ fn summary_of(
     Ok(text)
 }
 
-/// The answer of a plan.
+/// The answer with the summary of a plan.
 fn summarized(
     alloc: Global,
     seed: u64,
@@ -132,7 +132,7 @@ fn summarized(
     })
 }
 
-/// The plan of an instance that no state separates. It may never return.
+/// The plan of an instance in which no state separates a demand. It may never return.
 fn planned<R: Threads + Wait + Sync>(
     rt: &R,
     alloc: Global,
@@ -148,8 +148,8 @@ fn planned<R: Threads + Wait + Sync>(
     }
 }
 
-/// The summary of the plan of a sample, with each single-link failure. Nobody is held: a sample has one caller. It takes the time
-/// and the memory of `plan_once`. It may never return.
+/// The summary of the plan of a sample in which each link fails alone. Nobody is held, since it has one caller. It takes the time and the
+/// memory of `plan_once`. It may never return, and fails only where memory runs out.
 pub fn answer_sample<R: Threads + Wait + Sync>(
     rt: &R,
     alloc: Global,

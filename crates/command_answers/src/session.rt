@@ -15,7 +15,8 @@ use std::alloc::Global;
 use std::sync::Wait;
 use std::thread::Threads;
 
-/// The report of a script's commands. It takes the time and the memory of `run_session`, and those of the report's text. It may never return.
+/// The report of a script's commands. It takes the time and the memory of `run_session`, and those of the report's text. It may never
+/// return, and fails only where memory runs out.
 pub fn answer_session<R: Threads + Wait + Sync, G: Gate + Sync>(
     rt: &R,
     alloc: Global,

@@ -14,7 +14,7 @@ use std::alloc::Global;
 use std::sync::Wait;
 use std::thread::Threads;
 
-/// The answer of a trimmed plan: its report, and a comment line for each block.
+/// The answer with a trimmed plan: the report, and a comment line for each block.
 fn answer_trimmed(
     alloc: Global,
     instance: &Instance,
@@ -30,7 +30,7 @@ fn answer_trimmed(
     })
 }
 
-/// The answer of an instance that has no plan.
+/// The answer to an instance without a plan.
 fn answer_separated(
     alloc: Global,
     instance: &Instance,
@@ -56,8 +56,8 @@ fn answer_ending(alloc: Global, instance: &Instance, ending: TrimEnding) -> Resu
     }
 }
 
-/// The report of a trimmed plan of an instance, with what keeps each module; or the line of the first demand that a state separates. It
-/// may never return.
+/// The answer to an instance: the report of a trimmed plan with what keeps each module, or the line of the first demand that a state
+/// separates. It may never return.
 fn answer_instance<R: Threads + Wait + Sync, G: Gate + Sync>(
     rt: &R,
     alloc: Global,
@@ -70,8 +70,9 @@ fn answer_instance<R: Threads + Wait + Sync, G: Gate + Sync>(
     answer_ending(alloc, instance, ending)
 }
 
-/// The answer of a trim of a problem. It takes the time and the memory of a plan and of its trim, and those of the report's text. It may never
-/// return.
+/// The answer to a problem: the report of a trimmed plan with what keeps each module, or the line of the first demand that a state
+/// separates. It takes the time and the memory of a plan and of its trim, and those of the report's text. It may never return, and fails
+/// only where memory runs out.
 pub fn answer_trim<R: Threads + Wait + Sync, G: Gate + Sync>(
     rt: &R,
     alloc: Global,
