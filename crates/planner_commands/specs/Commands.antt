@@ -4,8 +4,8 @@ use Rattle.std.specs.Global.{Global}
 use Rattle.std.specs.Str.Parse.{IsNumeral, digits_value}
 use Rattle.input_files.specs.InputWords.{PlanWords, default}
 
--- a command: a plan for files, a session of a script, the check of a report, a trimmed plan for files, a plan for files with its branch tree
--- of this number of splits at most, the import of a file of flows, or a sample of a seed with this number of nodes
+-- a command: a plan for files; a session of a script; the check of a report; a trimmed plan for files; a plan for files with a branch tree of at most this
+-- number of splits; the import of a file of flows; or a sample of a seed with this number of nodes
 pub data Command : Type 0 where
   Plan : PlanWords → Command
   Session : PlanWords → List ℕ → Command
@@ -27,12 +27,12 @@ AreFiles (n ∷ m ∷ []) w = w ≡ record { network = n; model = m; failures = 
 AreFiles (n ∷ m ∷ f ∷ []) w = w ≡ record { network = n; model = m; failures = f }
 AreFiles _ w = ⊥
 
--- four words are the files and one file more
+-- four words are the files and one more file
 abbrev pub AreFourFiles : List (List ℕ) → PlanWords → List ℕ → Type 0
 AreFourFiles (n ∷ m ∷ f ∷ l ∷ []) w last = (w ≡ record { network = n; model = m; failures = f }) × (last ≡ l)
 AreFourFiles _ w last = ⊥
 
--- one or more digits, at most this number, that write this number
+-- one or more digits, at most so many, that write this number
 pub record IsNumberWord (most n : ℕ) (word : List ℕ) : Type 0 where
   pub numeral : IsNumeral 10 word
   pub short : length word ≤ most

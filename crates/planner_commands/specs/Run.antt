@@ -1,4 +1,4 @@
--- the outcome of a run: its status, and the text that it writes
+-- the result of a run: its status, and the text that it writes
 use Rattle.std.specs.Prelude.{◌≡◌, ◌≢◌, ℕ, ◌⊎◌, List, [], Option, String}
 use Rattle.std.specs.Global.{Global}
 use Rattle.plan_terms.specs.Terms.{Notes, Case}
@@ -20,7 +20,7 @@ use Rattle.command_answers.specs.Answers.{IsPrintedReport, EndsPlan, EndsTrim, E
 
 -- ---- a session
 
--- The outcome of a session: its script ends the run, or the text is the report of the script's commands, and spells it.
+-- the result of a session: reading its script ends the run, or the text is the report of the script's commands, and is read back as it
 abbrev pub EndsSession : Option Files → List ℕ → Case → Notes → Status → List ℕ → Type 0
 EndsSession files name p notes status text =
     StopsAtFile files input_limit name BadScript (RefusesScriptFile p.places) status text
@@ -30,7 +30,7 @@ EndsSession files name p notes status text =
 
 -- ---- a check
 
--- The outcome of a check: its report ends the run, or is judged.
+-- the result of a check: reading its report ends the run, or the report is judged
 abbrev pub EndsCheck : Option Files → List ℕ → Case → Notes → Status → List ℕ → Type 0
 EndsCheck files name p notes status text =
     StopsAtFile files report_limit name BadReport (RefusesReportFile (known_to p)) status text
@@ -38,7 +38,7 @@ EndsCheck files name p notes status text =
 
 -- ---- an import
 
--- The outcome of an import: its file of flows ends the run, or is imported.
+-- the result of an import: reading its file of flows ends the run, or the file is imported
 abbrev pub EndsImport : Option Files → List ℕ → Case → Notes → Status → List ℕ → Type 0
 EndsImport files name p notes status text =
     StopsAtFile files input_limit name BadFlows (RefusesFlowFile (known_to p) p.demands) status text
@@ -46,7 +46,7 @@ EndsImport files name p notes status text =
 
 -- ---- commands
 
--- the outcome of a command
+-- the result of a command
 abbrev pub EndsCommand : Option Files → commands.Command → Status → List ℕ → Type 0
 EndsCommand files (commands.Plan w) = EndsAfterInputs files w EndsPlan
 EndsCommand files (commands.Session w script) = EndsAfterInputs files w (EndsSession files script)
@@ -58,14 +58,14 @@ EndsCommand files (commands.Sample seed nodes) = λ status text. (status ≡ Don
 
 -- ---- a run
 
--- The outcome of a run, and its whole text: memory runs out, which needs no cause, or the words are no command, or they are one.
+-- The result of a run, with its whole text: memory runs out, which needs no cause; or the words are no command; or they are one.
 abbrev pub Ends : List (String Global) → Option Files → Status → List ℕ → Type 0
 Ends words files status text =
     ((status ≡ NoMemory) × (text ≡ []))
     ⊎ ((status ≡ BadWords) × ((c : commands.Command) → IsCommand words c → ⊥) × (text ≡ usage))
     ⊎ ((c : commands.Command) × IsCommand words c × EndsCommand files c status text)
 
--- The sink took the whole text and the status stays; or there was something to write, writing failed, the sink has counted it, and a prefix was taken.
+-- The sink takes the whole text, and the status stays; or there is a text and writing it fails, which the sink counts, and a prefix is taken.
 abbrev pub PutsText : {K : Type 0} → (K → Option (List ℕ)) → (K → ℕ) → Status → List ℕ → Status → K → K → Type 0
 PutsText taken faults status text result old new =
     ((result ≡ status) × Takes (taken old) (taken new) text)

@@ -24,7 +24,7 @@ fn all_may_be_files(words: &[String]) -> bool
     words.iter().all(|w| may_be_file(w.as_str()))
 }
 
-/// The files that one, two or three words name.
+/// The files that one, two or three words name; `None` for another number of words.
 fn files_of(words: &[String]) -> Option<PlanFiles<'_>>
     ensures { MatchOption result ((w : PlanWords) → AreFiles (map string_bytes words.now) w → ⊥) (λ f. AreFiles (map string_bytes words.now) (named f)) }
 {
@@ -48,7 +48,7 @@ fn files_of(words: &[String]) -> Option<PlanFiles<'_>>
     }
 }
 
-/// The files that four words name.
+/// The files that four words name; `None` for another number of words.
 fn four_of(words: &[String]) -> Option<FourFiles<'_>>
     ensures { MatchOption result ((w : PlanWords) (last : List ℕ) → AreFourFiles (map string_bytes words.now) w last → ⊥)
         (λ f. AreFourFiles (map string_bytes words.now) (named f.files) f.last.now) }
@@ -76,8 +76,7 @@ fn begins_with_plus(word: &str) -> bool
     }
 }
 
-/// The number that a word of digits writes, of which there are at most this number; none where it is no such word, or the number is
-/// 2^64 or more.
+/// The number that a word of at most `most` digits writes; `None` if it is no such word, or the number is 2^64 or more.
 fn number_word(word: &str, most: usize) -> Option<u64>
     ensures { MatchOption result ((n : ℕ) → n < 2 ^ 64 → IsNumberWord most n word.now → ⊥) (λ n. IsNumberWord most n word.now) }
 {
@@ -87,7 +86,7 @@ fn number_word(word: &str, most: usize) -> Option<u64>
     word.parse::<u64>().ok()
 }
 
-/// The seed that the one word writes, and the number of nodes that the other does.
+/// The sample of the seed and the number of nodes that these words write; `None` if they are no numbers in their ranges.
 fn sample_words(seed: &str, nodes: &str) -> Option<SampleWords>
     ensures { MatchOption result ((s n : ℕ) → AreSample (seed.now ∷ nodes.now ∷ []) s n → ⊥) (λ s. AreSample (seed.now ∷ nodes.now ∷ []) s.seed s.nodes) }
 {
@@ -103,7 +102,7 @@ fn sample_words(seed: &str, nodes: &str) -> Option<SampleWords>
     }
 }
 
-/// The seed and the number of nodes that two words write.
+/// The sample of two words; `None` if they aren't two, or no numbers in their ranges.
 fn sample_of(words: &[String]) -> Option<SampleWords>
     ensures { MatchOption result ((seed nodes : ℕ) → AreSample (map string_bytes words.now) seed nodes → ⊥)
         (λ s. AreSample (map string_bytes words.now) s.seed s.nodes) }
@@ -114,7 +113,7 @@ fn sample_of(words: &[String]) -> Option<SampleWords>
     }
 }
 
-/// The limit of splits that a word writes, and the files that the others name.
+/// The limit of splits that a word writes, and the files that the others name; `None` if they are no such words.
 fn proof_words<'w>(limit: &str, files: &'w [String]) -> Option<ProofWords<'w>>
     ensures { MatchOption result ((n : ℕ) (w : PlanWords) → AreProof (limit.now ∷ map string_bytes files.now) n w → ⊥)
         (λ p. AreProof (limit.now ∷ map string_bytes files.now) p.limit (named p.files)) }
@@ -131,7 +130,7 @@ fn proof_words<'w>(limit: &str, files: &'w [String]) -> Option<ProofWords<'w>>
     }
 }
 
-/// The limit of splits and the files that words give.
+/// The limit of splits in the first word, and the files that the others name; `None` if they are no such words.
 fn proof_of(words: &[String]) -> Option<ProofWords<'_>>
     ensures { MatchOption result ((n : ℕ) (w : PlanWords) → AreProof (map string_bytes words.now) n w → ⊥)
         (λ p. AreProof (map string_bytes words.now) p.limit (named p.files)) }
@@ -147,7 +146,7 @@ fn is_named(word: &str, name: &str) -> bool
     word == name
 }
 
-/// The command of this name with these words after it; none where they are no words of such a command.
+/// The command of this name with these words after it; `None` if they aren't words of such a command.
 fn named_command<'w>(name: &str, words: &'w [String]) -> Option<Command<'w>>
     ensures { MatchOption result ((c : commands.Command) → IsNamed name.now (map string_bytes words.now) c → ⊥)
         (λ c. IsNamed name.now (map string_bytes words.now) (asked_command c)) }
@@ -183,7 +182,7 @@ fn named_command<'w>(name: &str, words: &'w [String]) -> Option<Command<'w>>
     None
 }
 
-/// The command that words ask for; none where they give no command.
+/// The command that words ask for; `None` if they are no command. It takes time in their number and length, and no memory.
 pub fn command_of(words: &[String]) -> Option<Command<'_>>
     ensures { MatchOption result ((c : commands.Command) → IsCommand words.now c → ⊥) (λ c. IsCommand words.now (asked_command c)) }
 {

@@ -1,4 +1,4 @@
-//! The program's commands: which words are one, what it answers once their files are read, and with which status.
+//! The program's commands: which words are one, what it answers once its files are read, and with which status.
 #![tactic(auto)]
 
 mod command;

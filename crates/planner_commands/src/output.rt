@@ -8,7 +8,7 @@ use outside_io::{Failed, Sink};
 /// How many bytes are put at a time.
 const PIECE: usize = 4096;
 
-/// Puts a whole text in pieces, the last one shorter.
+/// Puts a whole text in pieces of 4,096 bytes, of which the last may be shorter.
 fn put_text<K: Sink>(out: &mut K, text: &[u8]) -> Result<(), Failed>
     ensures bytes { Puts (K.taken out.old) (K.taken out.new) result text.now }
     ensures later { K.faults out.old ≤ K.faults out.new }
@@ -24,7 +24,7 @@ fn put_text<K: Sink>(out: &mut K, text: &[u8]) -> Result<(), Failed>
     Ok(())
 }
 
-/// Writes a text, and gives the status, or says that writing failed.
+/// Writes a text, and gives the status, or `WriteFault` if writing failed.
 pub fn say<K: Sink>(out: &mut K, text: &[u8], status: Status) -> Status
     ensures later { K.faults out.old ≤ K.faults out.new }
     ensures writes { PutsText K.taken K.faults status text.now result out.old out.new }

@@ -37,7 +37,7 @@ fn bad_words(alloc: Global) -> Result<Answer, NoMemory>
     })
 }
 
-/// The answer to a plan of these files.
+/// The answer to `plan` with these files.
 fn plan_files<Rt: Threads + Wait + Sync, S: Shelf, G: Gate + Sync>(
     rt: &Rt,
     alloc: Global,
@@ -52,7 +52,7 @@ fn plan_files<Rt: Threads + Wait + Sync, S: Shelf, G: Gate + Sync>(
     Ok(answer_plan(rt, alloc, problem, gate)?)
 }
 
-/// The answer to a session of these files.
+/// The answer to `session` with these files.
 fn session_files<Rt: Threads + Wait + Sync, S: Shelf, G: Gate + Sync>(
     rt: &Rt,
     alloc: Global,
@@ -68,7 +68,7 @@ fn session_files<Rt: Threads + Wait + Sync, S: Shelf, G: Gate + Sync>(
     Ok(answer_session(rt, alloc, problem, &script, gate)?)
 }
 
-/// The answer to a check of this report of plans for a problem.
+/// The answer to `check` with this report of plans for a problem.
 fn check_file<S: Shelf>(
     alloc: Global,
     problem: &Problem,
@@ -83,7 +83,7 @@ fn check_file<S: Shelf>(
     Ok(answer_check(alloc, problem, &report)?)
 }
 
-/// The answer to a check of these files.
+/// The answer to `check` with these files.
 fn check_files<S: Shelf>(alloc: Global, four: &FourFiles, shelf: &mut S) -> Result<Answer, Stop>
     ensures ends { HasCause (EndsCommand (S.files shelf.old) (commands.Check (named four.now.files) four.now.last.now)) result }
     ensures shelf { KeepsShelf S.files S.faults (IsErrOf result Stop.ReadFault) shelf.old shelf.new }
@@ -92,7 +92,7 @@ fn check_files<S: Shelf>(alloc: Global, four: &FourFiles, shelf: &mut S) -> Resu
     check_file(alloc, &problem, four.last, shelf)
 }
 
-/// The answer to a trimming of a plan of these files.
+/// The answer to `trim` with these files.
 fn trim_files<Rt: Threads + Wait + Sync, S: Shelf, G: Gate + Sync>(
     rt: &Rt,
     alloc: Global,
@@ -107,7 +107,7 @@ fn trim_files<Rt: Threads + Wait + Sync, S: Shelf, G: Gate + Sync>(
     Ok(answer_trim(rt, alloc, problem, gate)?)
 }
 
-/// The answer to a plan of these files with its branch tree.
+/// The answer to `prove` with this limit and these files.
 fn prove_files<Rt: Threads + Wait + Sync, S: Shelf, G: Gate + Sync>(
     rt: &Rt,
     alloc: Global,
@@ -122,7 +122,7 @@ fn prove_files<Rt: Threads + Wait + Sync, S: Shelf, G: Gate + Sync>(
     Ok(answer_prove(rt, alloc, problem, words.limit, gate)?)
 }
 
-/// The answer to an import of these files.
+/// The answer to `import` with these files.
 fn import_files<Rt: Threads + Wait + Sync, S: Shelf, G: Gate + Sync>(
     rt: &Rt,
     alloc: Global,
@@ -138,7 +138,7 @@ fn import_files<Rt: Threads + Wait + Sync, S: Shelf, G: Gate + Sync>(
     Ok(answer_import(rt, alloc, problem, file, gate)?)
 }
 
-/// The answer to a sample of these words.
+/// The answer to `sample` with this seed and number of nodes.
 fn sample_words<Rt: Threads + Wait + Sync>(
     rt: &Rt,
     alloc: Global,
@@ -150,7 +150,7 @@ fn sample_words<Rt: Threads + Wait + Sync>(
     answer_sample(rt, alloc, words.seed, words.nodes)
 }
 
-/// The answer to words.
+/// The answer to the words of the command line.
 fn answer_words<Rt: Threads + Wait + Sync, S: Shelf, G: Gate + Sync>(
     rt: &Rt,
     alloc: Global,
@@ -173,9 +173,9 @@ fn answer_words<Rt: Threads + Wait + Sync, S: Shelf, G: Gate + Sync>(
     }
 }
 
-/// Carries out the command that the words give: reads its files from the shelf, and writes its text to the sink. Nothing is
-/// written where reading failed or memory ran out. It may never return, since callers wait for each other. It takes the time and
-/// the memory of the command and of the readers of its files, and memory for its text.
+/// Carries out the command that the words give: reads its files from the shelf, and writes its text to the sink. Nothing is written if
+/// reading failed or memory ran out. It may never return, since callers wait for each other. It takes the time and the memory of the
+/// command and of the readers of its files, and memory for its text.
 ///
 /// ```text
 /// let mut shelf = MemShelf::new(files, List::new(alloc));                 // with the triangle's network under the name t.txt

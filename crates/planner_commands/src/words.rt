@@ -2,14 +2,14 @@ ghost use Rattle.std.specs.Prelude.{◌≤◌};
 
 use input_files::PlanFiles;
 
-/// The files of a planning, and one file more.
+/// The files of a planning, and one more file.
 #[derive(Clone, Copy)]
 pub struct FourFiles<'w> {
     pub files: PlanFiles<'w>,
     pub last: &'w str,
 }
 
-/// The most splits of a branch tree, from 1 to 9,999, and the files of a planning.
+/// The most splits that a branch tree may have, from 1 to 9,999, and the files of a planning.
 #[derive(Clone, Copy)]
 pub struct ProofWords<'w> {
     pub limit: u32,
@@ -25,21 +25,21 @@ pub struct SampleWords {
     pub ghost range: { (4 ≤ nodes) × (nodes ≤ 40) },
 }
 
-/// What a run is asked for.
+/// The command that a run carries out.
 #[derive(Clone, Copy)]
 pub enum Command<'w> {
-    /// A plan, with the report of it.
+    /// Plan, and write the report.
     Plan(PlanFiles<'w>),
-    /// The report of a script.
+    /// Run a script, and write its report.
     Session(FourFiles<'w>),
-    /// Whether a report has a finding.
+    /// Check a report.
     Check(FourFiles<'w>),
-    /// A plan from which no module can be spared, with the report of it.
+    /// Plan, take modules off until none can be spared, and write the report.
     Trim(PlanFiles<'w>),
-    /// A plan with its branch tree, with the report of it.
+    /// Plan, search for a branch tree, and write the report with it.
     Prove(ProofWords<'w>),
-    /// A plan with the design of a file of flows.
+    /// Plan, put the design of a file of flows in the plan's place, and write the report.
     Import(FourFiles<'w>),
-    /// A summary of the plan of a sample network.
+    /// Plan a sample network, and write a summary.
     Sample(SampleWords),
 }

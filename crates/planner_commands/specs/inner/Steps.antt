@@ -8,7 +8,7 @@ use Rattle.planner_commands.specs.Commands as commands
 use Rattle.planner_commands.specs.declared.words.Command.{Command}
 use Rattle.planner_commands.specs.declared.words.Command.TheVariants.{Plan, Session, Check, Trim, Prove, Import, Sample}
 
--- the command that is asked for
+-- the command that is asked for, as the words define it
 abbrev pub asked_command : Command → commands.Command
 asked_command (Plan files) = commands.Plan (named files)
 asked_command (Session four) = commands.Session (named four.files) four.last.now
@@ -18,7 +18,7 @@ asked_command (Prove words) = commands.Prove words.limit (named words.files)
 asked_command (Import four) = commands.Import (named four.files) four.last.now
 asked_command (Sample words) = commands.Sample words.seed words.nodes
 
--- an answer has its cause, unless memory ran out
+-- an answer has its cause, or memory ran out
 abbrev pub HasCause : (Status → List ℕ → Type 0) → Result Answer Stop → Type 0
 HasCause Ends (Ok a) = Ends a.status a.text
 HasCause Ends (Err s) = Stops Ends s
