@@ -10,8 +10,8 @@ use std::alloc::Global;
 use std::sync::Wait;
 use std::thread::Threads;
 
-/// Carries out the command that the words give: reads its files from the shelf, and writes its text to the sink. Nothing is
-/// written where reading failed or memory ran out. It may never return, since callers wait for each other.
+/// Carries out the command that the words give: reads its files from the shelf, and writes its text to the sink. Nothing is written if
+/// reading failed or memory ran out. It may never return, since callers wait for each other.
 ///
 /// ```text
 /// let mut shelf = MemShelf::new(files, List::new(alloc));                 // with the triangle's network under the name t.txt
