@@ -1,4 +1,4 @@
--- the outcome of a run for people: its status, the text that it prints, and the message beside it
+-- the result of a run for people: its status, the text that it prints, and the message on standard error
 use Rattle.std.specs.Prelude.{◌≡◌, ℕ, ◌⊎◌, List, [], ◌++◌, Option, String, codes}
 use Rattle.std.specs.Global.{Global}
 use Rattle.plan_terms.specs.Terms.{Case, Demand, Network, Notes}
@@ -20,9 +20,9 @@ use Rattle.front_views.specs.Terms.{ViewForm, Tables, Values, EndsReport, LacksS
 use Rattle.front_plans.specs.FrontPlans.{EndsPlanForPeople}
 use Rattle.front_commands.specs.HelpTexts.{help_text, topic_help}
 
--- ---- texts of their own
+-- ---- the program's own texts
 
--- which version it is
+-- the program's version
 abbrev pub version_text : List ℕ
 version_text = codes "zorgwint 1\n"
 
@@ -49,35 +49,35 @@ write_message Other = codes "writing failed\n"
 abbrev pub apart_words : List ℕ → List ℕ
 apart_words name = codes "no path joins the ends of demand " ++ name ++ codes ", even where nothing fails\n"
 
--- A demand is separated where nothing fails, and the message names the first one that has a need, and ends in the planner's line of it.
+-- A demand is separated where nothing fails. The message names the first such demand that has a need, and ends with the planner's line of it.
 abbrev pub SaysApart : Network → List Demand → Status → List ℕ → Type 0
 SaysApart net demands status message =
     (status ≡ NotSurvivable)
     × ((line : List ℕ) × (names : NamesFirstSeparation (with_states net demands []) line)
     × (message ≡ apart_words names.first.separates.demand.name ++ line))
 
--- The outcome of a failure list of a network: a demand is separated where nothing fails, or the text has the failure of each link that alone
--- separates none, and no other, so that the network survives them all.
+-- The result of a failure list of a network: a demand is separated where nothing fails; or the text has the failures of exactly those links that alone
+-- separate no demand, so that the network survives them all.
 abbrev pub ListsFailures : Network → List Demand → Status → List ℕ → List ℕ → Type 0
 ListsFailures net demands status text message =
     ((text ≡ []) × SaysApart net demands status message)
     ⊎ ((status ≡ Done) × IsFailureList net demands text × (message ≡ []))
 
--- The outcome for a file: the file ends the run with a message, or it is the list of the network that the file spells.
+-- The result for a file: reading it ends the run with a message, or it is the list of the network that the file spells.
 abbrev pub EndsFailures : Option Files → List ℕ → Status → List ℕ → List ℕ → Type 0
 EndsFailures files name status text message =
     ((text ≡ []) × FailsAtFile files input_limit name BadNetwork (ShowsNetworkFault name) status message)
     ⊎ ((net : Network) × (demands : List Demand) × Fetched files input_limit name SpellsNetwork (net, demands)
     × ListsFailures net demands status text message)
 
--- The outcome of the view of a report's file in a form, of plans for a case: it isn't fetched, which ends the run with a message, or it is the outcome
--- of its bytes.
+-- The result of the view of a report's file in a form, with plans for a case: fetching the file ends the run with a message, or it is the result for its
+-- bytes.
 abbrev pub ViewsFile : Option Files → ViewForm → List ℕ → List ℕ → Case → Notes → Status → List ℕ → List ℕ → Type 0
 ViewsFile files form network name p notes status text message =
     ((text ≡ []) × FailsAtFetch files report_limit name status message)
     ⊎ ((bytes : List ℕ) × Fetches files name report_limit fetch.Found bytes × EndsReport form network name p notes bytes status text message)
 
--- the form of a view of a case that is asked for: of the state of a name, the first one that has it
+-- the form of view that is asked for; a state is asked for by its name, and is the first one of that name
 abbrev pub AsksForm : Case → AskedForm → ViewForm → Type 0
 AsksForm p asked.Tables form = form ≡ Tables
 AsksForm p (asked.Values sheet) form = form ≡ Values sheet
@@ -91,21 +91,21 @@ LacksForm p (asked.Values sheet) status message = ⊥
 LacksForm p (asked.State name) status message = LacksState p.listed name status message
 LacksForm p (asked.Picture name) status message = LacksState p.listed name status message
 
--- The outcome of the view that is asked for: there is no such state, or it is the view of the report's file in the form that is asked for.
+-- The result of the view that is asked for: there is no such state, or it is the view of the report's file in that form.
 abbrev pub ViewsAsked : Option Files → AskedForm → List ℕ → List ℕ → Case → Notes → Status → List ℕ → List ℕ → Type 0
 ViewsAsked files form network name p notes status text message =
     ((text ≡ []) × LacksForm p form status message)
     ⊎ ((shown : ViewForm) × AsksForm p form shown × ViewsFile files shown network name p notes status text message)
 
--- The outcome for files: one of them ends the run with a message, or it is the view of the report for the case that they spell.
+-- The result for files: reading one ends the run with a message, or it is the view of the report for the case that they spell.
 abbrev pub EndsView : Option Files → CaseWords → List ℕ → AskedForm → Status → List ℕ → List ℕ → Type 0
 EndsView files w name form = EndsAfterCase files w (ViewsAsked files form w.files.network name)
 
--- The outcome of a plan for files: one of them ends the run with a message, or it is the outcome of a plan for the case that they spell.
+-- The result of a plan for files: reading one ends the run with a message, or it is the plan for the case that they spell.
 abbrev pub EndsFrontPlan : Option Files → AskedPlan → Status → List ℕ → List ℕ → Type 0
 EndsFrontPlan files asked = EndsAfterCase files asked.case (EndsPlanForPeople asked.case.files.network asked.splits asked.report)
 
--- the outcome of a command
+-- the result of a command
 abbrev pub EndsFrontCommand : Option Files → FrontCommand → Status → List ℕ → List ℕ → Type 0
 EndsFrontCommand files Help status text message = (status ≡ Done) × (text ≡ help_text) × (message ≡ [])
 EndsFrontCommand files (HelpOn topic) status text message = (status ≡ Done) × (text ≡ topic_help topic) × (message ≡ [])
@@ -116,21 +116,21 @@ EndsFrontCommand files (Plan asked) status text message = EndsFrontPlan files as
 
 -- ---- a run
 
--- The outcome of a run, with its whole text and message: memory runs out, which needs no cause, or the words are no command, or they are one.
+-- The result of a run, with its whole text and message: memory runs out, which needs no cause; or the words are no command; or they are one.
 abbrev pub EndsFront : List (String Global) → Option Files → Status → List ℕ → List ℕ → Type 0
 EndsFront words files status text message =
     ((status ≡ NoMemory) × (text ≡ []) × (message ≡ memory_message))
     ⊎ ((status ≡ BadWords) × ((c : FrontCommand) → IsFrontCommand words c → ⊥) × (text ≡ []) × (message ≡ usage_message))
     ⊎ ((c : FrontCommand) × IsFrontCommand words c × EndsFrontCommand files c status text message)
 
--- the sink beside takes a message whole, or it counts a fault and takes a prefix
+-- the sink of messages takes the message whole, or it counts a fault and takes a prefix
 abbrev pub TellsBeside : {E : Type 0} → (E → Option (List ℕ)) → (E → ℕ) → List ℕ → E → E → Type 0
 TellsBeside taken faults message old new =
     Takes (taken old) (taken new) message
     ⊎ (Rose (faults old) (faults new) × TakesPrefix (taken old) (taken new) message)
 
--- The sink takes the whole text and the one beside it the message, and the status stays; or writing the text failed, the sink has counted
--- it and taken a prefix, and the one beside it is told so.
+-- The sink takes the whole text, the sink of messages takes the message, and the status stays. Or writing the text fails: the sink counts it and takes a
+-- prefix, and the sink of messages is told so.
 abbrev pub PutsBoth : {K E : Type 0} → (K → Option (List ℕ)) → (K → ℕ) → (E → Option (List ℕ)) → (E → ℕ)
     → Status → List ℕ → List ℕ → Status → K → K → E → E → Type 0
 PutsBoth taken faults told told_faults status text message result old new before after =

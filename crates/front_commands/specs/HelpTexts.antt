@@ -1,4 +1,4 @@
--- what the program says of its own use
+-- what the program says about its own use
 use Rattle.std.specs.Prelude.{ℕ, List, ◌++◌, codes}
 use Rattle.front_words.specs.declared.words.HelpTopic.{HelpTopic}
 use Rattle.front_words.specs.declared.words.HelpTopic.TheVariants.{Plan, View, Failures, Help}
@@ -30,7 +30,7 @@ help_text =
     ++ codes "6 the network is refused, 7 the model, 8 the failure list, 10 a demand is separated, 11 the report is wrong,\n"
     ++ codes "12 a file is too long, 13 the report can't be read, 14 there is no memory\n"
 
--- how a plan is asked for
+-- how `plan` is used
 abbrev pub plan_help : List ℕ
 plan_help =
     codes "zorgwint plan NET [--model F] [--failures F] [--survive links] [--splits N] [--report] [--quiet]\n"
@@ -48,7 +48,7 @@ plan_help =
     ++ codes "\n"
     ++ codes "Options stand in any place, each once. After -- no word is an option.\n"
 
--- how a view is asked for
+-- how `view` is used
 abbrev pub view_help : List ℕ
 view_help =
     codes "zorgwint view NET REPORT [--model F] [--failures F] [--survive links] [--csv WHAT | --state NAME] [--svg]\n"
@@ -66,7 +66,7 @@ view_help =
     ++ codes "\n"
     ++ codes "Options stand in any place, each once. After -- no word is an option.\n"
 
--- how a failure list is asked for
+-- how `failures` is used
 abbrev pub failures_help : List ℕ
 failures_help =
     codes "zorgwint failures NET\n"
@@ -76,7 +76,7 @@ failures_help =
     ++ codes "\n"
     ++ codes "It takes no options. After -- no word is one, so that NET may begin with a minus.\n"
 
--- how help is asked for
+-- how `help` is used
 abbrev pub help_help : List ℕ
 help_help =
     codes "zorgwint help [COMMAND]\n"

@@ -15,7 +15,7 @@ use part_names::demand_name;
 use std::alloc::Global;
 use text_kit::write::put_decimal;
 
-/// Puts a name between other words.
+/// Appends a name between other words.
 fn put_between(text: &mut Bytes, front: &[u8], name: &[u8], end: &[u8]) -> Result<(), NoMemory>
     ensures { OnOk result (text.new ≡ text.old ++ (front.now ++ name.now ++ end.now)) }
 {
@@ -24,7 +24,7 @@ fn put_between(text: &mut Bytes, front: &[u8], name: &[u8], end: &[u8]) -> Resul
     text.append(end)
 }
 
-/// Puts a line: a number and a name, each after other words, and more words between them.
+/// Appends a line: a number and a name, each after other words.
 fn put_numbered(
     text: &mut Bytes,
     front: &[u8],
@@ -43,7 +43,7 @@ fn put_numbered(
     text.append(b"\n")
 }
 
-/// Puts what is said of a demand that is separated where nothing fails.
+/// Appends what is said of a demand that is separated where nothing fails.
 fn put_apart_words(text: &mut Bytes, demand: &[u8]) -> Result<(), NoMemory>
     ensures { OnOk result (text.new ≡ text.old ++ apart_words demand.now) }
 {
@@ -55,7 +55,7 @@ fn put_apart_words(text: &mut Bytes, demand: &[u8]) -> Result<(), NoMemory>
     )
 }
 
-/// Puts the planner's own line of it.
+/// Appends the planner's own line of a demand that is separated where nothing fails.
 fn put_apart_line(text: &mut Bytes, demand: &[u8]) -> Result<(), NoMemory>
     ensures { OnOk result (text.new ≡ text.old ++ apart_line demand.now) }
 {
@@ -69,7 +69,7 @@ fn put_apart_line(text: &mut Bytes, demand: &[u8]) -> Result<(), NoMemory>
     )
 }
 
-/// What is said of a demand that is separated where nothing fails, and last the planner's own line of it.
+/// What is said of a demand that is separated where nothing fails, with the planner's own line at the end.
 fn apart_text(alloc: Global, demand: &[u8]) -> Result<Bytes, NoMemory>
     ensures { IfOk result (λ text. text ≡ apart_words demand.now ++ apart_line demand.now) }
 {
@@ -79,7 +79,7 @@ fn apart_text(alloc: Global, demand: &[u8]) -> Result<Bytes, NoMemory>
     Ok(text)
 }
 
-/// The end of a run at a network of which this demand is separated where nothing fails.
+/// The end of a run at a network in which this demand is separated where nothing fails.
 fn apart(alloc: Global, net: &Network, demands: &Demands, k: u32) -> Halt
     requires { IsFirstSeparation (with_states net.now demands.now []) 0 k }
     ensures { Halts (SaysApart net.now demands.now) result }

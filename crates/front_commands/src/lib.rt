@@ -1,4 +1,4 @@
-//! The commands of the program for people: what each prints once its words are read, and what is said of a fault beside it.
+//! The commands of the program for people: what each prints once its words are read, and what is said of a fault.
 #![tactic(auto)]
 
 mod failures;

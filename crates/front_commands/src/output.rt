@@ -9,14 +9,14 @@ use net_core::{Bytes, List};
 use outside_io::Sink;
 use std::alloc::Global;
 
-/// What a run prints, and what it says beside that.
+/// What a run prints, and the message that it writes to standard error.
 #[derive(Drop)]
 pub(crate) struct Printed {
     pub(crate) text: Bytes,
     pub(crate) message: Bytes,
 }
 
-/// A text with nothing beside it, or the end of a run with a message.
+/// A text without a message, or the end of a run with a message.
 pub(crate) fn alone(alloc: Global, text: Result<Bytes, Halt>) -> Result<Printed, Halt>
     ensures { MatchResult text (λ t. result ≡ Ok (record { text = t; message = [] })) (λ h. result ≡ Err h) }
 {
@@ -29,7 +29,7 @@ pub(crate) fn alone(alloc: Global, text: Result<Bytes, Halt>) -> Result<Printed,
     }
 }
 
-/// Puts a message beside the text. Where that fails, nowhere is left to say so.
+/// Writes a message to standard error. If that fails, there is nowhere left to say so.
 pub(crate) fn tell<E: Sink>(beside: &mut E, message: &[u8])
     ensures later { E.faults beside.old ≤ E.faults beside.new }
     ensures tells { TellsBeside E.taken E.faults message.now beside.old beside.new }
@@ -40,7 +40,7 @@ pub(crate) fn tell<E: Sink>(beside: &mut E, message: &[u8])
     }
 }
 
-/// Puts a message beside the text, if there is one.
+/// Writes a message to standard error, if there is one.
 #[tactic(auto, using(crate::proofs::Nothing::takes_nothing))]
 fn tell_some<E: Sink>(beside: &mut E, message: &[u8])
     ensures later { E.faults beside.old ≤ E.faults beside.new }
@@ -51,7 +51,7 @@ fn tell_some<E: Sink>(beside: &mut E, message: &[u8])
     }
 }
 
-/// Prints a text and says a message, and gives the status, or says that writing failed.
+/// Prints a text, and then the message. Gives `Done`, or `WriteFault` if the text couldn't be written; then the message is about that.
 pub(crate) fn say<K: Sink, E: Sink>(
     out: &mut K,
     beside: &mut E,

@@ -19,7 +19,7 @@ use std::alloc::Global;
 use std::sync::Wait;
 use std::thread::Threads;
 
-/// What is printed and said of an answer with a plan, or the end of a run with its message.
+/// What is printed and said for an answer with a plan, or the end of a run with its message.
 fn printed(answer: PlanAnswer) -> Result<Printed, Halt>
     ensures { GivesAnswer answer result }
 {
@@ -35,7 +35,7 @@ fn printed(answer: PlanAnswer) -> Result<Printed, Halt>
     }
 }
 
-/// How many splits the tree has at most, if somebody says.
+/// How many splits the tree has at most, if the words say.
 fn splits_of(words: &PlanRequest) -> Option<u32>
     ensures same { result ≡ words.now.splits }
     ensures few { IfSome result (λ n. n ≤ 9999) }
@@ -43,7 +43,7 @@ fn splits_of(words: &PlanRequest) -> Option<u32>
     words.splits
 }
 
-/// The plan of a problem that is asked for.
+/// The plan that the words ask for, of a problem.
 fn plan_problem<R: Threads + Wait + Sync, T: Teller + Sync>(
     rt: &R,
     alloc: Global,
@@ -68,7 +68,7 @@ fn plan_problem<R: Threads + Wait + Sync, T: Teller + Sync>(
     printed(answer)
 }
 
-/// The plan of these files that is asked for.
+/// The plan that the words ask for, of the problem in their files.
 pub(crate) fn plan_files<R: Threads + Wait + Sync, S: Shelf, T: Teller + Sync>(
     rt: &R,
     alloc: Global,

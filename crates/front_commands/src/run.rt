@@ -35,7 +35,7 @@ fn bad_words(alloc: Global) -> Halt
     told(Status::BadWords, text_of(alloc, USAGE))
 }
 
-/// What is printed of a text of the program's own.
+/// A text of the program's own, without a message.
 fn own_text(alloc: Global, bytes: &[u8]) -> Result<Printed, Halt>
     ensures ends { HasPrintedCause (λ status text message. (status ≡ Status.Done) × (text ≡ bytes.now) × (message ≡ [])) result }
     ensures read { FailsReading result → ⊥ }
@@ -68,7 +68,7 @@ fn answer_command<R: Threads + Wait + Sync, S: Shelf, T: Teller + Sync>(
     }
 }
 
-/// The answer to words.
+/// The answer to the words of the command line.
 fn answer_words<R: Threads + Wait + Sync, S: Shelf, T: Teller + Sync>(
     rt: &R,
     alloc: Global,
@@ -85,10 +85,10 @@ fn answer_words<R: Threads + Wait + Sync, S: Shelf, T: Teller + Sync>(
     }
 }
 
-/// Carries out the command that the words give: reads its file from the shelf, prints its text to a sink, and says what is wrong to the one
-/// beside it. Where something is wrong it prints nothing, or, where writing fails, the beginning of the text. A plan tells the teller how far
-/// it is, unless the words ask for quiet, and may never return. It takes the time and the memory of the command and of the readers of its
-/// files, and memory for its texts.
+/// Carries out the command that the words give: reads its files from the shelf, prints its text to `out`, and says what is wrong to
+/// `beside`. If something is wrong, it prints nothing, or, if writing fails, the beginning of the text. A plan tells the teller its
+/// progress, unless the words ask for quiet, and may never return. It takes the time and the memory of the command and of the readers of
+/// its files, and memory for its texts.
 ///
 /// ```text
 /// let mut shelf = MemShelf::new(files, List::new(alloc));   // with the triangle's network under the name t.txt

@@ -32,7 +32,7 @@ Exit statuses: 0 done, 2 these words are no command, 3 a file isn't there, 4 rea
 12 a file is too long, 13 the report can't be read, 14 there is no memory
 ";
 
-/// How a plan is asked for.
+/// How `plan` is used.
 pub(crate) const PLAN_HELP: &[u8] =
     b"zorgwint plan NET [--model F] [--failures F] [--survive links] [--splits N] [--report] [--quiet]
     a plan for NET: what to buy, loads, failures, and how near to the cheapest it is
@@ -50,7 +50,7 @@ pub(crate) const PLAN_HELP: &[u8] =
 Options stand in any place, each once. After -- no word is an option.
 ";
 
-/// How a view is asked for.
+/// How `view` is used.
 pub(crate) const VIEW_HELP: &[u8] =
     b"zorgwint view NET REPORT [--model F] [--failures F] [--survive links] [--csv WHAT | --state NAME] [--svg]
     tables of a report of plans for NET, which is checked first: what to buy, loads, failures, and what is known of the cost
@@ -68,7 +68,7 @@ pub(crate) const VIEW_HELP: &[u8] =
 Options stand in any place, each once. After -- no word is an option.
 ";
 
-/// How a failure list is asked for.
+/// How `failures` is used.
 pub(crate) const FAILURES_HELP: &[u8] = b"zorgwint failures NET
     a failure list of each single link that can fail without separating a demand; the others stand in comments
 
@@ -77,7 +77,7 @@ pub(crate) const FAILURES_HELP: &[u8] = b"zorgwint failures NET
 It takes no options. After -- no word is one, so that NET may begin with a minus.
 ";
 
-/// How help is asked for.
+/// How `help` is used.
 pub(crate) const HELP_HELP: &[u8] = b"zorgwint help [COMMAND]
     what all commands do and take, or how COMMAND alone is used
 
@@ -98,7 +98,7 @@ pub(crate) fn topic_help(topic: HelpTopic) -> &'static [u8]
     }
 }
 
-/// Which version it is.
+/// The program's version.
 pub(crate) const VERSION: &[u8] = b"zorgwint 1\n";
 
 /// What is said of words that are no command.

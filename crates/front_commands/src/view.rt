@@ -16,7 +16,7 @@ use node_places::Place;
 use outside_io::Shelf;
 use std::alloc::Global;
 
-/// The view of the report in a file, of plans for a problem.
+/// The view of the report in a file, with plans for a problem.
 fn view_file<S: Shelf>(
     alloc: Global,
     network: &str,
@@ -33,7 +33,7 @@ fn view_file<S: Shelf>(
     view_report(alloc, network, name, problem, bytes.items(), form)
 }
 
-/// The form of a view that is asked for; where a state is asked for that there isn't, the run ends with a message.
+/// The form of view that the words ask for. If they name a state that there isn't, the run ends with a message.
 fn form_of<'p>(
     alloc: Global,
     problem: &Problem,
@@ -52,7 +52,7 @@ fn form_of<'p>(
     }
 }
 
-/// The view of the report that is asked for, of plans for a problem.
+/// The view that the words ask for, of plans for a problem.
 fn view_asked<S: Shelf>(
     alloc: Global,
     words: &ViewWords,
@@ -75,7 +75,7 @@ fn view_asked<S: Shelf>(
     )
 }
 
-/// The view of the report of these files.
+/// The view that the words ask for, of the report and the problem in their files.
 pub(crate) fn view_files<S: Shelf>(
     alloc: Global,
     words: &ViewWords,
