@@ -12,7 +12,7 @@ use std::process::ExitCode;
 use std::{env, io};
 use teller::ErrorTeller;
 
-/// The command-line arguments, and none where one of them isn't text.
+/// The command-line arguments after the program's name; none if one of them isn't text.
 fn words_of(rt: &HostRuntime) -> Result<Vec<String>, NoMemory> {
     match env::args(rt) {
         Ok(args) => Ok(args.skip(1).collect(rt.alloc())?),

@@ -11,9 +11,9 @@ use std::alloc::Global;
 use std::sync::Wait;
 use std::thread::Threads;
 
-/// Carries out the command that the words give: reads its file from the shelf, prints its text to a sink, and says what is wrong to the one
-/// beside it. Where something is wrong it prints nothing, or, where writing fails, the beginning of the text. A plan tells the teller how far
-/// it is, unless the words ask for quiet, and may never return.
+/// Carries out the command that the words give: reads its files from the shelf, prints its text to `out`, and says what is wrong to
+/// `beside`. If something is wrong, it prints nothing, or, if writing fails, the beginning of the text. A plan tells the teller its
+/// progress, unless the words ask for quiet, and may never return.
 ///
 /// ```text
 /// let mut shelf = MemShelf::new(files, List::new(alloc));   // with the triangle's network under the name t.txt

@@ -1,7 +1,7 @@
 use plan_progress::Teller;
 use std::io::{Stderr, Write};
 
-/// Tells lines on standard error. A line that can't be written is left out.
+/// Writes lines to standard error. A line that can't be written is left out.
 #[derive(Drop)]
 pub struct ErrorTeller {
     out: Stderr,
