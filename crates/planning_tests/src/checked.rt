@@ -1,4 +1,4 @@
-//! A separator asked of a problem that need not be right.
+//! Asks a separator about a problem that may be wrong.
 ghost use Rattle.std.specs.Prelude.{◌≡◌, ◌≢◌, ◌⊎◌, IfOk, IfSome, None, length};
 ghost use Rattle.plan_terms.specs.Terms.{case, IsSurvivable};
 ghost use Rattle.separator.specs.Separators.{AreStateAnswers};
@@ -8,10 +8,10 @@ use net_core::{Caps, Instance, List, NoMemory, Problem};
 use separator::{Separate, StateAnswer};
 use std::alloc::Global;
 
-/// What a separator answers for a problem of its network and states; `None` where the scale is 0, where there isn't one number for each
-/// link, or where a state separates a demand.
+/// The answers of a separator for a problem of its network and states. `None` if the scale is 0, if there isn't one number for each link,
+/// or if a state separates a demand.
 ///
-/// It takes the time and memory of `first_separated` before those of the separator.
+/// It takes the time and memory of `first_separated`, and then those of the separator.
 pub fn separate_checked<S: Separate>(
     alloc: Global,
     separator: &mut S,

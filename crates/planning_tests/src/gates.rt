@@ -3,7 +3,7 @@ use outside_io::{Gate, RoundFigures, TreeFigures};
 use std::sync::atomic::{AtomicU64, Ordering};
 use std::thread;
 
-/// How often a held caller looks whether it may go on. Where nobody lets it, it goes on after this many looks, and the journal shows it.
+/// How often a held caller looks at most whether it may go on. After that it goes on by itself, and the journal shows it.
 const LOOKS: u64 = 1 << 22;
 
 fn wait_for(flag: &AtomicU64) {
@@ -59,8 +59,7 @@ impl Gate for LateEdit {
     fn split(&self, _figures: TreeFigures) {}
 }
 
-/// An edit of caller 2 waits until caller 1 has begun with state 0 in a round, and caller 1 waits after each state until caller 2 has
-/// edited.
+/// An edit of caller 2 waits until caller 1 has begun with state 0 in a round. Caller 1 waits after each state until caller 2 has edited.
 #[derive(Drop)]
 pub struct EditAmidPlan {
     begun: AtomicU64,

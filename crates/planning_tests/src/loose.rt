@@ -49,7 +49,7 @@ fn report_of<R: Threads + Wait + Sync>(
     accepted(rt, alloc, place, &opening, &script)
 }
 
-/// The plan that is all of a report's outcomes.
+/// The plan of a report that has a single outcome.
 fn only_plan(report: &Report) -> Option<&Plan> {
     match report.outcomes.items() {
         [Outcome::Planned { plan, .. }] => Some(plan),
@@ -63,13 +63,13 @@ const LARGE: [Module; 1] = [Module {
     cost: 1000,
 }];
 
-/// A larger one, for 1.001. The two capacities have no common divisor.
+/// A larger module, for 1.001. The two capacities have no common divisor.
 const LARGER: [Module; 1] = [Module {
     capacity: 1099511627773,
     cost: 1001,
 }];
 
-/// A chain of two links, whose shares have a common scale of some 2^80.
+/// A chain of two links, whose shares have a common scale of about 2^80.
 const WIDE: [LinkRow; 2] = [(0, 1, 0, &LARGE), (1, 2, 0, &LARGER)];
 
 /// The report of a plan for a demand along each of these links.
@@ -78,7 +78,7 @@ fn report_of_wide<R: Threads + Wait + Sync>(rt: &R, alloc: Global) -> Option<Rep
     report_of(rt, alloc, &place, &[(0, 1, 12000), (1, 2, 7000)])
 }
 
-/// Whether the plan costs a module of each link and ends loose by width.
+/// Whether the plan costs one module of each link and ends loose by width.
 fn is_loose_by_width(report: &Option<Report>) -> bool {
     let Some(report) = report else {
         return false;
@@ -89,7 +89,7 @@ fn is_loose_by_width(report: &Option<Report>) -> bool {
     plan.cost == 2001 && matches!(&plan.quality, Quality::Loose(Cause::Wide(_)))
 }
 
-/// Whether the planning for a demand along each of the wide links ends so.
+/// Whether the planning for a demand along each of the wide links costs one module of each and ends loose by width.
 fn ends_loose_by_width<R: Threads + Wait + Sync>(rt: &R, alloc: Global) -> bool {
     let report = report_of_wide(rt, alloc);
     is_loose_by_width(&report)
@@ -100,7 +100,7 @@ fn a_planning_ends_loose_by_width(rt: HostRuntime) {
     assert!(rt; ends_loose_by_width(&rt, rt.alloc()));
 }
 
-/// A chain of nineteen links, and one beside each of the first two, which fail together.
+/// A chain of nineteen links, and a second link beside each of the first two. These second links fail together.
 const LONG: [LinkRow; 21] = [
     (0, 1, 0, &TEN),
     (1, 2, 0, &TEN),
@@ -148,7 +148,7 @@ const ALONG: [DemandRow; 19] = [
     (18, 19, 29000),
 ];
 
-/// One of 256 states, which all fail the links beside the first two.
+/// One of 256 states, each of which fails the second links of the first two.
 fn state_of(alloc: Global, k: usize) -> Option<Listed> {
     let bytes = [b'A' + (k / 16 % 16) as u8, b'A' + (k % 16) as u8];
     Some(Listed {
@@ -185,7 +185,7 @@ fn report_of_long<R: Threads + Wait + Sync>(rt: &R, alloc: Global) -> Option<Rep
     report_of(rt, alloc, &place, &ALONG)
 }
 
-/// Whether the planning for the demands along the chain ends so.
+/// Whether the planning for the demands along the chain fills the pool and ends loose by cuts.
 fn ends_loose_by_cuts<R: Threads + Wait + Sync>(rt: &R, alloc: Global) -> bool {
     let report = report_of_long(rt, alloc);
     is_loose_by_cuts(&report)

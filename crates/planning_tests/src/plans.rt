@@ -13,14 +13,14 @@ use worked_networks::{
     CHAIN, DemandRow, LinkRow, ONE, PARALLEL, TEN, demands, network, single_failures,
 };
 
-/// What is looked at of a plan: its cost, its raw value, its bound, and whether it is tight.
+/// What a row expects of a plan: its cost, its raw value as a fraction, and its bound, in thousandths; and whether it is tight.
 type Looked = (u128, (u128, u128), u128, bool);
 
-/// The denominator of a certificate, how many lines it has, and what the first four cuts of the pool have as their numerators in it.
+/// The denominator of a certificate, how many lines it has, and the numerators of the first four cuts of the pool in it.
 type Numerators = (u128, usize, [u64; 4]);
 
-/// How many nodes there are, a table of links and how many of them are taken, the links that each state fails, a demand, and what is looked
-/// at of its plan and, in some rows, of the certificate; none where a state separates it.
+/// The number of nodes, a table of links and how many of them are taken, the links that each state fails, a demand, and what is expected of
+/// its plan and, in some rows, of the certificate. `None` if a state separates the demand.
 type Row = (
     usize,
     &'static [LinkRow<'static>],
@@ -37,7 +37,8 @@ const INSTALLED: [LinkRow; 3] = [
     (0, 2, 20000, &TEN),
 ];
 
-/// The triangle alone, and with each link failing alone; four parallel links that fail alone; and what is installed is enough.
+/// Networks with tight plans: the triangle without failures, the triangle and four parallel links with each link failing alone, and a triangle
+/// whose installed capacity is enough.
 const TIGHT: [Row; 4] = [
     (
         3,
@@ -73,8 +74,8 @@ const TIGHT: [Row; 4] = [
     ),
 ];
 
-/// A network of which each link fails alone: how many nodes there are, its links, a demand, and what is looked at of its plan and, in some
-/// rows, of the certificate.
+/// A network in which each link fails alone: the number of nodes, its links, a demand, and what is expected of its plan and, in some rows,
+/// of the certificate.
 type SinglesRow = (
     usize,
     &'static [LinkRow<'static>],
@@ -82,10 +83,10 @@ type SinglesRow = (
     Option<(Looked, Option<Numerators>)>,
 );
 
-/// 24 parallel links, the fewest for which a round's certificate is found over lengths alone.
+/// The fewest parallel links for which a round's certificate is found by a program over lengths alone: 24.
 const MANY_LINKS: [LinkRow; 24] = [(0, 1, 0, &ONE); 24];
 
-/// A link between A and B, B and C, and C and D, each eight times.
+/// Links between A and B, B and C, and C and D, eight of each.
 const BUNDLES: [LinkRow; 24] = [
     (0, 1, 0, &ONE),
     (0, 1, 0, &ONE),
@@ -113,10 +114,10 @@ const BUNDLES: [LinkRow; 24] = [
     (2, 3, 0, &ONE),
 ];
 
-/// Any 23 of 24 parallel links carry 46.00 with 2.00 on each, so that each failure's cut has the multiplier 1 / 23. Any seven links of each
-/// of three bundles carry 14.00 with 2.00 on each. There the first round has one cut for each state, with the length 1 for each link that
-/// survives, and a share of 42.00 / 23 on each link; at it each failure finds the cut of its own bundle. These have the multiplier 1 / 7 in
-/// the second round, which begins with the basis of the first.
+/// Any 23 of 24 parallel links carry 46.00 with 2.00 on each, so that the cut of each failure has the multiplier 1 / 23. Any seven links of
+/// each of three bundles carry 14.00 with 2.00 on each. There the first round has one cut for each state, with the length 1 on each link
+/// that survives, and its share has 42.00 / 23 on each link. At this share each failure finds the cut of its own bundle. These cuts have
+/// the multiplier 1 / 7 in the second round, which begins with the basis of the first.
 const MANY: [SinglesRow; 2] = [
     (
         2,
@@ -177,20 +178,20 @@ const PRIME_BUNDLES: [LinkRow; 24] = [
     (2, 3, 0, &HIGHER),
 ];
 
-/// What a demand from A to D needs, and what is looked at of its plan and of the certificate.
+/// The need of a demand from A to D, and what is expected of its plan and of the certificate.
 type WideRow = (u64, Option<(Looked, Option<Numerators>)>);
 
-/// The first cuts have a least share of 3 / 23 of the demand on each link, whose units are over 23 and both primes: more than 2^62. At these
-/// capacities each failure finds the cut of its own bundle, and with those each link has 1 / 7 of the demand.
+/// The least share of the first cuts has 3 / 23 of the demand on each link. Its units are over 23 and both primes, which is more than 2^62.
+/// At these capacities each failure finds the cut of its own bundle, and with those cuts each link has 1 / 7 of the demand.
 ///
-/// Of the first demand that is 1000000.000, in units over both primes, and the share costs 12 * 161000 * 10^9 * (1 / 1000000007 + 1 / 1000000009),
-/// a little less than a module on each link, which covers it. A cut has the multiplier 23000 * (4 / 1000000009 - 3 / 1000000007) where a lower
-/// module fails, and the other way round. Over both primes the demand is above 2^62, so no state is routed at that share: the plan is loose,
-/// though its cost meets its bound.
+/// The first demand is 1000000.000, in units over both primes. The share costs 12 * 161000 * 10^9 * (1 / 1000000007 + 1 / 1000000009), a
+/// little less than a module on each link, which covers it. A cut has the multiplier 23000 * (4 / 1000000009 - 3 / 1000000007) if the
+/// module that fails is one of the lower capacity, and the same with the primes exchanged otherwise. Over both primes the demand is above
+/// 2^62, so that no state is routed at that share: the plan is loose, though its cost meets its bound.
 ///
 /// The units of a seventh of the second demand are over 7 and both primes, again more than 2^62, and no failure finds a further cut. So the
-/// planning ends as without these rounds: with the first cut alone, at 161000 / 1000000009 for three times the demand, and with the fallback
-/// plan, seven modules on each of two links of a bundle.
+/// planning ends as it would without these rounds: with the first cut alone, at 161000 / 1000000009 for three times the demand, and with
+/// the fallback plan, seven modules on each of two links of a bundle.
 const WIDE_SHARES: [WideRow; 2] = [
     (
         7000000000,
@@ -283,20 +284,20 @@ fn answer_of(alloc: Global, row: &Row) -> Option<PlanAnswer> {
     planned_for(alloc, &place, row.4)
 }
 
-/// The network of these links, each of which fails alone.
+/// The network of these links, in which each of them fails alone.
 fn singles_of(alloc: Global, nodes: usize, links: &[LinkRow]) -> Option<Place> {
     let net = network(alloc, nodes, links).ok()?;
     let states = single_failures(alloc, &net).ok()?;
     Some(Place { net, states })
 }
 
-/// The answer of planning for a row of which each link fails alone.
+/// The answer of planning for a row in which each link fails alone.
 fn singles_answer(alloc: Global, row: &SinglesRow) -> Option<PlanAnswer> {
     let place = singles_of(alloc, row.0, row.1)?;
     planned_for(alloc, &place, row.2)
 }
 
-/// Whether the plan looks like this.
+/// Whether a plan has the cost, raw value, bound and quality that a row expects.
 fn looks_like(plan: &Plan, want: &Option<(Looked, Option<Numerators>)>) -> bool {
     let Some((looked, nums)) = want else {
         return false;
@@ -308,7 +309,7 @@ fn looks_like(plan: &Plan, want: &Option<(Looked, Option<Numerators>)>) -> bool 
         }
 }
 
-/// Whether the answer is what is wanted.
+/// Whether an answer is what a row expects.
 fn is_answered(answer: &Option<PlanAnswer>, want: &Option<(Looked, Option<Numerators>)>) -> bool {
     match answer {
         Some(PlanAnswer::Planned(plan)) => looks_like(plan, want),
@@ -325,7 +326,7 @@ fn is_planned(alloc: Global, row: &Row) -> bool {
     is_so
 }
 
-/// Whether planning gives what the row says where each link fails alone.
+/// Whether planning gives what a row says, if each link fails alone.
 fn is_planned_with_singles(alloc: Global, row: &SinglesRow) -> bool {
     let answer = singles_answer(alloc, row);
     let is_so = is_answered(&answer, &row.3);
@@ -333,7 +334,7 @@ fn is_planned_with_singles(alloc: Global, row: &SinglesRow) -> bool {
     is_so
 }
 
-/// The answer of planning in the bundles of prime capacities, of which each link fails alone.
+/// The answer of planning in the bundles of prime capacities, in which each link fails alone.
 fn prime_answer(alloc: Global, need: u64) -> Option<PlanAnswer> {
     let place = singles_of(alloc, 4, &PRIME_BUNDLES)?;
     planned_for(alloc, &place, (0, 3, need))

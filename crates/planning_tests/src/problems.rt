@@ -9,7 +9,7 @@ use worked_networks::{LinkRow, TEN, failing, network, problem, triangle};
 /// A triangle, of modules of 10.00 for 5.00.
 pub const TRIANGLE: [LinkRow; 3] = [(0, 1, 0, &TEN), (1, 2, 0, &TEN), (0, 2, 0, &TEN)];
 
-/// A network with its states.
+/// A network with its failure states.
 #[derive(Drop)]
 pub struct Place {
     pub net: Network,
@@ -23,7 +23,7 @@ pub fn place_of(alloc: Global, nodes: usize, links: &[LinkRow], fail: &[&[u32]])
     Some(Place { net, states })
 }
 
-/// The triangle, whose links AB, BC and AC fail alone, in this order, with a demand of 12.00 from A to C.
+/// The triangle with a demand of 12.00 from A to C. Its links AB, BC and AC fail alone, in this order.
 pub fn one_demand(alloc: Global) -> Option<Problem> {
     problem(alloc, triangle(alloc, 0).ok()?, &[(0, 2, 12000)]).ok()
 }

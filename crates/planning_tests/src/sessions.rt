@@ -17,7 +17,7 @@ use worked_networks::{DemandRow, demands};
 /// A demand of 12.00 from A to C.
 const ONE: [DemandRow; 1] = [(0, 2, 12000)];
 
-/// Sixteen of the greatest needs, which leave 15 thousandths.
+/// Sixteen demands of the greatest need, which leave 15 thousandths up to the greatest total.
 const GREAT: [DemandRow; 16] = [(0, 2, 1099511627775); 16];
 
 /// The script of these commands.
@@ -62,7 +62,8 @@ fn report<R: Threads + Wait + Sync, G: Gate + Sync>(
     report_at(rt, alloc, &place, opening, &script, gate)
 }
 
-/// What is looked at of a plan: caller, serial, version, position, cost, bound, and the right side of its certificate's first line.
+/// What a row expects of a plan: caller, serial, version, position, cost and bound in thousandths, and the right side of its certificate's
+/// first line.
 type Looked = (u32, u32, u64, u64, u128, u128, u128);
 
 fn look(outcome: &Outcome) -> Option<Looked> {
@@ -100,7 +101,7 @@ fn are_plans(report: &Report, want: &[Looked]) -> bool {
     outcomes.len() == want.len()
 }
 
-/// Commands, the plans, how many entries there are, and the right side of the first cut at the end.
+/// Commands, the plans that are expected, how many entries there are, and the right side of the first cut at the end.
 type Session = (&'static [u8], &'static [Looked], usize, Option<u128>);
 
 const SESSIONS: [Session; 3] = [
@@ -133,7 +134,7 @@ fn first_right(report: &Report) -> Option<u128> {
     }
 }
 
-/// Whether the report is as the session wants.
+/// Whether a report is what the row expects.
 fn is_of_session(report: &Option<Report>, session: &Session) -> bool {
     let Some(report) = report else {
         return false;
@@ -143,13 +144,13 @@ fn is_of_session(report: &Option<Report>, session: &Session) -> bool {
         && first_right(report) == session.3
 }
 
-/// Whether the session's commands have the report that it wants.
+/// Whether a row's commands have the report that it expects.
 fn is_as_wanted<R: Threads + Wait + Sync>(rt: &R, alloc: Global, session: &Session) -> bool {
     let report = report(rt, alloc, &[], &ONE, session.0, &OpenGate);
     is_of_session(&report, session)
 }
 
-/// Whether each session's commands have the report that it wants.
+/// Whether each row's commands have the report that it expects.
 fn are_as_wanted<R: Threads + Wait + Sync>(rt: &R, alloc: Global, sessions: &[Session]) -> bool {
     for session in sessions {
         if !is_as_wanted(rt, alloc, session) {
@@ -164,7 +165,7 @@ fn plans_belong_to_their_versions(rt: HostRuntime) {
     assert!(rt; are_as_wanted(&rt, rt.alloc(), &SESSIONS));
 }
 
-/// Whether caller 1 plans after its edit, and the plan of caller 2 is one of before the edit or after it.
+/// Whether caller 1 plans after its edit, and the plan of caller 2 is from before the edit or from after it.
 fn is_either_way(report: &Option<Report>) -> bool {
     let Some(report) = report else {
         return false;
@@ -180,7 +181,7 @@ fn is_either_way(report: &Option<Report>) -> bool {
     of_first && of_second
 }
 
-/// Whether it is so where caller 2 plans beside an edit of caller 1.
+/// Whether caller 2 may plan before or after an edit of caller 1, where the two run at once.
 fn plan_beside_an_edit<R: Threads + Wait + Sync>(rt: &R, alloc: Global) -> bool {
     let commands = b"caller 2 plan\ncaller 1 set A 24\ncaller 1 plan\n";
     let report = report(rt, alloc, &[], &ONE, commands, &OpenGate);
@@ -192,7 +193,7 @@ fn another_caller_may_plan_before_an_edit_or_after_it(rt: HostRuntime) {
     assert!(rt; plan_beside_an_edit(&rt, rt.alloc()));
 }
 
-/// Whether the edits of the journal are of these callers, in this order.
+/// Whether the edits of the journal are by these callers, in this order.
 fn are_editors(report: &Option<Report>, want: &[u32]) -> bool {
     let Some(report) = report else {
         return false;
@@ -209,7 +210,7 @@ fn are_editors(report: &Option<Report>, want: &[u32]) -> bool {
     rest.next().is_none()
 }
 
-/// Whether an edit of one caller, held until another has edited, comes after the other's.
+/// Whether an edit of one caller that is held until another caller has edited comes after that one's edit.
 fn edits_late<R: Threads + Wait + Sync>(rt: &R, alloc: Global, held: u32, by: u32) -> bool {
     let commands = b"caller 1 set A 24\ncaller 2 set A 36\n";
     let gate = LateEdit::new(held, by);
@@ -218,12 +219,12 @@ fn edits_late<R: Threads + Wait + Sync>(rt: &R, alloc: Global, held: u32, by: u3
 }
 
 #[test]
-fn callers_run_beside_each_other(rt: HostRuntime) {
+fn callers_run_at_the_same_time(rt: HostRuntime) {
     assert!(rt; edits_late(&rt, rt.alloc(), 1, 2));
     assert!(rt; edits_late(&rt, rt.alloc(), 2, 1));
 }
 
-/// Whether the edit of caller 2 is the fifth entry, after the cuts that a plan opens with, whose right sides follow it.
+/// Whether the edit of caller 2 is the fifth entry, after the opening cuts of caller 1's plan, and the right sides of these follow it.
 fn is_amid(report: &Option<Report>) -> bool {
     let Some(report) = report else {
         return false;
@@ -247,7 +248,7 @@ fn is_amid(report: &Option<Report>) -> bool {
 /// States that fail each link of the triangle alone.
 const EACH_ALONE: [&[u32]; 3] = [&[0], &[1], &[2]];
 
-/// Whether it is so where caller 2 edits while caller 1 plans.
+/// Whether an edit of caller 2 comes amid the cuts of a plan of caller 1.
 fn edits_amid<R: Threads + Wait + Sync>(rt: &R, alloc: Global) -> bool {
     let commands = b"caller 1 plan\ncaller 2 set A 24\n";
     let gate = EditAmidPlan::new();
@@ -256,11 +257,11 @@ fn edits_amid<R: Threads + Wait + Sync>(rt: &R, alloc: Global) -> bool {
 }
 
 #[test]
-fn an_edit_stands_amid_the_cuts_of_a_plan(rt: HostRuntime) {
+fn an_edit_comes_amid_the_cuts_of_a_plan(rt: HostRuntime) {
     assert!(rt; edits_amid(&rt, rt.alloc()));
 }
 
-/// The demands, commands and their replies.
+/// The demands, commands, and the replies that are expected.
 type Replies = (&'static [DemandRow], &'static [u8], &'static [Reply]);
 
 const REPLIES: [Replies; 2] = [
@@ -301,7 +302,7 @@ fn are_replies(report: &Option<Report>, want: &[Reply]) -> bool {
     rest.next().is_none()
 }
 
-/// Whether the row's commands have its replies.
+/// Whether a row's commands have its replies.
 fn is_replied<R: Threads + Wait + Sync>(rt: &R, alloc: Global, row: &Replies) -> bool {
     let report = report(rt, alloc, &[], row.0, row.1, &OpenGate);
     are_replies(&report, row.2)
@@ -322,7 +323,7 @@ fn edits_have_replies_in_their_order(rt: HostRuntime) {
     assert!(rt; are_replied(&rt, rt.alloc(), &REPLIES));
 }
 
-/// Whether the first outcome names the demand A, which state 2 separates at version 1, and the second is a plan of a demand of 0.
+/// Whether the first outcome names the demand A, which state 2 separates at version 1, and the second one is a plan for a demand of 0.
 fn names_separated(report: &Option<Report>) -> bool {
     let Some(report) = report else {
         return false;
@@ -347,7 +348,7 @@ fn names_separated(report: &Option<Report>) -> bool {
 /// States of which the second fails two links of the triangle.
 const TWO_AT_ONCE: [&[u32]; 2] = [&[1], &[0, 2]];
 
-/// Whether it is so where two links fail at once.
+/// Whether the outcome names the demand that two links failing at once separate.
 fn names_at_two<R: Threads + Wait + Sync>(rt: &R, alloc: Global) -> bool {
     let commands = b"caller 7 set A 24\ncaller 7 plan\ncaller 7 set A 0\ncaller 7 plan\n";
     let report = report(rt, alloc, &TWO_AT_ONCE, &ONE, commands, &OpenGate);
@@ -366,10 +367,10 @@ fn report_on_triangle<R: Threads + Wait + Sync>(rt: &R, alloc: Global) -> Option
     report_at(rt, alloc, &place, &ONE, &script, &OpenGate)
 }
 
-/// What is looked at of its plan.
+/// What is expected of the plan of that report.
 const ONLY: [Looked; 1] = [(1, 1, 0, 0, 10000, 10000, 12000)];
 
-/// Whether the report has that plan alone.
+/// Whether the report has that plan and no other outcome.
 fn is_one_plan<R: Threads + Wait + Sync>(rt: &R, alloc: Global) -> bool {
     let report = report_on_triangle(rt, alloc);
     match &report {
@@ -379,6 +380,6 @@ fn is_one_plan<R: Threads + Wait + Sync>(rt: &R, alloc: Global) -> bool {
 }
 
 #[test]
-fn one_plan_is_a_script(rt: HostRuntime) {
+fn a_script_may_be_one_plan(rt: HostRuntime) {
     assert!(rt; is_one_plan(&rt, rt.alloc()));
 }

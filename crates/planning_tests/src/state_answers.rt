@@ -17,7 +17,7 @@ enum Want {
     Routed,
     /// A cut of these lengths, with this right side, at this index of the pool.
     Cut([u32; 3], u128, u32),
-    /// The number of this link is too wide.
+    /// A number of the routing program is too wide, that of this link.
     WideLink(u32),
 }
 
@@ -122,7 +122,7 @@ fn is_met<S: Separate>(
     }
 }
 
-/// Whether a new board answers as expected twice, the second time over the cuts of the first.
+/// Whether a new board answers as expected twice, where the second time the cuts of the first are in the pool.
 fn is_met_twice(alloc: Global, problem: &Problem, caps: &Caps, wants: &[Want]) -> bool {
     let Some(board) = open_board(alloc, problem) else {
         return false;
@@ -160,7 +160,7 @@ fn are_met(alloc: Global, problem: &Option<Problem>, rows: &[Row]) -> bool {
     true
 }
 
-/// Whether each row is answered as expected at the problem of one demand.
+/// Whether each row is answered as expected for the triangle with one demand.
 fn are_met_at_one(alloc: Global, rows: &[Row]) -> bool {
     let problem = one_demand(alloc);
     are_met(alloc, &problem, rows)
@@ -179,7 +179,7 @@ fn unit_cut(alloc: Global, problem: &Problem, state: u32) -> Option<Cut>
     Cut::new(alloc, &problem.net, &problem.states, StateId(state), units).ok()
 }
 
-/// The spot that the unit cut of a state gets.
+/// The spot that the unit cut of a state gets in the pool.
 fn unit_spot<S: Separate>(
     alloc: Global,
     separator: &mut S,
@@ -194,7 +194,7 @@ fn unit_spot<S: Separate>(
     separator.admit(cut).ok()
 }
 
-/// Whether the unit cuts of the states 0 and 3 get the first two places, and that of 0 its own when it comes again.
+/// Whether the unit cuts of states 0 and 3 get the first two places of the pool, and that of state 0 keeps its place when it comes again.
 fn are_placed<S: Separate>(alloc: Global, separator: &mut S, problem: &Problem) -> bool
     requires net { problem.now.net ≡ (S.frame separator.old).network }
     requires states { problem.now.states ≡ (S.frame separator.old).states }
@@ -204,8 +204,8 @@ fn are_placed<S: Separate>(alloc: Global, separator: &mut S, problem: &Problem) 
         && unit_spot(alloc, separator, problem, 0) == Some(Spot::Pool(0))
 }
 
-/// Whether the unit cuts of the states 0 and 3 get the first two places in the pool of a new board, each once.
-fn stand_once(alloc: Global, problem: &Problem) -> bool {
+/// Whether the unit cuts of states 0 and 3 get the first two places of a new board's pool, each once.
+fn are_pooled_once(alloc: Global, problem: &Problem) -> bool {
     let Some(board) = open_board(alloc, problem) else {
         return false;
     };
@@ -215,16 +215,16 @@ fn stand_once(alloc: Global, problem: &Problem) -> bool {
     placed && board.cuts() == 2
 }
 
-/// Whether they do so at the problem of one demand.
-fn stand_once_at_one(alloc: Global) -> bool {
+/// Whether the unit cuts of states 0 and 3 get the first two places of the pool, each once, for the triangle with one demand.
+fn are_pooled_once_at_one(alloc: Global) -> bool {
     let problem = one_demand(alloc);
     match &problem {
-        Some(problem) => stand_once(alloc, problem),
+        Some(problem) => are_pooled_once(alloc, problem),
         None => false,
     }
 }
 
 #[test]
-fn a_cut_stands_in_the_pool_once(rt: HostRuntime) {
-    assert!(rt; stand_once_at_one(rt.alloc()));
+fn a_cut_is_in_the_pool_once(rt: HostRuntime) {
+    assert!(rt; are_pooled_once_at_one(rt.alloc()));
 }

@@ -1,4 +1,4 @@
-//! Tests of a separator for a caller at a desk, by workers beside each other.
+//! Tests of a separator for a caller at a desk, whose workers run in parallel.
 ghost use Rattle.std.specs.Prelude.{◌≡◌, ◌≤◌, ◌^◌, IfSome, length};
 ghost use Rattle.std.specs.Thread.{IsSync};
 ghost use Rattle.hint_board.specs.Hints.{hint_links};
@@ -22,7 +22,7 @@ use std::thread::Threads;
 use turn_lock::{Desk, Pass};
 use worked_networks::{DemandRow, LinkRow, TEN, network, problem};
 
-/// A problem, with hints for its network.
+/// A problem, with a hint board for its network.
 #[derive(Drop)]
 struct Fixture {
     problem: Problem,
@@ -30,18 +30,18 @@ struct Fixture {
     ghost links: { hint_links hints ≡ length problem.net.links },
 }
 
-/// The problem, with an empty board of hints.
+/// A problem, with an empty hint board.
 fn fixture_of(alloc: Global, problem: Problem) -> Option<Fixture> {
     let hints = HintBoard::new(alloc, problem.net.links().len() as u32).ok()?;
     Some(Fixture { problem, hints })
 }
 
-/// The triangle, without any hints.
+/// The triangle, with an empty hint board.
 fn of_triangle(alloc: Global) -> Option<Fixture> {
     fixture_of(alloc, one_demand(alloc)?)
 }
 
-/// Capacities of these numbers.
+/// Capacities with these numbers, over the scale 1.
 fn caps_of(alloc: Global, numbers: &[u128]) -> Option<Caps> {
     let nums = List::from_slice(alloc, numbers).ok()?;
     Some(Caps { scale: 1, nums })
@@ -151,7 +151,7 @@ fn agree<R: Threads + Wait>(rt: &R, alloc: Global, fixture: &Fixture, caps: &Cap
     are_all_alike(&one, &two)
 }
 
-/// Whether a caller alone is answered as a board on the triangle at capacities of these numbers, where no hints are shown before.
+/// Whether a caller alone is answered as a board is, on the triangle at capacities of these numbers and with an empty hint board.
 fn agree_at_triangle<R: Threads + Wait>(rt: &R, alloc: Global, numbers: &[u128]) -> bool {
     let fixture = of_triangle(alloc);
     let caps = caps_of(alloc, numbers);
@@ -163,7 +163,8 @@ fn agree_at_triangle<R: Threads + Wait>(rt: &R, alloc: Global, numbers: &[u128])
     is_so
 }
 
-/// Numbers of the links of the triangle: all is carried; without AC; nothing is carried; and a number that is too wide.
+/// Numbers of the triangle's links, in thousandths. They carry the demand in all states, in all but the one where AC fails, and in none; and
+/// in the last row a number is too wide.
 const ROWS: [[u128; 3]; 4] = [
     [12000, 12000, 12000],
     [11999, 12000, 12000],
@@ -198,7 +199,10 @@ fn is_pooled(answer: &StateAnswer, cuts: &[CutLine]) -> bool {
 }
 
 /// How many answers name a cut that is at its spot in the pool that was looked at.
-fn standing(answers: &Option<List<StateAnswer>>, snapshot: &Result<Snapshot, NoMemory>) -> usize {
+fn pooled_count(
+    answers: &Option<List<StateAnswer>>,
+    snapshot: &Result<Snapshot, NoMemory>,
+) -> usize {
     let (Some(answers), Ok(snapshot)) = (answers, snapshot) else {
         return 0;
     };
@@ -210,8 +214,8 @@ fn standing(answers: &Option<List<StateAnswer>>, snapshot: &Result<Snapshot, NoM
         .count()
 }
 
-/// How many states have a cut at their spot, as the caller then sees the pool, and the caller.
-fn stands<'d, 'a, R: Threads + Wait>(
+/// How many states have a cut at its spot, as the caller then sees the pool; and the caller.
+fn pooled_states<'d, 'a, R: Threads + Wait>(
     rt: &R,
     alloc: Global,
     fixture: &'a Fixture,
@@ -227,10 +231,10 @@ fn stands<'d, 'a, R: Threads + Wait>(
     let mut caller = caller;
     let answers = answered(rt, alloc, &Hold::open(), fixture, caps, &mut caller);
     let snapshot = caller.snapshot(rt);
-    (standing(&answers, &snapshot), caller)
+    (pooled_count(&answers, &snapshot), caller)
 }
 
-/// A caller splits in two, which separate at once. How many states have a cut at their spot for each of them.
+/// Lets a caller split in two, which separate at once. For each of them, the number of states that have a cut at its spot.
 fn at_once<'d, 'a, R: Threads + Wait + Sync>(
     rt: &R,
     alloc: Global,
@@ -255,7 +259,7 @@ fn at_once<'d, 'a, R: Threads + Wait + Sync>(
             requires states { fixture.now.problem.states ≡ (board_made one).states.now }
             ensures desk { AreAtOneDesk one.entry result.1 }
             ensures units { caller_units result.1 ≡ caller_units one.entry }
-        { stands(rt, alloc, fixture, caps, one) },
+        { pooled_states(rt, alloc, fixture, caps, one) },
         move || -> (usize, Caller)
             requires sync { IsSync R.row }
             requires own { IsAtDesk two }
@@ -263,13 +267,13 @@ fn at_once<'d, 'a, R: Threads + Wait + Sync>(
             requires states { fixture.now.problem.states ≡ (board_made two).states.now }
             ensures desk { AreAtOneDesk two.entry result.1 }
             ensures units { caller_units result.1 ≡ caller_units two.entry }
-        { stands(rt, alloc, fixture, caps, two) },
+        { pooled_states(rt, alloc, fixture, caps, two) },
     );
     (of_one, of_two, one.meet(two))
 }
 
-/// How many states have a cut at their spot for each of two callers who separate at once at capacities of nothing, and how many entries
-/// and cuts the board has then.
+/// For two callers that separate at once at capacities of nothing: how many states have a cut at its spot for each of them, and how many
+/// entries and cuts the board has then.
 fn counts_by_two<R: Threads + Wait + Sync>(
     rt: &R,
     alloc: Global,
@@ -300,7 +304,8 @@ fn callers_at_once_pool_each_cut_once(rt: HostRuntime) {
     assert!(rt; are_pooled_once(&rt, rt.alloc()));
 }
 
-/// How many states are answered while a worker is held, how many of them workers have solved, and whether one was solved meanwhile.
+/// While a worker is held: how many states are answered, how many of them workers have solved, and whether another state was solved
+/// meanwhile.
 fn answered_beside<R: Threads + Wait>(
     rt: &R,
     alloc: Global,
@@ -311,7 +316,7 @@ fn answered_beside<R: Threads + Wait>(
     Some((answers.len(), hold.solved(), hold.was_kept()))
 }
 
-/// Whether all states of the triangle are answered so, with one solved meanwhile.
+/// Whether all states of the triangle are answered, and another one was solved while a worker was held.
 fn goes_on<R: Threads + Wait>(rt: &R, alloc: Global) -> bool {
     let fixture = of_triangle(alloc);
     let is_so = match &fixture {
@@ -327,7 +332,7 @@ fn a_worker_goes_on_while_another_is_held(rt: HostRuntime) {
     assert!(rt; goes_on(&rt, rt.alloc()));
 }
 
-/// Whether the lengths are shown.
+/// Whether the hint board has the lengths.
 fn is_shown(hints: &HintBoard, lengths: &[u32]) -> bool {
     for at in 0..100 {
         if let Some(shown) = hints.get(at) {
@@ -339,7 +344,7 @@ fn is_shown(hints: &HintBoard, lengths: &[u32]) -> bool {
     false
 }
 
-/// The lengths of the cut that is found of a state; empty where none is.
+/// The lengths of the cut that is found of a state; empty if none is.
 fn lengths_found(answer: &StateAnswer) -> &[u32] {
     match &answer.answer {
         Separated::Violated(line, _) => line.lengths.items(),
@@ -357,19 +362,19 @@ fn are_ones(lengths: &[u32]) -> bool {
     true
 }
 
-/// Whether the answer has a cut of lengths of 0 and 1, which are shown.
+/// Whether the answer has a cut of lengths of 0 and 1, which are on the hint board.
 fn has_shown(hints: &HintBoard, answer: &StateAnswer) -> bool {
     let lengths = lengths_found(answer);
     lengths.len() > 0 && are_ones(lengths) && is_shown(hints, lengths)
 }
 
-/// Whether the answer has a cut of other lengths, which aren't shown.
+/// Whether the answer has a cut of other lengths, which aren't on the hint board.
 fn has_other(hints: &HintBoard, answer: &StateAnswer) -> bool {
     let lengths = lengths_found(answer);
     !are_ones(lengths) && !is_shown(hints, lengths)
 }
 
-/// How many states have a cut of lengths of 0 and 1, which are shown, and how many one of other lengths, which aren't.
+/// How many states have a cut of lengths of 0 and 1 that are on the hint board, and how many one of other lengths that aren't.
 fn count_shown(hints: &HintBoard, answers: &[StateAnswer]) -> (usize, usize) {
     let ones = answers.iter().filter(|answer| has_shown(hints, answer));
     let others = answers.iter().filter(|answer| has_other(hints, answer));
@@ -387,16 +392,16 @@ const BESIDE: [LinkRow; 7] = [
     (2, 3, 0, &TEN),
 ];
 
-/// Demands of A to B, and of the three others to each other: each has a distance of 2 along lengths of 1, if the last link has 2.
+/// Demands between A and B, and among the three other nodes. Along lengths of 1, and 2 on the last link, each has a distance of 2.
 const OVER_TWO: [DemandRow; 4] = [(0, 1, 12000), (2, 3, 12000), (3, 4, 12000), (2, 4, 12000)];
 
-/// These links and demands, without any hints.
+/// The seven links with these demands, and an empty hint board.
 fn of_seven(alloc: Global) -> Option<Fixture> {
     let net = network(alloc, 5, &BESIDE).ok()?;
     fixture_of(alloc, problem(alloc, net, &OVER_TWO).ok()?)
 }
 
-/// How many of the states have a cut of shown lengths after one separation, and how many one that isn't shown.
+/// After one separation: how many states have a cut whose lengths are on the hint board, and how many one whose lengths aren't.
 fn shown_at_once<R: Threads + Wait>(
     rt: &R,
     alloc: Global,
@@ -407,12 +412,13 @@ fn shown_at_once<R: Threads + Wait>(
     Some(count_shown(&fixture.hints, answers.items()))
 }
 
-/// What carries nothing on the triangle, and on the seven links too little along lengths of 1 and 2, though enough around any nodes.
+/// Capacities of the triangle that carry nothing.
 const NOTHING: [u128; 3] = [0, 0, 0];
 
+/// Capacities of the seven links, in thousandths, that are too little along lengths of 1 and 2, though enough around any set of nodes.
 const TOO_LITTLE: [u128; 7] = [12000, 12000, 12000, 12000, 12000, 12000, 1000];
 
-/// Whether the wanted number of states have a cut of shown lengths after one separation, and the wanted number have one that isn't shown.
+/// Whether these numbers of states have, after one separation, a cut whose lengths are on the hint board and one whose lengths aren't.
 fn are_shown<R: Threads + Wait>(
     rt: &R,
     alloc: Global,
@@ -426,7 +432,7 @@ fn are_shown<R: Threads + Wait>(
     }
 }
 
-/// Whether all four states of the triangle have a cut of shown lengths.
+/// Whether all four states of the triangle have a cut whose lengths are on the hint board.
 fn shows_three<R: Threads + Wait>(rt: &R, alloc: Global) -> bool {
     let fixture = of_triangle(alloc);
     let is_so = are_shown(rt, alloc, &fixture, &NOTHING, (4, 0));
@@ -434,7 +440,7 @@ fn shows_three<R: Threads + Wait>(rt: &R, alloc: Global) -> bool {
     is_so
 }
 
-/// Whether seven states of the seven links have one, and one has a cut that isn't shown.
+/// Whether seven states of the seven links have a cut whose lengths are on the hint board, and one has a cut whose lengths aren't.
 fn shows_seven<R: Threads + Wait>(rt: &R, alloc: Global) -> bool {
     let fixture = of_seven(alloc);
     let is_so = are_shown(rt, alloc, &fixture, &TOO_LITTLE, (7, 1));
@@ -459,8 +465,8 @@ fn is_first(answers: &Option<List<StateAnswer>>, want: &[u32]) -> bool {
     }
 }
 
-/// Whether the state without failures has a cut of these lengths at capacities of nothing, where a caller has separated at other
-/// numbers before, at another desk and with the same hints.
+/// Whether the state without failures has a cut of these lengths at capacities of nothing, after a caller at another desk with the same
+/// hint board has separated at other numbers.
 fn has_lengths<R: Threads + Wait>(
     rt: &R,
     alloc: Global,
@@ -473,8 +479,8 @@ fn has_lengths<R: Threads + Wait>(
     before.is_some() && is_first(&after, want)
 }
 
-/// Numbers at which a caller separates first, and the lengths that another is then answered: those around A where nothing is shown,
-/// and those around C where these are shown.
+/// Numbers at which one caller separates first, and the lengths of the cut that another caller is then answered: those around A if the hint
+/// board is empty, and those around C if these are on it.
 type Shown = ([u128; 3], [u32; 3]);
 
 const SHOWN: [Shown; 2] = [
@@ -482,7 +488,7 @@ const SHOWN: [Shown; 2] = [
     ([12000, 0, 0], [0, 1, 1]),
 ];
 
-/// Whether the other is answered with the row's lengths, on a triangle without any hints.
+/// Whether the other caller is answered with the row's lengths, on a triangle whose hint board is empty at first.
 fn is_tried_first<R: Threads + Wait>(rt: &R, alloc: Global, row: &Shown) -> bool {
     let fixture = of_triangle(alloc);
     let is_so = match &fixture {
@@ -493,7 +499,7 @@ fn is_tried_first<R: Threads + Wait>(rt: &R, alloc: Global, row: &Shown) -> bool
     is_so
 }
 
-/// Whether it is so at each row.
+/// Whether the lengths of each row are tried first.
 fn are_tried_first<R: Threads + Wait>(rt: &R, alloc: Global, rows: &[Shown]) -> bool {
     for row in rows {
         if !is_tried_first(rt, alloc, row) {
