@@ -1,8 +1,8 @@
-//! Blocks asked again by plain arithmetic.
+//! Checks the blocks of trimmed plans again, by plain arithmetic.
 use net_core::{Counts, CutLine, Link, List, Network};
 use trim_plan::{Block, Stop, Trimmed};
 
-/// The capacity of a link's modules and what it has besides, in units of the network.
+/// The capacity of a link with these counts and what is pre-installed, in units of the network.
 fn capacity(link: &Link, counts: &[u64]) -> u128 {
     let modules = link.modules.items();
     let mut sum = link.fixed as u128;
@@ -16,7 +16,7 @@ fn capacity(link: &Link, counts: &[u64]) -> u128 {
     sum
 }
 
-/// What the capacities of counts give along lengths.
+/// What the capacities of counts give along lengths: the sum of capacity times length over the links.
 fn along(links: &[Link], counts: &[List<u64>], lengths: &[u32]) -> u128 {
     let mut sum = 0u128;
     for e in 0..links.len() {
@@ -28,7 +28,7 @@ fn along(links: &[Link], counts: &[List<u64>], lengths: &[u32]) -> u128 {
     sum
 }
 
-/// What a module of a link gives along lengths.
+/// What one module of a link gives along lengths: its capacity times the length of the link.
 fn module_along(links: &[Link], lengths: &[u32], e: usize, m: usize) -> u128 {
     if e >= links.len() || e >= lengths.len() || m >= links[e].modules.len() {
         return 0;
@@ -45,7 +45,7 @@ fn is_violated(links: &[Link], counts: &[List<u64>], block: &Block, cut: &CutLin
     less <= all && all - less < cut.right
 }
 
-/// Whether each block is a cut which the counts violate once they have one module less.
+/// Whether each block is a cut that the counts violate once they have one module less.
 fn are_violated(links: &[Link], counts: &[List<u64>], blocks: &[Block]) -> bool {
     for block in blocks {
         let holds = match &block.why {
@@ -72,8 +72,8 @@ fn modules_in_use(counts: &Counts) -> usize {
     used
 }
 
-/// Whether a trimmed plan has as many blocks as modules of positive count, each a cut which its counts violate once they have
-/// one module less.
+/// Whether a trimmed plan has as many blocks as modules of positive count, each of them a cut that its counts violate once they have one
+/// module less.
 pub fn are_blocked(net: &Network, trimmed: &Trimmed) -> bool {
     let counts = &trimmed.plan.counts;
     modules_in_use(counts) == trimmed.blocks.len()

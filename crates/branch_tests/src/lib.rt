@@ -1,4 +1,4 @@
-//! Tests of plans of which modules are taken off or exchanged for cheaper ones, and of the search for branch trees.
+//! Tests of plans from which modules are taken off or exchanged for cheaper ones, and of the search for branch trees.
 #![tactic(auto)]
 
 #[cfg(test)]

@@ -10,7 +10,7 @@ use std::thread::Threads;
 use tree_check::Verdict;
 use worked_networks::{LinkRow, network, problem};
 
-/// What a search over further lines with at most this many splits shows of an instance.
+/// What a search with lines and at most this many splits shows of an instance.
 fn searched_by_lines<R: Threads + Wait + Sync>(
     rt: &R,
     alloc: Global,
@@ -29,7 +29,7 @@ fn searched_by_lines<R: Threads + Wait + Sync>(
     }
 }
 
-/// Whether what was found is that the least cost is this, with fewer than ten splits.
+/// Whether a result is that the least cost is this, found with fewer than ten splits.
 fn is_least(found: Option<Found>, least: u128) -> bool {
     match found {
         Some((cost, Verdict::Cheapest, splits)) => cost == least && splits < 10,
@@ -38,7 +38,7 @@ fn is_least(found: Option<Found>, least: u128) -> bool {
     }
 }
 
-/// Whether a search over further lines shows that the least cost is this, with fewer than ten splits.
+/// Whether a search with lines shows, with fewer than ten splits, that the least cost is this.
 fn shows_least<R: Threads + Wait + Sync>(
     rt: &R,
     alloc: Global,
@@ -86,7 +86,7 @@ fn root_shows_least<R: Threads + Wait + Sync>(
     }
 }
 
-/// Where AC fails, AB and BC carry 12.00 each, and where AB fails, AC does: of modules of 10.00 for 5.00 each has two.
+/// If AC fails, AB and BC carry 12.00 each, and if AB fails, AC does. So of modules of 10.00 for 5.00 each link has two.
 #[test]
 fn the_root_alone_shows_a_worked_plan_to_be_cheapest(rt: HostRuntime) {
     let problem = triangle_problem(rt.alloc());
@@ -109,15 +109,15 @@ const THREE_KINDS: [Module; 3] = [
     },
 ];
 
-/// Three parallel links of such modules.
+/// Three parallel links with these three kinds of modules.
 const OF_THREE_KINDS: [LinkRow; 3] = [
     (0, 1, 0, &THREE_KINDS),
     (0, 1, 0, &THREE_KINDS),
     (0, 1, 0, &THREE_KINDS),
 ];
 
-/// These links with a demand of 30.00, where each of them may fail. The lesser two have to carry it: 10.00 and 25.00 beside another 25.00
-/// cost 23.00. With nothing on one link the others have 40.00 each for 26.00, and with 25.00 on each link they cost 27.00.
+/// Three parallel links with a demand of 30.00, where each link may fail. Any two links have to carry it: 10.00 and 25.00 beside another
+/// 25.00 cost 23.00. With nothing on one link the others have 40.00 each, for 26.00, and with 25.00 on each link they cost 27.00.
 fn kinds_problem(alloc: Global) -> Option<Problem> {
     let net = network(alloc, 2, &OF_THREE_KINDS).ok()?;
     problem(alloc, net, &[(0, 1, 30000)]).ok()

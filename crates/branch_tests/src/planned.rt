@@ -1,4 +1,4 @@
-//! Plans that the tests begin with.
+//! The plans with which the tests begin.
 ghost use Rattle.std.specs.Prelude.{◌≡◌, IfSome};
 ghost use Rattle.plan_terms.specs.Terms.{case_of, IsSurvivable};
 ghost use Rattle.proof_report.specs.Terms.{IsTranscript, plan_commands, whole_report};
@@ -22,7 +22,7 @@ fn plan_of(instance: &Instance, planned: PlannedReport) -> Plan
     planned.plan
 }
 
-/// The plan of an instance, where no state separates a demand.
+/// The plan of an instance in which no state separates a demand.
 pub fn planned<R: Threads + Wait + Sync>(rt: &R, alloc: Global, instance: &Instance) -> Option<Plan>
     ensures survivable { IfSome result (λ _. IsSurvivable (case_of instance.now)) }
     ensures demands { IfSome result (λ plan. plan.demands ≡ instance.now.demands.now) }

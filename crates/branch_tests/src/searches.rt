@@ -1,4 +1,4 @@
-//! Branch trees of plans, against least costs that another solver found, or that were worked out by hand.
+//! Tests of branch trees, against least costs that another solver found, or that were worked out by hand.
 ghost use Rattle.std.specs.Prelude.{◌≡◌, ◌+◌, ◌<◌, ◌≤◌, ◌^◌, ◌↔◌, All, IsTrue, length};
 ghost use Rattle.plan_terms.specs.Terms.{AreDemands, case_of};
 ghost use Rattle.proof_report.specs.ProvedReports.{IsLinedReport, IsProvedReport};
@@ -15,7 +15,7 @@ use worked_networks::{
     LinkRow, ONE, PARALLEL, TEN, failing, network, problem, single_failures, triangle,
 };
 
-/// The result of a search: the plan's cost, what the plan is shown to be, and the number of splits.
+/// The result of a search: the plan's cost in units of the network, the verdict, and the number of splits.
 pub(crate) type Found = (u128, Verdict, usize);
 
 /// Whether each of these modules costs something.
@@ -32,7 +32,7 @@ pub(crate) fn are_charged(links: &[Link]) -> bool
     links.iter().all(|l| are_dear(l.modules.items()))
 }
 
-/// How many nodes are splits.
+/// How many nodes of a tree are splits.
 pub(crate) fn split_number(nodes: &[Node]) -> usize {
     nodes
         .iter()
@@ -40,7 +40,7 @@ pub(crate) fn split_number(nodes: &[Node]) -> usize {
         .count()
 }
 
-/// What a report's tree shows; none where its check rejects it.
+/// What the tree of a report shows; `None` if its check rejects it.
 pub(crate) fn shown_by_tree(
     alloc: Global,
     instance: &Instance,
@@ -93,7 +93,7 @@ fn searched<R: Threads + Wait + Sync>(
     }
 }
 
-/// The planning of a network, where each link may fail.
+/// The planning of a network in which each link may fail.
 fn with_failures(alloc: Global, net: Network, demands: Demands) -> Option<Problem>
     requires { AreDemands (length net.nodes) demands }
 {
@@ -105,7 +105,7 @@ fn with_failures(alloc: Global, net: Network, demands: Demands) -> Option<Proble
     })
 }
 
-/// The sample network of a seed with six nodes, where each link may fail.
+/// The sample network of a seed with six nodes, in which each link may fail.
 pub(crate) fn sample_problem(alloc: Global, seed: u64) -> Option<Problem> {
     match sample(alloc, seed, 6) {
         Ok((net, demands)) => with_failures(alloc, net, demands),
@@ -141,7 +141,7 @@ fn shows_least<R: Threads + Wait + Sync>(
     }
 }
 
-/// Seeds of sample networks with six nodes, and their least costs, from an integer program over cuts.
+/// Seeds of sample networks with six nodes, and their least costs in units of the network, from an integer program over cuts.
 pub(crate) const LEAST: [(u64, u128); 3] = [(1, 269000), (2, 373000), (3, 277000)];
 
 #[test]
@@ -172,14 +172,14 @@ const TEN_OR_THREE: [Module; 2] = [
     },
 ];
 
-/// Two parallel links, of which one has modules of 10.00 alone, in both orders. 12.00 fit on a module of 10.00 and one of 3.00 for 7.00; two
-/// of 10.00, neither of which can be spared, cost 10.00.
+/// Two parallel links, of which one has modules of 10.00 alone, in both orders. A demand of 12.00 fits on a module of 10.00 and one of
+/// 3.00, for 7.00. Two modules of 10.00, of which neither can be spared, cost 10.00.
 const UNEVEN: [[LinkRow; 2]; 2] = [
     [(0, 1, 0, &TEN), (0, 1, 0, &TEN_OR_THREE)],
     [(0, 1, 0, &TEN_OR_THREE), (0, 1, 0, &TEN)],
 ];
 
-/// Such links with a demand of 12.00, without failures.
+/// Two such links with a demand of 12.00, without failures.
 fn uneven_problem(alloc: Global, rows: &[LinkRow]) -> Option<Problem> {
     let net = network(alloc, 2, rows).ok()?;
     let Problem { net, demands, .. } = problem(alloc, net, &[(0, 1, 12000)]).ok()?;
@@ -199,7 +199,7 @@ fn a_dearer_module_is_exchanged(rt: HostRuntime) {
     }
 }
 
-/// Whether a search with few splits takes them all, and tells a value up to which counts can't cost less.
+/// Whether a search uses up its few splits, and tells a value below which no counts cost.
 fn tells_value<R: Threads + Wait + Sync>(
     rt: &R,
     alloc: Global,
@@ -229,10 +229,10 @@ fn a_search_of_few_splits_tells_a_value_below_the_least_cost(rt: HostRuntime) {
     assert!(rt; tells_value(&rt, rt.alloc(), problem, 2, 269000));
 }
 
-/// A link with 20.00 beside one of modules of 1.00 for 1.00.
+/// A link with 20.00 installed, beside one with modules of 1.00 for 1.00.
 const HELD: [LinkRow; 2] = [(0, 1, 20000, &ONE), (0, 1, 0, &ONE)];
 
-/// These links with a demand that needs nothing, where each link may fail.
+/// These two links with a demand of 0, where each link may fail.
 fn held_problem(alloc: Global) -> Option<Problem> {
     let net = network(alloc, 2, &HELD).ok()?;
     problem(alloc, net, &[(0, 1, 0)]).ok()

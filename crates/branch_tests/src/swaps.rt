@@ -1,4 +1,4 @@
-//! Tests of exchanged modules, against costs that were worked out by hand.
+//! Tests of exchanges of modules, against costs that were worked out by hand.
 ghost use Rattle.std.specs.Prelude.{◌≡◌};
 ghost use Rattle.plan_terms.specs.Terms.{case_of, IsSurvivable};
 ghost use Rattle.trim_plan.specs.Trimmed.{IsRoutedPlan};
@@ -12,7 +12,7 @@ use std::alloc::Global;
 use std::sync::Wait;
 use std::thread::Threads;
 
-/// What a plan costs after modules are exchanged.
+/// What a plan costs after modules are exchanged, in units of the network.
 fn swapped_cost(alloc: Global, instance: &Instance, plan: Plan) -> Option<u128>
     requires survivable { IsSurvivable (case_of instance.now) }
     requires demands { plan.demands ≡ instance.now.demands.now }
@@ -24,7 +24,7 @@ fn swapped_cost(alloc: Global, instance: &Instance, plan: Plan) -> Option<u128>
     }
 }
 
-/// What the plan of an instance costs before modules are exchanged and after, in units of the network.
+/// What the plan of an instance costs before and after modules are exchanged, in units of the network.
 fn costs<R: Threads + Wait + Sync>(
     rt: &R,
     alloc: Global,

@@ -14,7 +14,7 @@ use std::thread::Threads;
 use trim_plan::{Trimmed, trim};
 use worked_networks::{DemandRow, LinkRow, PARALLEL, TEN, network, problem};
 
-/// The trimmed plan.
+/// A plan with all modules taken off that can be spared.
 pub fn trimmed_plan(alloc: Global, instance: &Instance, plan: Plan) -> Option<Trimmed>
     requires survivable { IsSurvivable (case_of instance.now) }
     requires demands { plan.demands ≡ instance.now.demands.now }
@@ -23,7 +23,7 @@ pub fn trimmed_plan(alloc: Global, instance: &Instance, plan: Plan) -> Option<Tr
     trim(alloc, instance.net, instance.states, plan).ok()
 }
 
-/// The cost of a trimmed plan, and its blocks; none where a block isn't as plain arithmetic has it.
+/// The cost of a trimmed plan, and the number of its blocks; `None` if plain arithmetic finds a block wrong.
 fn judged(net: &Network, trimmed: &Trimmed) -> Option<(u128, usize)> {
     if are_blocked(net, trimmed) {
         Some((trimmed.plan.cost, trimmed.blocks.len()))
@@ -32,7 +32,7 @@ fn judged(net: &Network, trimmed: &Trimmed) -> Option<(u128, usize)> {
     }
 }
 
-/// What `judged` says of a plan once it is trimmed.
+/// The cost of a plan once it is trimmed, and the number of its blocks; `None` if plain arithmetic finds a block wrong.
 fn judged_plan(alloc: Global, instance: &Instance, plan: Plan) -> Option<(u128, usize)>
     requires survivable { IsSurvivable (case_of instance.now) }
     requires demands { plan.demands ≡ instance.now.demands.now }
@@ -44,7 +44,7 @@ fn judged_plan(alloc: Global, instance: &Instance, plan: Plan) -> Option<(u128, 
     }
 }
 
-/// A plan's cost, and what `judged` says of the trimmed plan.
+/// A plan's cost, and what `judged` says of the plan once it is trimmed.
 fn trimmed<R: Threads + Wait + Sync>(
     rt: &R,
     alloc: Global,
@@ -56,7 +56,7 @@ fn trimmed<R: Threads + Wait + Sync>(
     Some((before, after, blocks))
 }
 
-/// The costs of a sample network's plan and of the trimmed plan, and its blocks.
+/// The costs of a sample network's plan and of the trimmed plan, and the number of its blocks.
 fn on_sample<R: Threads + Wait + Sync>(
     rt: &R,
     alloc: Global,
@@ -81,7 +81,8 @@ fn trimmed_samples_cost_between_the_least_and_the_plan(rt: HostRuntime) {
     }
 }
 
-/// Links, a demand, and what the plan costs, the trimmed plan costs and how many blocks it has, where each link may fail.
+/// Links, a demand, the costs of the plan and of the trimmed plan in units of the network, and the number of its blocks, where each link
+/// may fail.
 type Worked = (
     usize,
     &'static [LinkRow<'static>],
@@ -91,14 +92,14 @@ type Worked = (
     usize,
 );
 
-/// The triangle with 10.00 on each link, where a detour and the link itself need 12.00 each.
+/// The triangle with 10.00 installed on each link. If AC fails, AB and BC need 12.00 each, and if AB fails, AC does: a module on each.
 const FIXED: [LinkRow; 3] = [
     (0, 1, 10000, &TEN),
     (1, 2, 10000, &TEN),
     (0, 2, 10000, &TEN),
 ];
 
-/// Four links of which covers take a module each, for 20.00, and the fallback, a path with its detour, takes two.
+/// Four links. Covers take a module of each, for 20.00; the fallback plan, a path with its detour, takes modules of two of them.
 const WIDE_MODULES: [LinkRow; 4] = [
     (0, 1, 0, &TEN),
     (0, 1, 0, &TEN),

@@ -1,8 +1,8 @@
-//! A trimmed plan of a network where a module can neither be spared nor refused by a cut.
+//! A trimmed plan of a network in which a module can neither be spared nor refused by a cut.
 //!
-//! Three pairs of demands fill a chain of stages, or take a short way over one link of which they need a module. Two further demands get in
-//! each other's way where the one of 0.003 takes its shortest path. All that is installed without modules carries the demands, so no cut is
-//! violated; but without the module no greedy routing is found, and the numbers of the routing program grow too wide.
+//! Three pairs of demands fill a chain of stages, or take a short way over one link, on which they need a module. Two further demands get
+//! in each other's way if the one of 0.003 takes its shortest path. What is installed without modules can carry the demands, so that no cut
+//! is violated. But without the module no greedy routing is found, and the numbers of the routing program grow too wide.
 ghost use Rattle.std.specs.Prelude.{◌≡◌};
 ghost use Rattle.plan_terms.specs.Terms.{case_of, IsSurvivable};
 ghost use Rattle.trim_plan.specs.Trimmed.{IsRoutedPlan};
@@ -24,7 +24,7 @@ const DEAR: [Module; 1] = [Module {
     cost: 6000,
 }];
 
-/// The link of the short way, its ways to the chain and to the further demands, and the links of these.
+/// The link of the short way, the links from it to the chain and to the further demands, and the links of these.
 const BESIDE: [LinkRow; 12] = [
     (61, 62, 0, &TEN),
     (0, 61, 5000, &DEAR),
@@ -98,7 +98,7 @@ fn problem_of(alloc: Global, net: Network, rows: &[DemandRow]) -> Option<Problem
     })
 }
 
-/// The planning of the network without failures.
+/// The planning of the network of this file, without failures.
 fn wide_problem(alloc: Global) -> Option<Problem> {
     let rows = all_demands(alloc)?;
     problem_of(alloc, wide_network(alloc)?, rows.items())
@@ -112,7 +112,7 @@ fn is_wide(block: &Block) -> bool {
     }
 }
 
-/// What the trimmed plan costs, how many blocks it has, and how many of these are evidence.
+/// What a trimmed plan costs, how many blocks it has, and how many of these are evidence.
 fn trimmed_wide(alloc: Global, instance: &Instance, plan: Plan) -> Option<(u128, usize, usize)>
     requires survivable { IsSurvivable (case_of instance.now) }
     requires demands { plan.demands ≡ instance.now.demands.now }
@@ -135,7 +135,7 @@ fn on_wide_network<R: Threads + Wait + Sync>(
     trimmed_wide(alloc, &instance, plan)
 }
 
-/// The module stays, with evidence, where all others are taken off.
+/// All other modules are taken off, and this one stays, with evidence.
 #[test]
 fn a_module_stays_where_a_number_is_too_wide(rt: HostRuntime) {
     assert!(rt; on_wide_network(&rt, rt.alloc()) == Some((5000, 1, 1)));
