@@ -14,7 +14,7 @@ const THREE: [DemandRow; 3] = [(0, 2, 12000), (0, 1, 5000), (1, 2, 7000)];
 /// A demand of the greatest need.
 const MOST: DemandRow = (0, 2, 1099511627775);
 
-/// Sixteen of them, which leave 15 thousandths, and the same with a demand that takes these.
+/// Sixteen demands of the greatest need, which leave 15 thousandths up to the greatest total, and the same with a demand that takes these.
 const GREAT: [DemandRow; 16] = [MOST; 16];
 
 const FULL: [DemandRow; 17] = [
@@ -45,7 +45,7 @@ enum Opening {
     Full,
 }
 
-/// The rows of these demands.
+/// The demands with which a book opens, as rows.
 fn rows_of(opening: Opening) -> &'static [DemandRow] {
     match opening {
         Opening::Three => &THREE,
@@ -54,12 +54,12 @@ fn rows_of(opening: Opening) -> &'static [DemandRow] {
     }
 }
 
-/// The demands that a book opens with, an edit, its reply, and then the version, the total and the names in their order, a letter each:
-/// the first one, and how many they are, as the alphabet goes on.
+/// The demands with which a book opens, an edit, its reply, and what the book is after it: the version, the total in thousandths, and the
+/// names in their order. The names are consecutive letters, given by the first one and their number.
 type Row = (Opening, Change, Reply, u64, u64, (u8, u8));
 
-/// Set keeps the place, drop closes up, and add goes last. Of several faults the first one in this order is told: a known name, an
-/// unknown node, equal ends, a total of 2^44 or more.
+/// Set keeps the place of a demand, drop closes the gap, and add goes last. Of several faults the first one in this order is told: a known
+/// name, an unknown node, equal ends, a total of 2^44 or more.
 const ROWS: [Row; 13] = [
     (
         Opening::Three,
@@ -167,14 +167,14 @@ const ROWS: [Row; 13] = [
     ),
 ];
 
-/// The book of the triangle and these demands.
+/// A book of the triangle with these demands.
 fn open_book(alloc: Global, rows: &[DemandRow]) -> Option<Book> {
     let net = triangle(alloc, 0).ok()?;
     let opening = demands(alloc, net.nodes().len(), rows).ok()?;
     Book::new(&net, opening).ok()
 }
 
-/// Whether the book's demand at a place has this letter, and is found there.
+/// Whether the book's demand at a place has this letter, and is found there by its name.
 fn is_at(book: &Book, k: usize, letter: u8) -> bool {
     let Some(demand) = book.demands().items().get(k) else {
         return false;
@@ -183,7 +183,8 @@ fn is_at(book: &Book, k: usize, letter: u8) -> bool {
     demand.name.bytes() == [letter].as_slice() && place == Some(k)
 }
 
-/// Whether the book's demands are named by consecutive letters, given by the first letter and their number, and each is found at its place.
+/// Whether the names of the book's demands are consecutive letters, given by the first one and their number, and each demand is found at
+/// its place.
 fn are_in_order(book: &Book, order: (u8, u8)) -> bool {
     for k in 0..order.1 {
         if !is_at(book, k as usize, order.0.wrapping_add(k)) {
@@ -193,7 +194,7 @@ fn are_in_order(book: &Book, order: (u8, u8)) -> bool {
     book.demands().len() == order.1 as usize
 }
 
-/// The book's reply to an edit, where there is one.
+/// The book's reply to an edit, if there is one.
 fn reply_of(book: &mut Book, edit: Option<Edit>) -> Option<Reply>
     requires { IfSome edit (λ e. edit_need e < 2 ^ 40) }
 {
@@ -208,7 +209,7 @@ fn reply_to(alloc: Global, book: &mut Book, change: &Change) -> Option<Reply> {
     reply_of(book, edit_of(alloc, change))
 }
 
-/// Whether the book has the row's reply to its edit, and then is what the row says.
+/// Whether the book gives the row's reply to its edit, and is then as the row says.
 fn has_reply(alloc: Global, book: &mut Book, row: &Row) -> bool {
     reply_to(alloc, book, &row.1) == Some(row.2)
         && book.version() == row.3
@@ -216,7 +217,7 @@ fn has_reply(alloc: Global, book: &mut Book, row: &Row) -> bool {
         && are_in_order(book, row.5)
 }
 
-/// Whether the edit has its reply, and leaves what the row says.
+/// Whether a row's edit has its reply, and leaves the book as the row says.
 fn is_replied(alloc: Global, row: &Row) -> bool {
     match open_book(alloc, rows_of(row.0)) {
         Some(mut book) => has_reply(alloc, &mut book, row),
@@ -224,7 +225,7 @@ fn is_replied(alloc: Global, row: &Row) -> bool {
     }
 }
 
-/// Whether the edit of each row is.
+/// Whether each row's edit has its reply, and leaves the book as the row says.
 fn are_replied(alloc: Global, rows: &[Row]) -> bool {
     for row in rows {
         if !is_replied(alloc, row) {
@@ -249,7 +250,7 @@ fn numbered(alloc: Global, k: usize) -> Option<Name> {
     Name::new(alloc, &bytes_of(k)).ok()
 }
 
-/// The reply to a new demand from A to B, of nearly 2^33 thousandths.
+/// The reply to a new demand from A to B that needs nearly 2^33 thousandths.
 fn reply_to_new(alloc: Global, book: &mut Book, k: usize) -> Option<Reply> {
     let name = bytes_of(k);
     reply_of(book, added(alloc, &name, b'A', b'B', (1 << 33) - 1))
@@ -265,7 +266,7 @@ fn accepts_all(alloc: Global, book: &mut Book) -> bool {
     true
 }
 
-/// A book of 2,048 demands, whose needs are 2^44 - 2048 together.
+/// A book of 2,048 demands, whose needs add up to 2^44 - 2048 thousandths.
 fn full_book(alloc: Global) -> Option<Book> {
     let mut book = open_book(alloc, &[])?;
     if accepts_all(alloc, &mut book) {
@@ -275,7 +276,7 @@ fn full_book(alloc: Global) -> Option<Book> {
     }
 }
 
-/// The reply to one demand more.
+/// The reply to one more demand.
 fn reply_to_more(alloc: Global, book: &mut Book) -> Option<Reply> {
     reply_of(book, added(alloc, b"more", b'A', b'B', 2048))
 }
@@ -288,14 +289,14 @@ fn reply_to_less(alloc: Global, book: &mut Book, k: usize) -> Option<Reply> {
     }
 }
 
-/// Whether a full book has no place for one demand more, which is also too much, and has one after it drops A0.
+/// Whether a full book has no place for one more demand, which would also be too much, and has one after it drops A0.
 fn has_place_after_drop(alloc: Global, book: &mut Book) -> bool {
     reply_to_more(alloc, book) == Some(Reply::TooMany)
         && reply_to_less(alloc, book, 0) == Some(Reply::Accepted(2049))
         && reply_to_more(alloc, book) == Some(Reply::Accepted(2050))
 }
 
-/// Whether a new full book has no place for one demand more, which is also too much, and has one after it drops A0.
+/// Whether a new full book has no place for one more demand, which would also be too much, and has one after it drops A0.
 fn has_place_on_new(alloc: Global) -> bool {
     match full_book(alloc) {
         Some(mut book) => has_place_after_drop(alloc, &mut book),
@@ -308,7 +309,7 @@ fn a_full_book_has_no_place_even_where_the_total_is_too_much(rt: HostRuntime) {
     assert!(rt; has_place_on_new(rt.alloc()));
 }
 
-/// The reply to another need of the demand.
+/// The reply to a new need of a demand.
 fn reply_to_set(alloc: Global, book: &mut Book, k: usize, need: u32) -> Option<Reply> {
     match numbered(alloc, k) {
         Some(name) => {

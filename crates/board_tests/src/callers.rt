@@ -36,7 +36,7 @@ fn open_desk(alloc: Global, problem: &Problem) -> Option<(Desk<Board<'_>>, Pass<
     Desk::new(alloc, board).ok()
 }
 
-/// Sets the need of A in a turn. Where memory runs out, no edit is made.
+/// Sets the need of A in a turn. If memory runs out, no edit is made.
 fn edit_once<R: Wait>(rt: &R, alloc: Global, caller: &mut Caller, need: u32)
     requires { IsAtDesk caller.old }
     ensures { IsSameCaller caller.old caller.new }
@@ -56,7 +56,7 @@ fn edit_often<R: Wait>(rt: &R, alloc: Global, caller: &mut Caller, edits: u32)
     }
 }
 
-/// The caller, after this many edits.
+/// The caller after it has made this many edits.
 fn edited<'d, 'a, R: Wait>(
     rt: &R,
     alloc: Global,
@@ -119,8 +119,8 @@ fn edits_of(entries: &[Entry], number: u32) -> usize {
         .count()
 }
 
-/// The number of entries on a new board of the problem after this many threads made this many edits each: all of them, and those of
-/// callers 1 and 2.
+/// After this many threads have each made this many edits on a new board of the problem: the number of entries, of those of caller 1, and
+/// of those of caller 2.
 fn entries_by<R: Threads + Wait + Sync>(
     rt: &R,
     alloc: Global,
@@ -138,13 +138,13 @@ fn entries_by<R: Threads + Wait + Sync>(
     Some((entries.len(), edits_of(entries, 1), edits_of(entries, 2)))
 }
 
-/// Whether two threads commit a hundred edits each, and eight all their thousand.
+/// Whether two threads commit a hundred edits each, and eight all of their thousand.
 fn commit_all<R: Threads + Wait + Sync>(rt: &R, alloc: Global, problem: &Problem) -> bool {
     entries_by(rt, alloc, problem, 2, 100) == Some((200, 100, 100))
         && matches!(entries_by(rt, alloc, problem, 8, 125), Some((1000, _, _)))
 }
 
-/// Whether two threads commit a hundred edits each, and eight all their thousand, on new boards of one demand.
+/// Whether two threads commit a hundred edits each, and eight all of their thousand, on new boards of one demand.
 fn commit_all_on_new<R: Threads + Wait + Sync>(rt: &R, alloc: Global) -> bool {
     match one_demand(alloc) {
         Some(problem) => commit_all(rt, alloc, &problem),
@@ -157,8 +157,8 @@ fn threads_commit_all_their_edits(rt: HostRuntime) {
     assert!(rt; commit_all_on_new(&rt, rt.alloc()));
 }
 
-/// A caller that has made no entry splits in two. One admits a cut, the other only looks, and then takes the one in: it names the
-/// one's entry.
+/// A caller without entries splits in two. The first one admits a cut; the second one only looks, and then takes the first one in. The
+/// second caller, which now names the first one's entry; `None` if memory runs out.
 fn met_by_another<'d, 'a, R: Wait>(
     rt: &R,
     caller: Caller<'d, 'a>,
@@ -186,7 +186,7 @@ fn met_by_another<'d, 'a, R: Wait>(
     }
 }
 
-/// How many entries and cuts a board of the problem has after that.
+/// After a caller took in another one that had admitted a cut: how many entries and cuts a board of the problem has.
 fn counts_when_met<R: Wait>(rt: &R, alloc: Global, problem: &Problem) -> Option<(usize, u32)> {
     let cut = unit_cut(alloc, problem, 0)?;
     let (desk, pass) = open_desk(alloc, problem)?;
@@ -196,7 +196,7 @@ fn counts_when_met<R: Wait>(rt: &R, alloc: Global, problem: &Problem) -> Option<
     Some((board.entries().len(), board.cuts()))
 }
 
-/// Whether a board of one demand has one entry and one cut then.
+/// Whether a board of one demand has one entry and one cut after a caller took in another one that had admitted a cut.
 fn is_met_on_new<R: Wait>(rt: &R, alloc: Global) -> bool {
     match one_demand(alloc) {
         Some(problem) => counts_when_met(rt, alloc, &problem) == Some((1, 1)),
@@ -228,7 +228,8 @@ fn counts_in(found: &Result<Snapshot, NoMemory>) -> Option<(u64, u64, usize)> {
     }
 }
 
-/// A caller admits a cut, as the first entry, and splits in two. The position, the version and the number of cuts that the second finds.
+/// A caller admits a cut, as the first entry, and splits in two. The position, the version and the number of cuts in the snapshot of the
+/// second one.
 fn found_by_a_second<R: Wait>(rt: &R, caller: Caller, cut: Cut) -> Option<(u64, u64, usize)>
     requires own { IsAtDesk caller }
     requires units { 2 ≤ caller_units caller }
@@ -247,15 +248,15 @@ fn found_by_a_second<R: Wait>(rt: &R, caller: Caller, cut: Cut) -> Option<(u64, 
     if is_first { counts } else { None }
 }
 
-/// The position, the version and the number of cuts that a second caller finds on a new board of the problem, after the first caller
-/// admitted a cut.
+/// The position, the version and the number of cuts that a second caller finds on a new board of the problem, after the first one admitted
+/// a cut.
 fn found_on_new<R: Wait>(rt: &R, alloc: Global, problem: &Problem) -> Option<(u64, u64, usize)> {
     let cut = unit_cut(alloc, problem, 0)?;
     let (desk, pass) = open_desk(alloc, problem)?;
     found_by_a_second(rt, Caller::new(1, &desk, pass), cut)
 }
 
-/// Whether it finds the first entry, the opening version and one cut on a board of one demand.
+/// Whether the second caller finds the first entry, the opening version and one cut, on a board of one demand.
 fn is_found_on_new<R: Wait>(rt: &R, alloc: Global) -> bool {
     match one_demand(alloc) {
         Some(problem) => found_on_new(rt, alloc, &problem) == Some((1, 0, 1)),

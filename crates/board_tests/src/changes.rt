@@ -1,11 +1,11 @@
-//! Edits as tables write them.
+//! Edits as the tables of tests write them.
 ghost use Rattle.std.specs.Prelude.{◌<◌, ◌^◌, IfSome};
 ghost use Rattle.plan_terms.specs.Terms.{edit_need};
 
 use net_core::{Edit, Name};
 use std::alloc::Global;
 
-/// An edit: a name, two ends, a need in thousandths. Names are a letter each.
+/// An edit: a name, two ends, a need in thousandths. Each name is a letter.
 #[derive(Clone, Copy)]
 pub enum Change {
     Set(u8, u32),
@@ -26,7 +26,7 @@ pub fn added(alloc: Global, name: &[u8], from: u8, to: u8, need: u64) -> Option<
     })
 }
 
-/// The edit; `None` where a name is none, or where memory runs out.
+/// The edit; `None` if a name isn't one, or if memory runs out.
 pub fn edit_of(alloc: Global, change: &Change) -> Option<Edit>
     ensures { IfSome result (λ e. edit_need e < 2 ^ 40) }
 {

@@ -7,7 +7,7 @@ use metric_cut::Cut;
 use net_core::{List, Problem, StateId};
 use std::alloc::Global;
 
-/// The unit cut of a state, where it has one.
+/// The unit cut of a state, if it has one.
 pub fn unit_cut(alloc: Global, problem: &Problem, state: u32) -> Option<Cut>
     ensures { IfSome result (λ cut. IsCutOf (graph problem.now.net problem.now.states cut.state.0) cut) }
 {

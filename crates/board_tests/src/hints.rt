@@ -1,4 +1,4 @@
-//! Tests of the board of hints.
+//! Tests of the hint board.
 ghost use Rattle.std.specs.Prelude.{◌≡◌, ◌≤◌, IfOk};
 ghost use Rattle.std.specs.Thread.{IsSync};
 ghost use Rattle.hint_board.specs.Hints.{IsHintOf, hint_links};
@@ -13,7 +13,7 @@ use std::test::Fail;
 use std::thread;
 use std::thread::Threads;
 
-/// Lengths of three links that are 0 or 1, with a 1 last.
+/// Lengths of three links, each 0 or 1, of which the last is 1.
 fn lengths_of(alloc: Global, first: u32, second: u32) -> Result<Lengths, NoMemory>
     requires { (first ≤ 1) × (second ≤ 1) }
     ensures { IfOk result (AreHintLengths 3) }
@@ -22,7 +22,7 @@ fn lengths_of(alloc: Global, first: u32, second: u32) -> Result<Lengths, NoMemor
     List::from_slice(alloc, &[first, second, 1])
 }
 
-/// Posts such lengths once.
+/// Posts lengths of three links once.
 fn post_one<R: Wait>(
     rt: &R,
     alloc: Global,
@@ -36,7 +36,7 @@ fn post_one<R: Wait>(
     Ok(board.post(rt, lengths_of(alloc, numbers.0, numbers.1)?)?)
 }
 
-/// Posts lengths of these numbers this many times. Whether each time the hint and its index both show what was posted.
+/// Posts lengths of these numbers this many times. Tells whether each time both the hint and its index show what was posted.
 fn are_posted<R: Wait>(
     rt: &R,
     alloc: Global,
@@ -61,7 +61,7 @@ fn are_posted<R: Wait>(
     true
 }
 
-/// Whether the vector at an index is shown, and begins with this number.
+/// Whether the vector at an index is shown, and its first length is this number.
 fn begins_with(board: &HintBoard, at: u64, first: u32) -> bool {
     match board.get(at) {
         Some(lengths) => lengths.items().first() == Some(&first),
@@ -69,7 +69,7 @@ fn begins_with(board: &HintBoard, at: u64, first: u32) -> bool {
     }
 }
 
-/// How many vectors that begin with this number are shown below an index.
+/// How many vectors whose first length is this number are shown below an index.
 fn shown_with(board: &HintBoard, below: u64, first: u32) -> u64 {
     let mut count = 0u64;
     for at in 0..below {
@@ -80,7 +80,7 @@ fn shown_with(board: &HintBoard, below: u64, first: u32) -> u64 {
     count
 }
 
-/// How many vectors that begin with a 0, and how many that begin with a 1, are shown below an index.
+/// How many vectors whose first length is 0, and how many whose first length is 1, are shown below an index.
 fn shown(board: &HintBoard, below: u64) -> (u64, u64) {
     (shown_with(board, below, 0), shown_with(board, below, 1))
 }
@@ -103,7 +103,7 @@ fn a_hint_and_its_index_show_the_posted_lengths(rt: HostRuntime) -> Result<(), F
     Ok(())
 }
 
-/// Two threads post lengths this many times each. Whether each time the lengths were shown to the thread that posted them.
+/// Lets two threads post lengths this many times each. Tells whether each time the lengths were shown to the thread that posted them.
 fn are_posted_by_two<R: Threads + Wait + Sync>(
     rt: &R,
     alloc: Global,
@@ -134,7 +134,7 @@ fn two_threads_post_and_look_at_once(rt: HostRuntime) -> Result<(), Fail> {
     Ok(())
 }
 
-/// Two threads post lengths once each, and hand their hints to the caller. Whether it sees what they posted.
+/// Lets two threads post lengths once each, and hand their hints to the caller. Tells whether it sees what they posted.
 fn are_seen_from_two<R: Threads + Wait + Sync>(rt: &R, alloc: Global, board: &HintBoard) -> bool
     requires { hint_links board.now ≡ 3 }
 {

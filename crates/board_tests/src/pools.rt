@@ -1,4 +1,4 @@
-//! Tests of the pool of cuts, and of the history that it has with the demands.
+//! Tests of the pool of cuts, and of the history that cuts and edits have together.
 ghost use Rattle.std.specs.Prelude.{◌≡◌};
 
 use crate::changes::{Change, edit_of};
@@ -13,17 +13,17 @@ use worked_networks::{DemandRow, problem, triangle};
 /// A demand of 12.00 from A to C.
 const ONE: [DemandRow; 1] = [(0, 2, 12000)];
 
-/// Sixteen of the greatest needs, which leave 15 thousandths.
+/// Sixteen demands of the greatest need, which leave 15 thousandths up to the greatest total.
 const GREAT: [DemandRow; 16] = [(0, 2, 1099511627775); 16];
 
-/// What is done with a board, and what it answers.
+/// A step: what is done with a board, and what it answers.
 #[derive(Clone, Copy)]
 enum Step {
-    /// An edit is the last entry, with this reply, and the version is this.
+    /// The edit is the last entry then, with this reply, and the version is this one.
     Edit(Change, Reply, u64),
-    /// The unit cut of this state has this index, is known or admitted, and there are this many entries.
+    /// The unit cut of this state gets this index, was known or is admitted now, and the journal has this many entries then.
     Admit(u32, bool, u32, u64),
-    /// The right sides, kept or summed anew, are these, in the pool's order.
+    /// The right sides in the pool's order, both the kept ones and those that are computed again.
     Sides(&'static [u128]),
     /// Takes memory for this many edits.
     Reserve(u32),
@@ -55,7 +55,7 @@ fn reply_at(answer: &EditAnswer, count: u64) -> Option<Reply> {
     }
 }
 
-/// Makes an edit: its reply, if it is the last entry then.
+/// Makes an edit. Its reply, if the edit is the last entry then.
 fn edit(alloc: Global, given: &mut Given, change: &Change) -> Option<Reply> {
     let edit = edit_of(alloc, change)?;
     let answer = given.board.edit(1, edit);
@@ -64,7 +64,7 @@ fn edit(alloc: Global, given: &mut Given, change: &Change) -> Option<Reply> {
     reply
 }
 
-/// Takes memory for edits. Whether there is as much.
+/// Takes memory for edits. Tells whether there is as much then.
 fn reserve(given: &mut Given, edits: u32) -> bool {
     given.board.reserve(edits).is_ok()
 }
@@ -78,7 +78,7 @@ fn index_at(answer: &AdmitAnswer) -> Option<(bool, u32)> {
     }
 }
 
-/// Admits the unit cut of a state: whether it was known, and its index.
+/// Admits the unit cut of a state. Tells whether it was known, and its index.
 fn admit(alloc: Global, given: &mut Given, state: u32) -> Option<(bool, u32)> {
     let cut = unit_cut(alloc, given.problem, state)?;
     let answer = given.board.admit(cut);
@@ -96,7 +96,7 @@ fn have_sides(lines: &[CutLine], want: &[u128]) -> bool {
             .all(|(line, right)| line.right == *right)
 }
 
-/// Whether these are lines, with these right sides.
+/// Whether the lines are there, with these right sides.
 fn are_lines(lines: Result<List<CutLine>, NoMemory>, want: &[u128]) -> bool {
     match lines {
         Ok(lines) => have_sides(lines.items(), want),
@@ -104,7 +104,7 @@ fn are_lines(lines: Result<List<CutLine>, NoMemory>, want: &[u128]) -> bool {
     }
 }
 
-/// Whether these are right sides, and equal to those.
+/// Whether the right sides are there, and are these.
 fn are_sides(sides: Result<List<u128>, NoMemory>, want: &[u128]) -> bool {
     match sides {
         Ok(sides) => sides.items() == want,
@@ -112,7 +112,7 @@ fn are_sides(sides: Result<List<u128>, NoMemory>, want: &[u128]) -> bool {
     }
 }
 
-/// Whether the right sides are these, kept or summed anew.
+/// Whether the right sides are these, both the kept ones and those that are computed again.
 fn has_sides<R: Threads + Sync>(rt: &R, board: &Board, want: &[u128]) -> bool {
     are_lines(board.lines(), want)
         && are_sides(board.audit(rt), want)
@@ -134,7 +134,7 @@ fn takes<R: Threads + Sync>(rt: &R, alloc: Global, given: &mut Given, step: &Ste
     }
 }
 
-/// Whether each step is.
+/// Whether each step is answered as it says.
 fn takes_each<R: Threads + Sync>(rt: &R, alloc: Global, given: &mut Given, steps: &[Step]) -> bool {
     for step in steps {
         if !takes(rt, alloc, given, step) {
@@ -144,7 +144,7 @@ fn takes_each<R: Threads + Sync>(rt: &R, alloc: Global, given: &mut Given, steps
     true
 }
 
-/// The triangle, whose links each fail alone, and these demands.
+/// The triangle, whose links each fail alone, with these demands.
 fn problem_of(alloc: Global, opening: &[DemandRow]) -> Option<Problem> {
     problem(alloc, triangle(alloc, 0).ok()?, opening).ok()
 }
@@ -170,7 +170,7 @@ fn takes_all<R: Threads + Sync>(
     }
 }
 
-/// An edit of a new board of these demands.
+/// A single edit of a new board of these demands.
 const ALONE: [(&[DemandRow], Step); 5] = [
     (
         &ONE,
@@ -199,7 +199,7 @@ const ALONE: [(&[DemandRow], Step); 5] = [
 ];
 
 #[test]
-fn each_edit_stands_with_its_reply(rt: HostRuntime) {
+fn each_edit_is_an_entry_with_its_reply(rt: HostRuntime) {
     for (opening, step) in &ALONE {
         assert!(rt; takes_all(&rt, rt.alloc(), opening, &[*step]));
     }
@@ -230,7 +230,8 @@ fn an_equal_cut_is_known(rt: HostRuntime) {
     assert!(rt; takes_all(&rt, rt.alloc(), &ONE, &EQUAL));
 }
 
-/// The cuts of all states, and edits of the demand A: from A to C there is one link, and another way of two links where it fails.
+/// The cuts of all states, and edits of the demand A. From A to C there is one link, and a way of two links for the state in which it
+/// fails.
 const FOLLOWED: [Step; 10] = [
     Step::Admit(0, false, 0, 1),
     Step::Admit(1, false, 1, 2),
@@ -274,7 +275,7 @@ fn each_set_of_a_known_demand_takes_one_of_the_spare(rt: HostRuntime) {
     assert!(rt; takes_all(&rt, rt.alloc(), &ONE, &SPARED));
 }
 
-/// Memory is taken for three edits, then for two, and cuts come.
+/// Memory is taken for three edits and then for two, and then cuts are admitted.
 const KEPT: [Step; 5] = [
     Step::Reserve(3),
     Step::Reserve(2),
@@ -299,7 +300,7 @@ fn is_of(snapshot: &Snapshot, version: u64, position: u64, sides: &[u128]) -> bo
         && have_sides(snapshot.cuts.items(), sides)
 }
 
-/// Whether a snapshot is the one before the edit, and so is a copy of it.
+/// Whether a snapshot is the one before the edit, and a copy of it too.
 fn is_before(snapshot: &Snapshot) -> bool {
     let is_copied = match snapshot.copy() {
         Ok(copy) => is_of(&copy, 0, 2, &[12000, 24000]),
@@ -308,7 +309,7 @@ fn is_before(snapshot: &Snapshot) -> bool {
     is_copied && is_of(snapshot, 0, 2, &[12000, 24000])
 }
 
-/// Whether the board's snapshot now is the one after the edit.
+/// Whether the board's snapshot is now the one after the edit.
 fn is_after(board: &Board) -> bool {
     match board.snapshot() {
         Ok(after) => is_of(&after, 1, 3, &[24000, 48000]),
@@ -316,7 +317,7 @@ fn is_after(board: &Board) -> bool {
     }
 }
 
-/// Whether a snapshot that is taken before an edit stays as it was, and one that is taken after it has the right sides then.
+/// Whether a snapshot that is taken before an edit stays as it was, and one that is taken after it has the new right sides.
 fn stays<R: Threads + Sync>(rt: &R, alloc: Global, given: &mut Given) -> bool {
     match given.board.snapshot() {
         Ok(before) => {
@@ -326,7 +327,7 @@ fn stays<R: Threads + Sync>(rt: &R, alloc: Global, given: &mut Given) -> bool {
     }
 }
 
-/// Whether a snapshot from before an edit stays as it was, and one from after it has the right sides then, on a new board of the problem
+/// Whether a snapshot from before an edit stays as it was, and one from after it has the new right sides, on a new board of the problem
 /// with two cuts.
 fn stays_on_board<R: Threads + Sync>(rt: &R, alloc: Global, problem: &Problem) -> bool {
     match open_board(alloc, problem) {
@@ -337,7 +338,7 @@ fn stays_on_board<R: Threads + Sync>(rt: &R, alloc: Global, problem: &Problem) -
     }
 }
 
-/// Whether a snapshot from before an edit stays as it was, and one from after it has the right sides then, on a new board of one demand.
+/// Whether a snapshot from before an edit stays as it was, and one from after it has the new right sides, on a new board of one demand.
 fn stays_on_new<R: Threads + Sync>(rt: &R, alloc: Global) -> bool {
     match problem_of(alloc, &ONE) {
         Some(problem) => stays_on_board(rt, alloc, &problem),

@@ -6,7 +6,7 @@ use std::thread::Threads;
 use turn_lock::example::{Sheet, note_by_two};
 use turn_lock::{Chronicle, Desk};
 
-/// The owner of a sheet on which two threads have noted 1 and 2, this many times each, how many notes it has, and their sum.
+/// Two threads note 1 and 2 on a sheet, each this many times. The owner of the sheet, how many notes it has, and their sum.
 fn noted_by_two<R: Threads + Wait + Sync>(
     rt: &R,
     alloc: Global,
