@@ -3,8 +3,8 @@ use planner_commands::Status;
 use std::sync::Wait;
 use std::thread::Threads;
 
-/// Words of a plan or a session, the words that check its report, and what the report contains: the cost with the bound and the raw value,
-/// and how tight it is.
+/// Words of a plan or a session, words that check its report, and what the report contains: the cost with the bound and the raw value, and
+/// how tight the plan is.
 type Accepted = (&'static str, &'static str, &'static str, &'static str);
 
 /// Plans whose reports are read again.
@@ -65,9 +65,9 @@ const ACCEPTED: [Accepted; 9] = [
     ),
 ];
 
-/// Further plans whose reports are read again. The bound of the measured network is that of bench/reading/matrix.py. In the last one the search
-/// for a better bound ends where a number grows wide, and the plan costs what the fallback does: a module on the first link, and one on
-/// the second for where that fails.
+/// More plans whose reports are read again. The bound of the measured network is that of bench/reading/matrix.py. In the last row the
+/// search for a better bound ends at a number that grows too wide, and the plan costs what the fallback plan does: a module on the first
+/// link, and one on the second for when the first fails.
 const FURTHER_ACCEPTED: [Accepted; 9] = [
     (
         "session triangle default default set",
@@ -125,13 +125,13 @@ const FURTHER_ACCEPTED: [Accepted; 9] = [
     ),
 ];
 
-/// Whether a run is done, and its report says this.
+/// Whether a run is done, and its report contains this.
 fn says(run: &Ended, cost: &str, quality: &str) -> bool {
     let report = run.text();
     run.status == Status::Done && report.contains(cost) && report.contains(quality)
 }
 
-/// Whether the report of a row has what it says, and is accepted.
+/// Whether the report of a row contains what the row says, and is accepted.
 fn is_accepted<R: AllocGlobal + Threads + Wait + Sync>(rt: &R, row: &Accepted) -> bool {
     let (words, check, cost, quality) = *row;
     let Some(run) = run_words(rt, words, &[], &[], &[]) else {

@@ -5,7 +5,7 @@ use std::sync::Wait;
 use std::test::Fail;
 use std::thread::Threads;
 
-/// A part of a report, what replaces it, and the end of the line of a check.
+/// A part of a report, what replaces it, and the line that a check then gives, without its beginning.
 type Change = (&'static str, &'static str, &'static str);
 
 /// Changes of the notes, the journal and the pool, which are found.
@@ -97,7 +97,7 @@ const BOUNDS: [Change; 9] = [
     ("bound 10.000", "bound 1.000", "bound-differs 1.000 10.000"),
 ];
 
-/// Changes of further numbers of the plan's bound, of its certificate and of what shows how tight it is, which are found.
+/// More changes of numbers in the plan's bound, in its certificate and in what shows how tight it is, which are found.
 const BOUNDS_AND_PROOFS: [Change; 9] = [
     ("bound 10.000", "bound 9.999", "bound-differs 9.999 10.000"),
     ("raw 6000 1", "raw 600 1", "raw-differs"),
@@ -132,7 +132,7 @@ const FORMS: [Change; 14] = [
     ("plan 1", "pla 1", "token at 134"),
 ];
 
-/// Changes of further words, after which the text is no report.
+/// More changes of words, after which the text is no report.
 const FURTHER_FORMS: [Change; 14] = [
     ("version 0", "versio 0", "token at 141"),
     ("position 0", "positio 0", "token at 151"),
@@ -173,7 +173,7 @@ const VALUES: [Change; 15] = [
     ("12.000", "1099511627.776", "number-large at 183"),
 ];
 
-/// Changes of further numbers, names and counts, after which the text is no report of the triangle.
+/// More changes of numbers, names and counts, after which the text is no report of the triangle.
 const FURTHER_VALUES: [Change; 14] = [
     ("raw 6000 1", "raw 6000 0", "limit at 226"),
     ("raw 6000 1", "raw 06000 1", "number-not at 221"),
@@ -195,7 +195,7 @@ const FURTHER_VALUES: [Change; 14] = [
     ("MODULES ( AB", "MODULES ( A", "unknown-name at 238"),
 ];
 
-/// Changes of the spelling, and of the caller and the number of its plan, which are free. There is one outcome.
+/// Changes of spelling, and of the caller and the serial of the only plan, after which the report is accepted.
 const SPELLINGS: [Change; 5] = [
     ("NOTES ( )", "NOTES  (\t)", "1"),
     ("NOTES ( )", "# a note\nNOTES()", "1"),
@@ -204,7 +204,7 @@ const SPELLINGS: [Change; 5] = [
     ("caller 1 plan 1", "caller 8 plan 64", "1"),
 ];
 
-/// A report of the triangle with every single-link failure.
+/// A report of the triangle in which each link fails alone.
 const RECONFIGURED: &str = "?planner report; version: 1
 NOTES ( ) JOURNAL ( ( 1 cut 0 ) ( 2 cut 1 ) ( 3 cut 2 ) ( 4 cut 3 ) )
 POOL ( ( 0 state 0 right 12000 ( 1 1 1 ) ) ( 1 state 1 right 12000 ( 0 1 1 ) ) ( 2 state 2 right 12000 ( 1 0 1 ) ) ( 3 state 3 right 24000 ( 1 1 0 ) ) )
@@ -214,7 +214,7 @@ ROUTES ( state 0 none 1 ( D1 12000 ( AC ) ) state 1 AB 1 ( D1 12000 ( AC ) ) sta
 loose cuts ) )
 ";
 
-/// Changes of its bound and its certificate, which are found.
+/// Changes of the bound and the certificate of that report, which are found.
 const CERTIFICATES: [Change; 3] = [
     (
         "pool 3 right 24000",
@@ -229,7 +229,8 @@ const CERTIFICATES: [Change; 3] = [
     ),
 ];
 
-/// Changes of a report whose setup costs are charged, which are found: one setup too many or too few, a module that pays one, and another bound.
+/// Changes of a report whose setup costs are charged, which are found: a setup too many or too few, another module that pays a setup, and
+/// another bound.
 const CHARGED: [Change; 4] = [
     ("cost 13.000", "cost 16.000", "cost-differs 16.000 13.000"),
     ("cost 13.000", "cost 10.000", "cost-differs 10.000 13.000"),
@@ -237,7 +238,7 @@ const CHARGED: [Change; 4] = [
     ("bound 6.000", "bound 10.000", "bound-differs 10.000 6.000"),
 ];
 
-/// A note of setup costs that are charged, which is found.
+/// A change of a note of setup costs that are charged, which is found.
 const CHARGED_NOTES: [Change; 1] = [("NOTES ( )", "NOTES ( setup )", "notes-differ")];
 
 /// Changes of a report whose setup costs are noted, which are found.
@@ -264,22 +265,22 @@ const FINER_FORMS: [Change; 3] = [
     ("12.000100", "1099511.627776", "number-large at 186"),
 ];
 
-/// Changes of the cost of a link's first module in the second of two plans, which are found: no setup, and two.
+/// Changes of the cost of a link's first module in the second of two plans, which are found: without its setup, and with two.
 const RAISED: [Change; 2] = [
     ("cost 8.000", "cost 5.000", "cost-differs 5.000 8.000"),
     ("cost 8.000", "cost 11.000", "cost-differs 11.000 8.000"),
 ];
 
-/// A report as it is, of one plan.
+/// A report of one plan, unchanged.
 const UNCHANGED: [Change; 1] = [("", "", "1")];
 
-/// A report as it is, of two plans.
+/// A report of two plans, unchanged.
 const BOTH_UNCHANGED: [Change; 1] = [("", "", "2")];
 
-/// A report as it is, whose notes lack that of the setup costs.
+/// An unchanged report whose notes lack the one of the setup costs.
 const UNCHANGED_NOTES: [Change; 1] = [("", "", "notes-differ")];
 
-/// A report as it is, of a network with other places.
+/// An unchanged report of a network with another number of decimal places.
 const OTHER_PLACES: [Change; 1] = [("", "", "header at 0")];
 
 /// The words of a check, and how many files they fetch.
@@ -299,7 +300,7 @@ const OF_FINER: Check = ("check finer default default report", 2);
 
 const OF_PARALLEL: Check = ("check parallel default single report", 3);
 
-/// How the line of a check begins, and its status.
+/// The beginning of the line that a check gives, and its status.
 type Line = (&'static str, Status);
 
 const WHOLE: Line = ("rejected ", Status::Rejected);
@@ -312,7 +313,7 @@ const REFUSED: Line = ("refused report ", Status::BadReport);
 
 const ACCEPTED: Line = ("accepted ", Status::Done);
 
-/// A check of a report after each of some changes, and the line that the check gives.
+/// A check of a report after each of some changes, and the beginning and status of its line.
 type Damages = (Check, &'static str, &'static [Change], Line);
 
 /// Damages of reports with more states and with setup costs.
@@ -334,7 +335,7 @@ const FURTHER_DAMAGES: [Damages; 5] = [
     (OF_FINER, TRIANGLE_REPORT, &OTHER_PLACES, REFUSED),
 ];
 
-/// Whether a check of a report after a change, whose words fetch this many files, ends with this status and a line that begins like this.
+/// Whether a check of a changed report, whose words fetch this many files, ends with this status and a line that begins with this.
 fn says<R: AllocGlobal + Threads + Wait + Sync>(
     rt: &R,
     check: Check,
@@ -353,8 +354,8 @@ fn says<R: AllocGlobal + Threads + Wait + Sync>(
     }
 }
 
-/// The first change after which a check of a report, whose words fetch this many files, doesn't end with this status and a line that
-/// begins like this.
+/// The first change after which a check of a report, whose words fetch this many files, doesn't end with this status and a line that begins
+/// with this.
 fn first_unlike<R: AllocGlobal + Threads + Wait + Sync>(
     rt: &R,
     check: Check,
@@ -370,7 +371,7 @@ fn first_unlike<R: AllocGlobal + Threads + Wait + Sync>(
     None
 }
 
-/// The first change of the triangle's report whose check doesn't end as this line says.
+/// The first change of the triangle's report after which a check doesn't end with this line.
 fn first_of_triangle<R: AllocGlobal + Threads + Wait + Sync>(
     rt: &R,
     changes: &[Change],
@@ -453,13 +454,13 @@ fn further_changed_reports_are_found_out_refused_or_accepted(rt: HostRuntime) {
     assert!(rt; first_of_all(&rt, &FURTHER_DAMAGES).is_none());
 }
 
-/// The certificate of three parallel links with every single-link failure.
+/// The certificate of three parallel links that each fail alone.
 const PARALLEL_CERTIFICATE: &str = "CERTIFICATE ( 2 ( 1 pool 2 right 10000 )
 ( 1 pool 3 right 10000 )
 ( 1 pool 1 right 10000 )
 ";
 
-/// Other certificates in its place, which are found.
+/// Certificates in place of that one, which are found.
 const OTHER_CERTIFICATES: [Change; 2] = [
     (
         PARALLEL_CERTIFICATE,

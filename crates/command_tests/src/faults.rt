@@ -4,7 +4,7 @@ use std::sync::Wait;
 use std::test::Fail;
 use std::thread::Threads;
 
-/// Words, how many files they fetch, and the status with which they end where nothing fails.
+/// Words, how many files they fetch, and the status with which they end if nothing fails.
 type Row = (&'static str, u32, Status);
 
 /// Commands of each kind, and some that are refused.
@@ -34,7 +34,7 @@ const COMMANDS: [Row; 15] = [
     ("sample", 0, Status::BadWords),
 ];
 
-/// What a sink holds in which the put of this number failed: the pieces before it, and half of this one.
+/// What a sink holds if its put of this number fails: all pieces before, and half of this one.
 fn taken_until(text: &[u8], put: u32) -> Option<&[u8]> {
     let begin = put as usize * 4096;
     let rest = text.get(begin..)?;
@@ -44,7 +44,7 @@ fn taken_until(text: &[u8], put: u32) -> Option<&[u8]> {
     text.get(..begin + rest.len().min(4096) / 2)
 }
 
-/// Runs the words over a report, where the fetches and puts of these numbers fail.
+/// Runs the words where the fetches and puts of these numbers fail. A report is among the files.
 fn with_report<R: AllocGlobal + Threads + Wait + Sync>(
     rt: &R,
     words: &str,
@@ -55,7 +55,7 @@ fn with_report<R: AllocGlobal + Threads + Wait + Sync>(
     run_words(rt, words, &[("report", report)], fetches, puts)
 }
 
-/// Whether the words end with nothing written wherever one of their fetches fails.
+/// Whether the words end with nothing written, whichever of their fetches fails.
 fn each_fetch_fails<R: AllocGlobal + Threads + Wait + Sync>(
     rt: &R,
     words: &str,
@@ -74,7 +74,7 @@ fn each_fetch_fails<R: AllocGlobal + Threads + Wait + Sync>(
     true
 }
 
-/// Whether the words end with the pieces before and half of one wherever a put of this text fails.
+/// Whether the words end with the pieces before and half of one, whichever put of this text fails.
 fn each_put_fails<R: AllocGlobal + Threads + Wait + Sync>(
     rt: &R,
     words: &str,
@@ -96,7 +96,7 @@ fn each_put_fails<R: AllocGlobal + Threads + Wait + Sync>(
     false
 }
 
-/// Whether a command ends with its status, and each fetch and each put of it can fail.
+/// Whether a command ends with its status, and ends as it should whichever of its fetches and puts fails.
 fn each_fails<R: AllocGlobal + Threads + Wait + Sync>(rt: &R, row: &Row, report: &[u8]) -> bool {
     let (words, fetches, status) = *row;
     let Some(run) = with_report(rt, words, report, &[fetches], &[]) else {

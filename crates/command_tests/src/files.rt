@@ -61,28 +61,28 @@ LINKS ( AB ( A B ) 0 0 0 3.00 ( 10.00 5.00 ) BC ( B C ) 0 0 0 3.00 ( 10.00 5.00 
 DEMANDS ( D1 ( A C ) 1 12.00 UNLIMITED )
 ";
 
-/// The triangle with a demand of four decimals, so that all is in millionths.
+/// The triangle with a demand of four decimals, so that all amounts are in millionths.
 const FINER_TRIANGLE: &[u8] = b"?SNDlib native format; type: network; version: 1.0
 NODES ( A B C )
 LINKS ( AB ( A B ) 0 0 0 0 ( 10.00 5.00 ) BC ( B C ) 0 0 0 0 ( 10.00 5.00 ) AC ( A C ) 0 0 0 0 ( 10.00 5.00 ) )
 DEMANDS ( D1 ( A C ) 1 12.0001 UNLIMITED )
 ";
 
-/// An amount that is too large in millionths, before one that asks for them.
+/// An amount that is too large in millionths, and after it one that asks for millionths.
 const LARGE_BEFORE_FINE: &[u8] = b"?SNDlib native format; type: network; version: 1.0
 NODES ( A B )
 LINKS ( L ( A B ) 0 0 0 0 ( 2000000 5.00 ) )
 DEMANDS ( D1 ( A B ) 1 0.0001 UNLIMITED )
 ";
 
-/// The triangle with a further link that has no module.
+/// The triangle with a further link that has no modules.
 const TRIANGLE_AND_A_BARE_LINK: &[u8] = b"?SNDlib native format; type: network; version: 1.0
 NODES ( A B C )
 LINKS ( AB ( A B ) 0 0 0 0 ( 10.00 5.00 ) BC ( B C ) 0 0 0 0 ( 10.00 5.00 ) AC ( A C ) 0 0 0 0 ( 10.00 5.00 ) XX ( A C ) 0 0 0 0 ( ) )
 DEMANDS ( D1 ( A C ) 1 12.00 UNLIMITED )
 ";
 
-/// Links of which two carry all, whichever fails, though a share is spread over three.
+/// Links of which two carry all demands, whichever fails, though a share is spread over three.
 const LARGE_MODULES: &[u8] = b"?SNDlib native format; type: network; version: 1.0
 NODES ( A B )
 LINKS ( L1 ( A B ) 0 0 0 0 ( 100.00 1.00 ) L2 ( A B ) 0 0 0 0 ( 100.00 1.00 ) L3 ( A B ) 0 0 0 0 ( 100.00 1.00 ) )
@@ -248,7 +248,7 @@ caller 1 plan
 const NO_COMMANDS: &[u8] = b"?planner script; version: 1
 ";
 
-/// Two modules on each link, and the demand's flow beside one that goes round.
+/// Two modules on each link, the demand's flow, and a flow that goes round in a circle.
 const FLOWS_AND_A_CIRCLE: &[u8] = b"?planner flows; version: 1
 MODULES ( AB ( 2 ) BC ( 2 ) AC ( 2 ) )
 FLOWS ( none ( D1 AC A 12 D1 AB A 3 D1 BC B 3 D1 AC C 3 ) )
@@ -282,7 +282,7 @@ const NETWORKS_AND_SCRIPTS: [File<'static>; 17] = [
     ("stuck", FIXED_LINK),
 ];
 
-/// Further networks, models, scripts and failure lists.
+/// More networks, models, scripts and failure lists.
 const FURTHER_FILES: [File<'static>; 16] = [
     ("cut", CUT_OFF),
     ("towns", FOUR_TOWNS),
@@ -302,14 +302,14 @@ const FURTHER_FILES: [File<'static>; 16] = [
     ("last", LAST_FAILS),
 ];
 
-/// Puts a file last.
+/// Adds a file.
 fn put(held: &mut List<MemFile>, alloc: Global, file: File) -> Option<()> {
     let name = Name::new(alloc, file.0.as_bytes()).ok()?;
     let bytes = List::from_slice(alloc, file.1).ok()?;
     held.push(MemFile { name, bytes }).ok()
 }
 
-/// Puts files last.
+/// Adds files.
 pub(crate) fn put_all(held: &mut List<MemFile>, alloc: Global, files: &[File]) -> Option<()> {
     for file in files {
         put(held, alloc, *file)?;
@@ -317,17 +317,17 @@ pub(crate) fn put_all(held: &mut List<MemFile>, alloc: Global, files: &[File]) -
     Some(())
 }
 
-/// Puts the networks, scripts and flows last.
+/// Adds the networks, scripts and flows.
 fn put_networks(held: &mut List<MemFile>, alloc: Global) -> Option<()> {
     put_all(held, alloc, &NETWORKS_AND_SCRIPTS)
 }
 
-/// Puts the further files last.
+/// Adds the further files.
 fn put_further(held: &mut List<MemFile>, alloc: Global) -> Option<()> {
     put_all(held, alloc, &FURTHER_FILES)
 }
 
-/// All files, the measured network, and these.
+/// All files, the measured network, and the given ones.
 pub(crate) fn all_files(alloc: Global, more: &[File]) -> Option<List<MemFile>> {
     let mut held = List::new(alloc);
     put_networks(&mut held, alloc)?;

@@ -7,8 +7,8 @@ use std::thread::Threads;
 /// Words of an import, the bytes of its file of flows, how many files are fetched, and the status and the text with which it ends.
 type Row = (&'static str, &'static str, u32, Status, &'static str);
 
-/// Imports into the triangle and into a chain. The triangle's demand goes from A to C, its links have modules of 10, and its failures are
-/// those of each link alone.
+/// Imports into the triangle and into a chain. The triangle's demand goes from A to C, its links have modules of 10, and each link fails
+/// alone.
 const IMPORTS: [Row; 15] = [
     (
         "import triangle default default flows",
@@ -136,7 +136,7 @@ fn each_import_comes_to_its_answer(rt: HostRuntime) {
     }
 }
 
-/// Whether the import of the demand's flow beside one that goes round has the counts of its file, their cost, the planner's bound and one
+/// Whether an import of the demand's flow beside one that goes round has the counts of its file, their cost, the planner's bound and one
 /// flow over AC, and is accepted.
 fn a_circle_is_imported<R: AllocGlobal + Threads + Wait + Sync>(rt: &R) -> Option<bool> {
     let run = run_words(rt, "import triangle default default circle", &[], &[], &[])?;

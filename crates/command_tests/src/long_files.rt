@@ -40,12 +40,12 @@ tight 1 ( 0 0 0 0 0 0 0 0 0 0 0 0 0 0 0 0 0 0 0 0 )
 ",
 );
 
-/// Puts a name last that is one letter, 250 times.
+/// Adds a name of 250 equal letters.
 fn put_long_name(text: &mut Bytes, letter: u8) -> Option<()> {
     text.append(&[letter; 250]).ok()
 }
 
-/// Puts the names of 20 links last, and after each what comes after it.
+/// Adds the names of 20 links, and after each name the same text.
 fn put_long_names(text: &mut Bytes, after: &[u8]) -> Option<()> {
     for n in 0..20u8 {
         put_long_name(text, b'a' + n)?;
@@ -54,7 +54,7 @@ fn put_long_names(text: &mut Bytes, after: &[u8]) -> Option<()> {
     Some(())
 }
 
-/// A text with the names of 20 links, of which each is one letter, 250 times.
+/// A text with the names of 20 links, each of 250 equal letters.
 fn with_long_names(alloc: Global, parts: (&[u8], &[u8], &[u8])) -> Option<Bytes> {
     let (front, after, end) = parts;
     let mut text = List::from_slice(alloc, front).ok()?;
@@ -63,7 +63,7 @@ fn with_long_names(alloc: Global, parts: (&[u8], &[u8], &[u8])) -> Option<Bytes>
     Some(text)
 }
 
-/// Whether a run has this status and this many faults, and wrote this many of the first bytes of a text.
+/// Whether a run has this status and this many faults, and wrote this many bytes of a text.
 fn wrote(run: &Ended, text: &[u8], taken: usize, status: Status, faults: u64) -> bool {
     match text.get(..taken) {
         Some(front) => run.is(status, front, (0, faults)),
@@ -71,7 +71,7 @@ fn wrote(run: &Ended, text: &[u8], taken: usize, status: Status, faults: u64) ->
     }
 }
 
-/// Whether a run wrote this many of the first bytes of the report of the long names, which has 5514.
+/// Whether a run wrote this many of the 5,514 bytes of the report of the long names.
 fn wrote_report(
     alloc: Global,
     run: &Ended,
@@ -83,8 +83,8 @@ fn wrote_report(
     Some(report.len() == 5514 && wrote(run, report.items(), taken, status, faults))
 }
 
-/// Whether a plan of the network of the long names ends with this status where the puts of these numbers fail, and wrote this many of the
-/// first bytes of the report, which has 5514.
+/// Whether a plan of the network of the long names ends with this status if the puts of these numbers fail, and wrote this many of the
+/// 5,514 bytes of its report.
 fn long_plan_ends<R: AllocGlobal + Threads + Wait + Sync>(
     rt: &R,
     puts: &[u32],
@@ -103,7 +103,7 @@ fn a_long_text_is_put_in_pieces(rt: HostRuntime) {
     assert!(rt; long_plan_ends(&rt, &[1], Status::WriteFault, half) == Some(true));
 }
 
-/// The triangle's network file with spaces after it, so that it has this many bytes.
+/// The triangle's network file with spaces at its end, so that it has this many bytes.
 fn padded_triangle(alloc: Global, len: usize) -> Option<Bytes> {
     let mut text = List::from_slice(alloc, TRIANGLE).ok()?;
     let spaces = len.saturating_sub(text.len());
@@ -124,7 +124,8 @@ fn padded_comes_to<R: AllocGlobal + Threads + Wait + Sync>(
     }
 }
 
-/// The length of a file, and the status and the text with which a plan of it ends: for the longest that is read, and for one byte more.
+/// The number of bytes of a file, and the status and the text with which a plan of it ends: for the longest file that is read, and for one
+/// byte more.
 const LENGTHS: [(usize, (Status, &str)); 2] = [
     (16777216, (Status::Done, TRIANGLE_REPORT)),
     (16777217, (Status::TooLong, "too long long\n")),

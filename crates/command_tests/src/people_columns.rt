@@ -34,7 +34,7 @@ LINKS (
 DEMANDS ( D ( @node-number-001 @node-number-002 ) 1 9.00 UNLIMITED )
 ";
 
-/// A plan with a module on each link, where one link carries the demand, and another where that fails.
+/// A plan with a module on two links, one of which carries the demand, and the other when that one fails.
 const REPORT: &str = "?planner report; version: 1
 NOTES ( ) JOURNAL ( ( 1 cut 0 ) ) POOL ( ( 0 state 1 right 9000 ( 0 1 1 1 1 1 1 1 1 1 1 1 1 1 1 1 1 1 ) ) )
 OUTCOMES ( PLAN ( caller 1 plan 1 version 0 position 0
@@ -86,8 +86,8 @@ OUTCOMES ( PLAN ( caller 1 plan 1 version 0 position 0
 ) )
 ";
 
-/// Its view, in the columns of the triangle's, each as wide as its longest cell. The cut of the first failure asks for 9.00 of modules of 10.00
-/// for 5.00, which are worth 4.50, and a whole module costs 5.00.
+/// The view of that plan, with the columns of the triangle's view, each as wide as its longest cell. The cut of the first failure asks for
+/// 9.00. Modules of 10.00 for 5.00 make that worth 4.50, and a whole module costs 5.00.
 const VIEW: &str = "wide   2 nodes, 18 links, 1 demand of 9.000; 18 failures, all survived
 
   cost        90.000   not shown to be cheapest
@@ -139,7 +139,7 @@ const VIEW: &str = "wide   2 nodes, 18 links, 1 demand of 9.000; 18 failures, al
   accepted: the modules carry every demand in 19 of 19 states, and no plan costs less than 5.000
 ";
 
-/// Puts what a byte of a short text means last.
+/// Adds what a byte of a short text means.
 fn put_written(text: &mut Bytes, byte: u8) -> Result<(), NoMemory> {
     match byte {
         b'@' => text.append(&[b'x'; 240]),
@@ -157,7 +157,7 @@ fn written(alloc: Global, short: &str) -> Result<Bytes, NoMemory> {
     Ok(text)
 }
 
-/// Puts a file of the short text, written out, last.
+/// Adds a file of a short text, written out.
 fn put(held: &mut List<MemFile>, alloc: Global, name: &[u8], short: &str) -> Option<()> {
     let name = Name::new(alloc, name).ok()?;
     let bytes = written(alloc, short).ok()?;
@@ -172,7 +172,7 @@ fn wide_files(alloc: Global) -> Option<List<MemFile>> {
     Some(held)
 }
 
-/// Whether the view of the report is printed as it should be; nothing where there is no memory.
+/// Whether the view of the report is printed as it should be; `None` if memory runs out.
 fn is_straight<R: Threads + Wait + Sync>(rt: &R, alloc: Global) -> Option<bool> {
     let words = words_of(alloc, "view wide report --survive links")?;
     let shelf = shelf_with(alloc, wide_files(alloc)?, &[9])?;

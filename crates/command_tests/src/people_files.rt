@@ -15,7 +15,7 @@ DEMANDS (
 )
 ";
 
-/// The triangle, and a node D that one link joins to C.
+/// The triangle with a fourth node D, which one link joins to C.
 const BRIDGE: &[u8] = b"?SNDlib native format; type: network; version: 1.0
 NODES ( A B C D )
 LINKS (
@@ -30,14 +30,14 @@ DEMANDS (
 )
 ";
 
-/// A node that no link joins to others.
+/// A node that no link joins to the others.
 const APART: &[u8] = b"?SNDlib native format; type: network; version: 1.0
 NODES ( A B C )
 LINKS ( AB ( A B ) 0 0 0 0 ( 10.00 5.00 ) )
 DEMANDS ( D1 ( A B ) 1 1.00 UNLIMITED D2 ( A C ) 1 1.00 UNLIMITED )
 ";
 
-/// A link that has capacity in place and no module.
+/// A link that has capacity installed and no modules.
 const BROKEN: &[u8] = b"?SNDlib native format; type: network; version: 1.0
 NODES ( A B )
 LINKS ( L ( A B ) 5 0 0 0 ( ) )
@@ -72,7 +72,7 @@ const FILES: [File<'static>; 8] = [
     ("list", LIST),
 ];
 
-/// All files.
+/// All files of these tests.
 pub(crate) fn all_files(alloc: Global) -> Option<List<MemFile>> {
     let mut held = List::new(alloc);
     put_all(&mut held, alloc, &FILES)?;

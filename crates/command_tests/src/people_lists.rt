@@ -56,11 +56,11 @@ AC ( AC )
 # CD is left out: without it demand D2 can't be carried
 ";
 
-/// Half of the list of the triangle.
+/// The first half of the triangle's failure list.
 const HALF: &str = "?planner failures; version: 1\nFAILUR";
 
-/// The plan of the triangle: each link needs two modules, those of AB and BC where AC fails, and those of AC where AB does. Half of the cut of
-/// two links that asks for 24.00 where AC fails, and half of one that asks for 12.00 where AB does, are worth 18.00, and whole modules 20.00.
+/// The plan of the triangle. Each link needs two modules: AB and BC if AC fails, and AC if AB does. Half of the cut of two links that asks
+/// for 24.00 where AC fails, and half of the one that asks for 12.00 where AB does, are worth 18.00; whole modules cost at least 20.00.
 const TRIANGLE_PLAN: &str =
     "triangle   3 nodes, 3 links, 1 demand of 12.000; 3 failures, all survived
 
@@ -83,7 +83,7 @@ const TRIANGLE_PLAN: &str =
   accepted: the modules carry every demand in 4 of 4 states, and no plan costs less than 30.000
 ";
 
-/// Half of that plan's bytes.
+/// The first half of that plan's bytes.
 const HALF_PLAN: &str = "triangle   3 nodes, 3 links, 1 demand of 12.000; 3 failures, all survived
 
   cost        30.000   cheapest (branch tree of 1 box)
@@ -95,19 +95,19 @@ const HALF_PLAN: &str = "triangle   3 nodes, 3 links, 1 demand of 12.000; 3 fail
   BC     B - C    2 x 10.000      20.000     0.000    12.000   60 %   AC           10.000
   AC     A - C    2 x 10.000      20.000  ";
 
-/// What is said of the bridge whose link fails.
+/// What is said of the network with a bridge, whose link separates a demand when it fails.
 const BRIDGE_APART: &str = "bridge: there is no plan, since some demands can't be carried
   where CD fails, no path joins the ends of demand D2
 not survivable: state 3 CD demand D2
 ";
 
-/// What is said of a demand whose ends nothing joins.
+/// What is said of a demand whose ends no path joins.
 const APART: &str = "apart: there is no plan, since some demands can't be carried
   without any failure no path joins the ends of demand D2
 not survivable: state 0 none demand D2
 ";
 
-/// What there is of `failures`.
+/// The help on `failures`.
 const FAILURES_HELP: &str = "zorgwint failures NET
     a failure list of each single link that can fail without separating a demand; the others stand in comments
 
@@ -116,7 +116,7 @@ const FAILURES_HELP: &str = "zorgwint failures NET
 It takes no options. After -- no word is one, so that NET may begin with a minus.
 ";
 
-/// What there is of `help`.
+/// The help on `help`.
 const HELP_HELP: &str = "zorgwint help [COMMAND]
     what all commands do and take, or how COMMAND alone is used
 
@@ -189,7 +189,7 @@ refused network fixed-link at 93
     ),
 ];
 
-/// Words with options, most of them of a report that isn't there, so that the files before it are read.
+/// Words with options, most of them for a report that isn't there, so that only the files before it are read.
 const OPTIONS: [Row; 10] = [
     ("view triangle nothing", SOUND, Status::NoFile, "", NOTHING),
     (
@@ -245,8 +245,8 @@ const OPTIONS: [Row; 10] = [
     ),
 ];
 
-/// Words with options that say what is told, and with files that aren't of the kind that an option wants. The report isn't there, so that
-/// the files before it are read.
+/// Words with options that set how much is told, and with files that aren't of the kind that an option wants. The report isn't there, so
+/// that only the files before it are read.
 const TELLING_OPTIONS: [Row; 10] = [
     (
         "view triangle nothing --model plain --failures list",
@@ -320,7 +320,7 @@ const TELLING_OPTIONS: [Row; 10] = [
     ),
 ];
 
-/// Words with options that are no command.
+/// Words with options that aren't a command.
 const REFUSED_OPTIONS: [Row; 10] = [
     ("view triangle", SOUND, Status::BadWords, "", USAGE),
     (
@@ -382,8 +382,8 @@ const REFUSED_OPTIONS: [Row; 10] = [
     ),
 ];
 
-/// Words of a plan. Without a failure list one module for 12.00 isn't enough, so two are bought on the link from A to C; with each single link's
-/// failure two on each link.
+/// Words of a plan. Without a failure list one module isn't enough for 12.00, so two are bought on the link from A to C. With a failure
+/// list of each single link, two are bought on each link.
 const PLANS: [Row; 13] = [
     (
         "plan triangle --survive links --quiet",
@@ -474,14 +474,14 @@ const HELPS: [Row; 9] = [
 ];
 
 #[test]
-fn runs_come_to_their_rows(rt: HostRuntime) {
+fn runs_end_with_their_status_text_and_message(rt: HostRuntime) {
     for row in &ROWS {
         assert!(rt; comes_to(&rt, rt.alloc(), row) == Some(true), "{}", row.0);
     }
 }
 
 #[test]
-fn options_stand_in_any_place(rt: HostRuntime) {
+fn options_may_come_in_any_place(rt: HostRuntime) {
     for row in &OPTIONS {
         assert!(rt; comes_to(&rt, rt.alloc(), row) == Some(true), "{}", row.0);
     }
@@ -502,7 +502,7 @@ fn other_options_are_refused(rt: HostRuntime) {
 }
 
 #[test]
-fn plans_are_made(rt: HostRuntime) {
+fn plans_are_printed(rt: HostRuntime) {
     for row in &PLANS {
         assert!(rt; comes_to(&rt, rt.alloc(), row) == Some(true), "{}", row.0);
     }

@@ -21,8 +21,8 @@ const FIVE: [Module; 1] = [Module {
     cost: 5000,
 }];
 
-/// A number of nodes, links, each of which may fail, demands, how many splits somebody says, and what is answered with a report for programs:
-/// a status, how its text begins, and the message.
+/// The number of nodes; links, each of which may fail; demands; how many splits are asked for; and the answer with a report: its status,
+/// how its text begins, and the message.
 type AnswerRow = (
     usize,
     &'static [LinkRow<'static>],
@@ -44,22 +44,22 @@ const BLOCK: &[u8] = b"n.txt   3 nodes, 3 links, 1 demand of 12.000; 3 failures,
   fractional  18.000   no certificate of cuts gives more
 ";
 
-/// What is said of the bridge.
+/// What is said of the network with a bridge.
 const SEPARATED: &[u8] = b"n.txt: there is no plan, since some demands can't be carried
   where d fails, no path joins the ends of demand A
   where d fails, no path joins the ends of demand C
 not survivable: state 4 d demand A
 ";
 
-/// What is said of the free module.
+/// What is said of the network with a free module.
 const COSTS_NOTHING: &[u8] = b"n.txt: a module of link b costs nothing
   a plan is shown to be cheap only where each module costs something; give it a cost, as 0.001
 refused network free-module at 0
 ";
 
-/// A bridge that two of three demands cross; a link whose module costs nothing; and the triangle, of which each link needs two modules: those of
-/// a and b where c fails, and those of c where a fails. Its certificate has half of the cut of two links that asks for 24.00 in the last state,
-/// and half of one that asks for 12.00. The root of its tree alone shows that each link needs two modules.
+/// A bridge that two of three demands cross; a link whose module costs nothing; and the triangle with links a, b and c, each of which needs
+/// two modules: a and b if c fails, and c if a fails. The certificate of its plan has half of the cut of two links that asks for 24.00 in
+/// the last state, and half of one that asks for 12.00. The root of its tree alone shows that each link needs two modules.
 const ANSWERS: [AnswerRow; 4] = [
     (
         4,
@@ -110,7 +110,7 @@ fn problem_of(alloc: Global, row: &AnswerRow) -> Option<Problem> {
     problem(alloc, net, row.2).ok()
 }
 
-/// What is answered to a row, as a report or as a view.
+/// The answer to a row, with a report or with a view.
 fn answer<R: Threads + Wait + Sync>(
     rt: &R,
     alloc: Global,
@@ -122,7 +122,7 @@ fn answer<R: Threads + Wait + Sync>(
     plan_for_people(rt, alloc, b"n.txt", problem, splits, wanted, &OpenGate).ok()
 }
 
-/// Whether an answer has the status and the message of a row, and a text that begins as its does, and has one only there.
+/// Whether an answer has the status and the message of a row, and a text that begins like the row's, and is empty if that is.
 fn is_as_in(answer: &PlanAnswer, row: &AnswerRow) -> bool {
     answer.status == row.4
         && answer.message.items() == row.6
@@ -130,7 +130,7 @@ fn is_as_in(answer: &PlanAnswer, row: &AnswerRow) -> bool {
         && (answer.text.len() > 0) == (row.5.len() > 0)
 }
 
-/// Whether the answer to a row is as wanted.
+/// Whether the answer to a row is the expected one.
 fn is_right<R: Threads + Wait + Sync>(rt: &R, alloc: Global, row: &AnswerRow) -> bool {
     let Some(problem) = problem_of(alloc, row) else {
         return false;
@@ -141,7 +141,7 @@ fn is_right<R: Threads + Wait + Sync>(rt: &R, alloc: Global, row: &AnswerRow) ->
     }
 }
 
-/// The first row whose answer is another one.
+/// The first row whose answer isn't the expected one.
 fn first_wrong<R: Threads + Wait + Sync>(rt: &R, alloc: Global) -> Option<usize> {
     for i in 0..ANSWERS.len() {
         if !is_right(rt, alloc, &ANSWERS[i]) {
@@ -151,12 +151,12 @@ fn first_wrong<R: Threads + Wait + Sync>(rt: &R, alloc: Global) -> Option<usize>
     None
 }
 
-/// The view of a report that was printed: a check accepts it, and its tree holds.
+/// The view of a printed report, if a check accepts the report and its tree.
 fn viewed(alloc: Global, problem: &Problem, report: &[u8]) -> Option<Bytes> {
     view_report(alloc, "n.txt", "r.txt", problem, report, ViewForm::Tables).ok()
 }
 
-/// Whether the report of a row's plan is accepted, and its view is the one that is printed without a report.
+/// Whether the report of a row's plan is accepted, and its view is the one that is printed in place of the report.
 fn is_viewed<R: Threads + Wait + Sync>(rt: &R, alloc: Global, row: &AnswerRow) -> Option<bool> {
     let problem = problem_of(alloc, row)?;
     let report = answer(rt, alloc, &problem, 0, true)?;
@@ -166,12 +166,12 @@ fn is_viewed<R: Threads + Wait + Sync>(rt: &R, alloc: Global, row: &AnswerRow) -
 }
 
 #[test]
-fn plans_for_people_are_told(rt: HostRuntime) {
+fn plans_for_people_are_answered(rt: HostRuntime) {
     let wrong = first_wrong(&rt, rt.alloc());
     assert!(rt; wrong.is_none(), "row {}", wrong.unwrap_or(0));
 }
 
 #[test]
-fn reports_are_accepted(rt: HostRuntime) {
+fn reports_for_people_are_accepted_and_viewed(rt: HostRuntime) {
     assert!(rt; is_viewed(&rt, rt.alloc(), &ANSWERS[2]) == Some(true));
 }

@@ -4,7 +4,7 @@ use plan_progress::{Teller, TellingGate};
 use std::alloc::Global;
 use std::cell::Cell;
 
-/// One that counts the lines that it is told, and how many of them are this one.
+/// A teller that counts the lines that it is told, and how many of them are one expected line.
 #[derive(Drop)]
 struct Listener {
     line: &'static [u8],
@@ -21,7 +21,7 @@ impl Teller for Listener {
     }
 }
 
-/// One that waits for a line.
+/// A teller that expects this line.
 fn waiting_for(line: &'static [u8]) -> Listener {
     Listener {
         line,
@@ -30,7 +30,7 @@ fn waiting_for(line: &'static [u8]) -> Listener {
     }
 }
 
-/// The end of a round with two cuts that are worth 18.000.
+/// The figures at the end of a round with two cuts that are worth 18.000.
 const ROUND: RoundFigures = RoundFigures {
     round: 1,
     cuts: 2,
@@ -39,14 +39,14 @@ const ROUND: RoundFigures = RoundFigures {
     routed: 4,
 };
 
-/// Its line.
+/// The line of that round.
 const ROUND_LINE: &[u8] = b"round 1: 2 cuts, worth 18.000, 4 states carried\n";
 
-/// How many splits a tree may have, how many it has, whether the gate is quiet, how many lines are told of them, and one of these lines.
+/// How many splits a tree may have, how many it makes, whether the gate is quiet, how many lines are told of them, and one of these lines.
 type SplitRow = (u32, u32, bool, u64, &'static [u8]);
 
-/// A line is told at each tenth: at each tenth split of 100, at each of 5, and at the splits 1,000 to 9,000 and 9,999 of 9,999. The gap of a
-/// plan of 30.000 and a bound of 28.000 is two thirtieths.
+/// A line is told at each tenth: at each tenth split of 100, at each of 5, and at the splits 1,000, 2,000 and so on to 9,000, and 9,999 of
+/// 9,999. The gap of a plan of 30.000 with a bound of 28.000 is two thirtieths.
 const SPLITS: [SplitRow; 8] = [
     (100, 9, false, 0, b""),
     (
@@ -88,7 +88,7 @@ const SPLITS: [SplitRow; 8] = [
     (0, 0, false, 0, b""),
 ];
 
-/// Whether as many lines are told of the splits as the row says, and the line of the row is among them where there is one.
+/// Whether as many lines are told of the splits as the row says, among them the line of the row, if it has one.
 fn is_told(alloc: Global, row: &SplitRow) -> bool {
     let listener = waiting_for(row.4);
     let gate = TellingGate::new(alloc, Places::Three, row.2, &listener);
@@ -104,7 +104,7 @@ fn is_told(alloc: Global, row: &SplitRow) -> bool {
     listener.lines.get() == row.3 && (listener.same.get() == 1) == (row.3 > 0)
 }
 
-/// How many lines of the round are told.
+/// How many lines are told of the round.
 fn rounds_told(alloc: Global, quiet: bool) -> u64 {
     let listener = waiting_for(ROUND_LINE);
     let gate = TellingGate::new(alloc, Places::Three, quiet, &listener);

@@ -8,16 +8,16 @@ use std::alloc::Global;
 use std::sync::Wait;
 use std::thread::Threads;
 
-/// Which fetch and which put fails, counted from 0, and how many bytes there is room for.
+/// Which fetch and which put fail, counted from 0, and for how many bytes there is room.
 pub(crate) type Faults = (u32, u32, u64);
 
-/// Words, what fails, and how the run ends: its status, what it prints, and what it says beside.
+/// Words, what fails, and how the run ends: its status, what it prints, and its message.
 pub(crate) type Row = (&'static str, Faults, Status, &'static str, &'static str);
 
-/// How a run ends: its status, what it prints, and what it says beside.
+/// How a run ends: its status, what it prints, and its message.
 pub(crate) type End<'a> = (Status, &'a [u8], &'a [u8]);
 
-/// Whether a run over these ends like this.
+/// Whether a run of these words over these files ends like this.
 fn ends_so<R: Threads + Wait + Sync>(
     rt: &R,
     alloc: Global,
@@ -39,7 +39,7 @@ fn ends_so<R: Threads + Wait + Sync>(
     status == end.0 && out.bytes() == end.1 && beside.bytes() == end.2
 }
 
-/// Whether a run over a shelf ends like this where this put fails and there is room for this many bytes; nothing where there is no memory.
+/// Whether a run over a shelf ends like this if this put fails and there is room for this many bytes; `None` if memory runs out.
 pub(crate) fn ends_with<R: Threads + Wait + Sync>(
     rt: &R,
     alloc: Global,
@@ -53,7 +53,7 @@ pub(crate) fn ends_with<R: Threads + Wait + Sync>(
     Some(ends_so(rt, alloc, words, shelf, out, beside, end))
 }
 
-/// Whether the words of a row end as it says; nothing where there is no memory.
+/// Whether the words of a row end as the row says; `None` if memory runs out.
 pub(crate) fn comes_to<R: Threads + Wait + Sync>(rt: &R, alloc: Global, row: &Row) -> Option<bool> {
     let words = words_of(alloc, row.0)?;
     let shelf = shelf_with(alloc, all_files(alloc)?, &[row.1.0])?;

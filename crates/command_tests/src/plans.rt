@@ -259,7 +259,8 @@ tight 1 ( 0 0 12000001 )
 )
 ";
 
-/// The report of a session in which a demand outgrows the pre-installed capacity of its link, which then takes a module and pays its setup.
+/// The report of a session in which a demand outgrows the pre-installed capacity of its link, which then needs a module and pays for its
+/// setup.
 pub(crate) const RAISED_REPORT: &str = "?planner report; version: 1
 NOTES ( )
 JOURNAL ( ( 1 cut 0 )
@@ -514,10 +515,10 @@ OUTCOMES ( PLAN ( caller 1 plan 1 version 0 position 0 DEMANDS ( D1 ( A C )
 12.000 )
 cost 10.000 bound ";
 
-/// Words, the number of a fetch and of a put that fail, and the status, the text and the counts of faults after it.
+/// Words, the numbers of a fetch and a put that fail, and the status, the text and the counts of faults at the end.
 type Faulty = (&'static str, u32, u32, Status, &'static str, (u64, u64));
 
-/// Runs of which one fetch or one put fails.
+/// Runs in which one fetch or one put fails.
 const FAULTY: [Faulty; 3] = [
     ("plan triangle", 0, 0, Status::ReadFault, "", (1, 0)),
     (

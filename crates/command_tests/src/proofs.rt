@@ -4,7 +4,8 @@ use planner_commands::Status;
 use std::sync::Wait;
 use std::thread::Threads;
 
-/// Words of a proof, the words that check its report, the cost, the least and the greatest number of splits, and what the last line may be.
+/// Words of a proof, the words that check its report, the cost, the least and the greatest number of splits, and the last lines that are
+/// right.
 type Proof = (
     &'static str,
     &'static str,
@@ -13,9 +14,9 @@ type Proof = (
     &'static [&'static str],
 );
 
-/// Plans with their branch trees. Of each of the triangle's three modules six whole numbers cost less than 30.000, so that a tree has fewer
-/// splits than 7 times 7 times 7. Between four parallel links the bound of 14.000 closes the whole box. With one split of the triangle there
-/// is a leaf that no certificate closes.
+/// Plans with their branch trees. For each of the triangle's three modules six numbers, from 0 on, cost less than 30.000, so that a tree
+/// has fewer splits than 7 times 7 times 7. For four parallel links the bound of 14.000 closes the whole box. With one split of the
+/// triangle there is a leaf that no certificate closes.
 const PROOFS: [Proof; 3] = [
     (
         "prove 343 triangle reconfigure",
@@ -40,7 +41,7 @@ const PROOFS: [Proof; 3] = [
     ),
 ];
 
-/// How many lines begin so.
+/// How many lines begin with this.
 fn lines_with(text: &str, front: &str) -> usize {
     text.lines().filter(|line| line.starts_with(front)).count()
 }
@@ -53,7 +54,7 @@ fn ends_with(text: &str, lasts: &[&str]) -> bool {
     }
 }
 
-/// Whether the text of a row has what it says, and its report is accepted.
+/// Whether the text of a row contains what the row says, and its report is accepted.
 fn proves<R: AllocGlobal + Threads + Wait + Sync>(rt: &R, row: &Proof) -> bool {
     let (words, check, cost, (least, most), lasts) = *row;
     let Some(run) = run_words(rt, words, &[], &[], &[]) else {
@@ -78,7 +79,7 @@ fn plans_are_proved_cheapest(rt: HostRuntime) {
     }
 }
 
-/// Words of a proof that gives none, how many files they fetch, and the status and the text with which they end.
+/// Words of a proof that fails, how many files they fetch, and the status and the text with which they end.
 type Row = (&'static str, u32, Status, &'static str);
 
 const REFUSALS: [Row; 9] = [

@@ -7,7 +7,7 @@ use std::alloc::Global;
 use std::sync::Wait;
 use std::thread::Threads;
 
-/// How a run ended, what it wrote, and how often the shelf and the sink failed.
+/// How a run ended: its status, what it wrote, and how often the shelf and the sink failed.
 #[derive(Drop)]
 pub(crate) struct Ended {
     pub(crate) status: Status,
@@ -16,7 +16,7 @@ pub(crate) struct Ended {
 }
 
 impl Ended {
-    /// Whether the run ended so.
+    /// Whether the run ended with this status, this text and these counts of faults.
     pub(crate) fn is(&self, status: Status, text: &[u8], faults: (u64, u64)) -> bool {
         self.status == status && self.out.bytes() == text && self.faults == faults
     }
@@ -29,7 +29,7 @@ impl Ended {
         rest.strip_suffix("\n") == Some(end) && self.status == status && self.faults == (0, 0)
     }
 
-    /// What it wrote, and nothing where that isn't text.
+    /// What the run wrote; empty if that isn't text.
     pub(crate) fn text(&self) -> &str {
         str::from_utf8(self.out.bytes()).unwrap_or("")
     }
@@ -44,13 +44,13 @@ pub(crate) fn words_of(alloc: Global, words: &str) -> Option<Vec<String>> {
     Some(list)
 }
 
-/// A shelf of files, of which the fetches of these numbers fail, counted from 0.
+/// A shelf of files, whose fetches of these numbers fail, counted from 0.
 pub(crate) fn shelf_with(alloc: Global, files: List<MemFile>, fetches: &[u32]) -> Option<MemShelf> {
     let failing = List::from_slice(alloc, fetches).ok()?;
     have_different_names(files.items()).then(|| MemShelf::new(files, failing))
 }
 
-/// An empty sink with room for this many bytes, of which the puts of these numbers fail, counted from 0.
+/// An empty sink with room for this many bytes, whose puts of these numbers fail, counted from 0.
 pub(crate) fn sink_of(alloc: Global, room: u64, puts: &[u32]) -> Option<MemSink> {
     let failing = List::from_slice(alloc, puts).ok()?;
     MemSink::new(alloc, room, failing).ok()
@@ -72,7 +72,7 @@ fn carry_out<R: AllocGlobal + Threads + Wait + Sync>(
     }
 }
 
-/// Runs words over all files and these, where the fetches and puts of these numbers fail, counted from 0.
+/// Runs words over all files and the given ones, where the fetches and puts of these numbers fail, counted from 0.
 fn run_over<R: AllocGlobal + Threads + Wait + Sync>(
     rt: &R,
     words: &[String],
@@ -85,7 +85,7 @@ fn run_over<R: AllocGlobal + Threads + Wait + Sync>(
     Some(carry_out(rt, words, shelf, sink_of(alloc, 4000000, puts)?))
 }
 
-/// Runs these words over all files and these, where the fetches and puts of these numbers fail, counted from 0.
+/// Runs words over all files and the given ones, where the fetches and puts of these numbers fail, counted from 0.
 pub(crate) fn run_words<R: AllocGlobal + Threads + Wait + Sync>(
     rt: &R,
     words: &str,

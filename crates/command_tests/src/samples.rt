@@ -3,7 +3,7 @@ use planner_commands::Status;
 use std::sync::Wait;
 use std::thread::Threads;
 
-/// The summary of the sample of 8 nodes that is drawn from 7.
+/// The summary of the sample of 8 nodes with the seed 7.
 const OF_8_NODES: &str = "sample 7 8
 nodes 8 links 12 demands 28 states 13
 cost 978.000
@@ -12,7 +12,7 @@ raw 3869385800 9641
 quality tight
 ";
 
-/// The summary of the sample of 12 nodes that is drawn from 7.
+/// The summary of the sample of 12 nodes with the seed 7.
 const OF_12_NODES: &str = "sample 7 12
 nodes 12 links 18 demands 66 states 19
 cost 2166.000
@@ -28,7 +28,7 @@ const SAMPLES: [(&str, &str); 3] = [
     ("sample 7 12", OF_12_NODES),
 ];
 
-/// Words of a sample, and the end of its summary: the least cost of fractional modules, rounded up and as it is.
+/// Words of a sample, and the end of its summary: the least cost of fractional modules, rounded up to what costs can be, and as it is.
 const TIGHT_SAMPLES: [(&str, &str); 10] = [
     (
         "sample 1 6",
@@ -72,7 +72,7 @@ const TIGHT_SAMPLES: [(&str, &str); 10] = [
     ),
 ];
 
-/// Whether the summary of a sample ends so.
+/// Whether the summary of a sample ends with this.
 fn ends_with<R: AllocGlobal + Threads + Wait + Sync>(rt: &R, words: &str, end: &str) -> bool {
     match run_words(rt, words, &[], &[], &[]) {
         Some(run) => run.status == Status::Done && run.text().ends_with(end),

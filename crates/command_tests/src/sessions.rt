@@ -6,7 +6,7 @@ use std::alloc::Global;
 use std::sync::Wait;
 use std::thread::Threads;
 
-/// The words before a command, of each caller.
+/// What each caller's commands begin with.
 const CALLERS: [&[u8]; 8] = [
     b"caller 1 ",
     b"caller 2 ",
@@ -18,7 +18,7 @@ const CALLERS: [&[u8]; 8] = [
     b"caller 8 ",
 ];
 
-/// Edits of the four towns' demands. Which of them are refused depends on those before.
+/// Edits of the four towns' demands. Which of them are refused depends on the ones before.
 const EDITS: [&[u8]; 7] = [
     b"set D1 24\n",
     b"add D4 ( Bonn Ulm ) 7.25\n",
@@ -72,14 +72,14 @@ fn sample_network(alloc: Global) -> Option<Bytes> {
     network_text(alloc, &net, &demands).ok()
 }
 
-/// Whether the text of a run has twenty tight plans with the raw value of a plan alone.
+/// Whether the text of a run has twenty tight plans with the raw value that a plan alone has.
 fn has_twenty_plans(run: &Ended) -> bool {
     let raw = run.text().matches(" raw 3869385800 9641 ").count();
     let tight = run.text().matches("\ntight ").count();
     run.status == Status::Done && raw == 20 && tight == 20
 }
 
-/// Whether twenty plans at once of the sample have the value of a plan alone, and the report is accepted.
+/// Whether twenty plans at once of the sample have the raw value that a plan alone has, and the report is accepted.
 fn twenty_plans_agree<R: AllocGlobal + Threads + Wait + Sync>(rt: &R) -> Option<bool> {
     let net = sample_network(rt.alloc())?;
     let files = [("sample", net.items()), ("twenty", TWENTY_PLANS)];
@@ -98,7 +98,7 @@ fn plans_at_once_have_the_value_of_a_plan_alone(rt: HostRuntime) {
 /// A script of one plan.
 const ONE_PLAN: &[u8] = b"?planner script; version: 1\ncaller 1 plan\n";
 
-/// Whether a session of one plan reports what a plan does.
+/// Whether a session of one plan reports the same as a plan.
 fn one_plan_agrees<R: AllocGlobal + Threads + Wait + Sync>(rt: &R) -> Option<bool> {
     let plan = run_words(rt, "plan parallel default single", &[], &[], &[])?;
     let files = [("one", ONE_PLAN)];

@@ -3,7 +3,7 @@ use planner_commands::Status;
 use std::sync::Wait;
 use std::thread::Threads;
 
-/// Words of a trimming, the words that check its report, the cost with the bound and the raw value, and how the comment lines begin.
+/// Words of a trimming, words that check its report, the cost with the bound and the raw value, and how the comment lines begin.
 type Trim = (
     &'static str,
     &'static str,
@@ -11,9 +11,8 @@ type Trim = (
     &'static [&'static str],
 );
 
-/// Trimmed plans. Between four parallel links, of which each may fail, 10 units need 14 modules: with 13 the three links that are left
-/// where the one with most fails have 9. In the triangle one module of two is too few for 12 units. Where modules are large, two links are
-/// enough.
+/// Trimmed plans. On four parallel links, each of which may fail, 10 units need 14 modules: with 13 of them at most 9 are left when the
+/// link with most fails. On the triangle one module of two is too few for 12 units. With large modules two links are enough.
 const TRIMS: [Trim; 7] = [
     (
         "trim triangle",
@@ -64,7 +63,7 @@ const TRIMS: [Trim; 7] = [
     ),
 ];
 
-/// Whether the lines that begin with `#` begin so, one after another.
+/// Whether the lines that begin with `#` begin like this, one after another.
 fn comments_begin(text: &str, fronts: &[&str]) -> bool {
     let mut found = 0;
     for line in text.lines() {
@@ -78,7 +77,7 @@ fn comments_begin(text: &str, fronts: &[&str]) -> bool {
     found == fronts.len()
 }
 
-/// Whether the text of a row has what it says, and its report is accepted.
+/// Whether the text of a row contains what the row says, and its report is accepted.
 fn trims<R: AllocGlobal + Threads + Wait + Sync>(rt: &R, row: &Trim) -> bool {
     let (words, check, cost, fronts) = *row;
     let Some(run) = run_words(rt, words, &[], &[], &[]) else {
