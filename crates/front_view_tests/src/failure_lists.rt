@@ -46,7 +46,7 @@ fn is_list(alloc: Global, net: &Network, text: &Bytes, row: &ListRow) -> Option<
     Some(text.items() == row.1 && states.count() == row.2)
 }
 
-/// Whether the list of a row is as wanted.
+/// Whether the list of a row is the expected one.
 fn is_right(alloc: Global, row: &ListRow) -> Option<bool> {
     let net = network(alloc, 4, &LOLLIPOP).ok()?;
     match list(alloc, &net, row.0)? {
@@ -55,7 +55,7 @@ fn is_right(alloc: Global, row: &ListRow) -> Option<bool> {
     }
 }
 
-/// The first row whose list is another one.
+/// The first row whose list isn't the expected one.
 fn first_wrong(alloc: Global) -> Option<usize> {
     for i in 0..LISTS.len() {
         if is_right(alloc, &LISTS[i]) != Some(true) {

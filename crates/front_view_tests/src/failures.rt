@@ -1,6 +1,6 @@
 use crate::runs::Row;
 
-/// Parts of the failure list, others in their place, and the messages.
+/// Parts of the failure list, what replaces them, and the messages.
 pub(crate) const LISTS: [Row; 11] = [
     (
         b"?planner failures; version: 1",

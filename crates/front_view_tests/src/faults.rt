@@ -88,7 +88,7 @@ const FAULTS: [FaultRow; 8] = [
     },
 ];
 
-/// Whether the message of a row is as wanted.
+/// Whether the message of a row is the expected one.
 fn is_right(alloc: Global, row: &FaultRow) -> Result<bool, NoMemory> {
     if row.at > row.bytes.len() {
         return Ok(false);
@@ -98,7 +98,7 @@ fn is_right(alloc: Global, row: &FaultRow) -> Result<bool, NoMemory> {
     Ok(text.items() == row.message)
 }
 
-/// The first row whose message is another one.
+/// The first row whose message isn't the expected one.
 fn first_wrong(alloc: Global) -> Option<usize> {
     for i in 0..FAULTS.len() {
         if is_right(alloc, &FAULTS[i]) != Ok(true) {

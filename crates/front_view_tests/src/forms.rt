@@ -108,7 +108,7 @@ fn text_of(alloc: Global, p: &Problem, row: &Row) -> Result<Bytes, Halt> {
     }
 }
 
-/// Whether the report of a row has the text that the row says; nothing where there is no memory.
+/// Whether the report of a row has the text that the row says; `None` if memory runs out.
 fn has_text(alloc: Global, row: &Row) -> Option<bool> {
     let p = worked(alloc)?;
     match text_of(alloc, &p, row) {

@@ -77,7 +77,7 @@ const HEADERS: [(FileFormat, &[u8], &str); 17] = [
     (FileFormat::Network, b"?SNDlib native format; type: net", ""),
 ];
 
-/// The first row whose guess is another one.
+/// The first row whose guess isn't the expected one.
 fn first_wrong() -> Option<usize> {
     for i in 0..HEADERS.len() {
         if header_guess(HEADERS[i].0, HEADERS[i].1).unwrap_or("") != HEADERS[i].2 {

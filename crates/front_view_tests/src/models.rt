@@ -1,6 +1,6 @@
 use crate::runs::Row;
 
-/// Parts of the model, others in their place, and the messages.
+/// Parts of the model, what replaces them, and the messages.
 pub(crate) const MODELS: [Row; 11] = [
     (
         b"?SNDlib native format; type: model; version: 1.0",
@@ -115,7 +115,7 @@ refused model unsupported-LINK_CAPACITY_MODEL at 121
     ),
 ];
 
-/// Parts of the model, others in their place, and the messages: further aspects.
+/// Parts of the model, what replaces them, and the messages: further aspects.
 pub(crate) const OTHER_MODELS: [Row; 11] = [
     (
         b"\nLINK_CAPACITY_MODEL = MODULAR_CAPACITIES\n",

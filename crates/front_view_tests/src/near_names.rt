@@ -29,13 +29,13 @@ fn names_of(alloc: Global, row: &NameRow) -> Result<List<Bytes>, NoMemory> {
     Ok(names)
 }
 
-/// Whether the nearest name of a row is as wanted.
+/// Whether the nearest name of a row is the expected one.
 fn is_right(alloc: Global, row: &NameRow) -> Result<bool, NoMemory> {
     let names = names_of(alloc, row)?;
     Ok(nearest_name(alloc, row.0, names.items())? == row.2)
 }
 
-/// The first row whose nearest name is another one.
+/// The first row whose nearest name isn't the expected one.
 fn first_wrong(alloc: Global) -> Option<usize> {
     for i in 0..NAMES.len() {
         if is_right(alloc, &NAMES[i]) != Ok(true) {
@@ -66,7 +66,7 @@ const NOTES: [NoteRow; 4] = [
     (b"Berlin # Berlni", 7, b""),
 ];
 
-/// Whether the line of a row is as wanted.
+/// Whether the line of a row is the expected one.
 fn is_note(alloc: Global, row: &NoteRow) -> Result<bool, NoMemory> {
     if row.1 > row.0.len() {
         return Ok(false);
@@ -76,7 +76,7 @@ fn is_note(alloc: Global, row: &NoteRow) -> Result<bool, NoMemory> {
     Ok(text.items() == row.2)
 }
 
-/// The first row whose line is another one.
+/// The first row whose line isn't the expected one.
 fn first_wrong_note(alloc: Global) -> Option<usize> {
     for i in 0..NOTES.len() {
         if is_note(alloc, &NOTES[i]) != Ok(true) {
@@ -114,7 +114,7 @@ fn two_words(alloc: Global, shared: usize) -> Result<Bytes, NoMemory> {
     Ok(text)
 }
 
-/// Whether the line of two long words is as wanted.
+/// Whether the line of two long words is the expected one.
 fn is_long_note(alloc: Global, shared: usize, at: usize, note: &[u8]) -> Result<bool, NoMemory> {
     let words = two_words(alloc, shared)?;
     if at > words.len() {
@@ -125,7 +125,7 @@ fn is_long_note(alloc: Global, shared: usize, at: usize, note: &[u8]) -> Result<
     Ok(text.items() == note)
 }
 
-/// The first row of long words whose line is another one.
+/// The first row of long words whose line isn't the expected one.
 fn first_wrong_long(alloc: Global) -> Option<usize> {
     for i in 0..LONG.len() {
         if is_long_note(alloc, LONG[i].0, LONG[i].1, LONG[i].2) != Ok(true) {

@@ -1,6 +1,6 @@
 use crate::runs::Row;
 
-/// Parts of the network, others in their place, and the messages: its first line.
+/// Parts of the network, what replaces them, and the messages: its first line.
 pub(crate) const FIRST_LINES: [Row; 9] = [
     (
         b"?SNDlib native format; type: network; version: 1.0",
@@ -109,7 +109,7 @@ refused network header at 0
     ),
 ];
 
-/// Parts of the network, others in their place, and the messages: sections, cut files, and words and parentheses.
+/// Parts of the network, what replaces them, and the messages: sections, cut files, and words and parentheses.
 pub(crate) const SECTIONS: [Row; 14] = [
     (
         b"NODES ( Aachen Berlin Celle )\n",
@@ -268,7 +268,7 @@ refused network token at 103
     ),
 ];
 
-/// Parts of the network, others in their place, and the messages: numbers.
+/// Parts of the network, what replaces them, and the messages: numbers.
 pub(crate) const NUMBERS: [Row; 10] = [
     (
         b"1 12.00",
@@ -382,7 +382,7 @@ refused network number-large at 269
     ),
 ];
 
-/// Parts of the network, others in their place, and the messages: names, ends and limits.
+/// Parts of the network, what replaces them, and the messages: names, ends and limits.
 pub(crate) const NAMES: [Row; 14] = [
     (
         b"AB ( Aachen Berlin )",

@@ -94,7 +94,7 @@ fn picture_of(
     view_report(alloc, "triangle.txt", "report", p, row.0.as_bytes(), form)
 }
 
-/// Whether the report of a row has the picture that the row says; nothing where there is no memory.
+/// Whether the report of a row has the picture that the row says; `None` if memory runs out.
 fn has_picture(alloc: Global, row: &Row) -> Option<bool> {
     let p = worked(alloc)?;
     let places = node_places(alloc, row.1.as_bytes()).ok()?;

@@ -28,7 +28,7 @@ const PLACES: [PlaceRow; 21] = [
     (b"\xef\xbb\xbf\xe2\x82\xac\xf0\x9f\x98\x80x", 10, 1, 4),
 ];
 
-/// Whether the place of a row is as wanted.
+/// Whether the place of a row is the expected one.
 fn is_right(row: &PlaceRow) -> bool {
     row.1 <= row.0.len()
         && place_of(row.0, row.1)
@@ -38,7 +38,7 @@ fn is_right(row: &PlaceRow) -> bool {
             }
 }
 
-/// The first row whose place is another one.
+/// The first row whose place isn't the expected one.
 fn first_wrong() -> Option<usize> {
     for i in 0..PLACES.len() {
         if !is_right(&PLACES[i]) {

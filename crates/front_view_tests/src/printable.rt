@@ -113,7 +113,7 @@ fn text_of(alloc: Global, p: &Problem, row: &Row) -> Result<Bytes, Halt> {
     }
 }
 
-/// Whether the report has the text of a row; nothing where there is no memory.
+/// Whether the report has the text of a row; `None` if memory runs out.
 fn has_text(alloc: Global, row: &Row) -> Option<bool> {
     let p = named(alloc)?;
     match text_of(alloc, &p, row) {
@@ -122,7 +122,7 @@ fn has_text(alloc: Global, row: &Row) -> Option<bool> {
     }
 }
 
-/// The first row whose text is another.
+/// The first row whose text isn't the expected one.
 fn first_wrong(alloc: Global) -> usize {
     for i in 0..ROWS.len() {
         if has_text(alloc, &ROWS[i]) != Some(true) {

@@ -47,7 +47,7 @@ fn wanted(alloc: Global, row: &QuoteRow) -> Result<Bytes, NoMemory> {
     Ok(quote)
 }
 
-/// Whether the quote of a row is as wanted.
+/// Whether the quote of a row is the expected one.
 fn is_right(alloc: Global, row: &QuoteRow) -> Result<bool, NoMemory> {
     let word = word_of(alloc, row)?;
     let mut quote = List::new(alloc);
@@ -55,7 +55,7 @@ fn is_right(alloc: Global, row: &QuoteRow) -> Result<bool, NoMemory> {
     Ok(quote.items() == wanted(alloc, row)?.items())
 }
 
-/// The first row whose quote is another one.
+/// The first row whose quote isn't the expected one.
 fn first_wrong(alloc: Global) -> Option<usize> {
     for i in 0..QUOTES.len() {
         if is_right(alloc, &QUOTES[i]) != Ok(true) {

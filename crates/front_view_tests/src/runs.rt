@@ -30,7 +30,7 @@ fn changed(alloc: Global, base: &[u8], row: &Row) -> Option<Bytes> {
     Some(text)
 }
 
-/// Puts a file last.
+/// Appends a file.
 fn put(held: &mut List<MemFile>, alloc: Global, name: &str, bytes: &[u8]) -> Option<()> {
     let name = Name::new(alloc, name.as_bytes()).ok()?;
     let bytes = List::from_slice(alloc, bytes).ok()?;

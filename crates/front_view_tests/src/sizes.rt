@@ -16,19 +16,19 @@ const MOST: usize = 100_000;
 /// The names of the state without failures, and of that in which the first link fails.
 const STATES: [&str; 2] = ["none", "link_of_the_ring_100"];
 
-/// Puts the name of a node last, of 20 bytes; they are called from 100 on.
+/// Appends the name of a node, of 20 bytes; they are called from 100 on.
 fn put_node(text: &mut Bytes, n: u32) -> Option<()> {
     text.append(b" node_of_the_ring_").ok()?;
     put_decimal(text, 100 + u128::from(n)).ok()
 }
 
-/// Puts the name of a link last, of 20 bytes; they are called from 100 on.
+/// Appends the name of a link, of 20 bytes; they are called from 100 on.
 fn put_link(text: &mut Bytes, e: u32) -> Option<()> {
     text.append(b" link_of_the_ring_").ok()?;
     put_decimal(text, 100 + u128::from(e)).ok()
 }
 
-/// Puts all nodes of the network last.
+/// Appends all nodes of the network.
 fn put_nodes(text: &mut Bytes) -> Option<()> {
     for n in 0..NODES {
         put_node(text, n)?;
@@ -36,7 +36,7 @@ fn put_nodes(text: &mut Bytes) -> Option<()> {
     Some(())
 }
 
-/// Puts a link of the network last, with its ends and its modules: each is between a node and the next one of the ring.
+/// Appends a link of the network, with its ends and its modules: each is between a node and the next one of the ring.
 fn put_link_line(text: &mut Bytes, e: u32) -> Option<()> {
     put_link(text, e)?;
     text.append(b" (").ok()?;
@@ -45,7 +45,7 @@ fn put_link_line(text: &mut Bytes, e: u32) -> Option<()> {
     text.append(b" ) 0 0 0 0 ( 155 12345 622 45678 )").ok()
 }
 
-/// Puts all links of the network last.
+/// Appends all links of the network.
 fn put_link_lines(text: &mut Bytes) -> Option<()> {
     for e in 0..LINKS {
         put_link_line(text, e)?;
@@ -53,7 +53,7 @@ fn put_link_lines(text: &mut Bytes) -> Option<()> {
     Some(())
 }
 
-/// Puts a network of a ring of nodes last, of which each two neighbours have two links between them.
+/// Appends a network of a ring of nodes, of which each two neighbours have two links between them.
 fn put_network(text: &mut Bytes) -> Option<()> {
     text.append(b"?SNDlib native format; type: network; version: 1.0\nNODES (")
         .ok()?;
@@ -70,7 +70,7 @@ fn network_text(alloc: Global) -> Option<Bytes> {
     Some(text)
 }
 
-/// Puts 22 modules of each link last.
+/// Appends 22 modules of each link.
 fn put_modules(text: &mut Bytes) -> Option<()> {
     for e in 0..LINKS {
         put_link(text, e)?;
@@ -106,7 +106,7 @@ fn put_same_path(text: &mut Bytes, e: u32) -> Option<()> {
         .ok()
 }
 
-/// Puts the routings of all states last.
+/// Appends the routings of all states.
 fn put_routings(text: &mut Bytes) -> Option<()> {
     text.append(b" state 0 none 1 ( A 3000000 ( link_of_the_ring_100 ) )")
         .ok()?;

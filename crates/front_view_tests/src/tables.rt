@@ -54,7 +54,7 @@ fn table(alloc: Global, rows: &List<Row>) -> Result<Bytes, NoMemory> {
     Ok(text)
 }
 
-/// Puts rows of these cells last.
+/// Appends rows of these cells.
 fn put_rows(alloc: Global, rows: &mut List<Row>, cells: &[(&[u8], &[u8])]) -> Result<(), NoMemory> {
     for pair in cells {
         rows.push(row_of(alloc, *pair)?)?;
@@ -69,7 +69,7 @@ fn table_of(alloc: Global, cells: &[(&[u8], &[u8])]) -> Result<Bytes, NoMemory> 
     table(alloc, &rows)
 }
 
-/// Whether the small table is as wanted.
+/// Whether the small table is the expected one.
 fn is_table(alloc: Global) -> Result<bool, NoMemory> {
     Ok(table_of(alloc, &CELLS)?.items() == TABLE)
 }

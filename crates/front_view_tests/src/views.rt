@@ -204,7 +204,7 @@ pub(crate) fn worked(alloc: Global) -> Option<Problem> {
     problem(alloc, triangle(alloc, 0).ok()?, &[(0, 2, 12000)]).ok()
 }
 
-/// Puts lines last, where a part of them is replaced once.
+/// Appends lines, where a part of them is replaced once.
 fn put_lines(text: &mut Bytes, lines: &str, part: (&str, &str)) -> Result<(), NoMemory> {
     match lines.split_once(part.0) {
         Some((front, rest)) if part.0 != "-" => {
@@ -233,7 +233,7 @@ fn has_part(text: &[u8], part: &[u8]) -> bool {
     false
 }
 
-/// Whether the result of a view is what a row says; nothing where there is no memory.
+/// Whether the result of a view is what a row says; `None` if memory runs out.
 fn is_told(found: &Result<Bytes, Halt>, row: &Row) -> Option<bool> {
     match found {
         Ok(view) => Some(row.3 == Status::Done && has_part(view.items(), row.4.as_bytes())),
@@ -250,14 +250,14 @@ fn viewed(alloc: Global, p: &Problem, report: &[u8]) -> Result<Bytes, Halt> {
     view_report(alloc, "data/triangle.txt", "report", p, report, tables)
 }
 
-/// Whether the report of a row gives the row's result on the triangle that is lent; nothing where there is no memory.
+/// Whether the report of a row gives the row's result on the triangle that is lent; `None` if memory runs out.
 fn comes_to_on(alloc: Global, p: &Problem, row: &Row) -> Option<bool> {
     let text = text_of(alloc, row).ok()?;
     let found = viewed(alloc, p, text.items());
     is_told(&found, row)
 }
 
-/// Whether the report of a row gives the row's result; nothing where there is no memory.
+/// Whether the report of a row gives the row's result; `None` if memory runs out.
 fn comes_to(alloc: Global, row: &Row) -> Option<bool> {
     let p = worked(alloc)?;
     comes_to_on(alloc, &p, row)

@@ -58,7 +58,7 @@ fn put_lines(text: &mut Bytes, row: &WindowRow) -> Result<usize, NoMemory> {
     Ok(at)
 }
 
-/// Whether the window of a row is as wanted.
+/// Whether the window of a row is the expected one.
 fn is_right(alloc: Global, row: &WindowRow) -> Result<bool, NoMemory> {
     let mut text = List::new(alloc);
     let at = put_lines(&mut text, row)?;
@@ -69,7 +69,7 @@ fn is_right(alloc: Global, row: &WindowRow) -> Result<bool, NoMemory> {
     Ok(window.from.checked_add(row.2.0) == Some(at) && at.checked_add(row.2.1) == Some(window.to))
 }
 
-/// The first row whose window is another one.
+/// The first row whose window isn't the expected one.
 fn first_wrong(alloc: Global) -> Option<usize> {
     for i in 0..WINDOWS.len() {
         if is_right(alloc, &WINDOWS[i]) != Ok(true) {

@@ -132,7 +132,7 @@ const DAMAGED_LINES: [Damaged; 19] = [
     (7, b"# above\n", 249, "ended"),
 ];
 
-/// The place and the kind of the first fault of a text's tree; none where memory runs out.
+/// The place and the kind of the first fault of a text's tree; `None` if memory runs out.
 fn fault_of(alloc: Global, p: &Problem, text: &[u8]) -> Option<(u64, &'static str)> {
     match read(alloc, p, text) {
         Ok(_) => Some((0, "read")),

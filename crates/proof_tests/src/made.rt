@@ -58,14 +58,14 @@ fn are_cuts(found: &[CutLine], rows: &[CutRow]) -> bool {
     found.len() == rows.len()
 }
 
-/// Whether the further cuts of a row are found on a network; none where memory is out.
+/// Whether the further cuts of a row are found on a network; `None` if memory runs out.
 fn are_sets_found_on(alloc: Global, instance: &Instance, row: &SetsRow) -> Option<bool> {
     let known = cuts(alloc, row.0).ok()?;
     let found = set_cuts(alloc, instance, known.items()).ok()?;
     Some(are_cuts(found.items(), row.1))
 }
 
-/// Whether the further cuts of a row are found; none where memory is out.
+/// Whether the further cuts of a row are found; `None` if memory runs out.
 fn are_sets_found(alloc: Global, row: &SetsRow) -> Option<bool> {
     let p = problem_of(alloc, Tried::Triangle)?;
     are_sets_found_on(alloc, &instance_of(&p), row)
@@ -312,7 +312,7 @@ fn are_lines(found: &[Line], rows: &[LineRow]) -> bool {
     found.len() == rows.len()
 }
 
-/// Whether these narrow lines are made of lines; none where memory is out.
+/// Whether these narrow lines are made of lines; `None` if memory runs out.
 fn are_narrow_of(
     alloc: Global,
     instance: &Instance,
@@ -323,14 +323,14 @@ fn are_narrow_of(
     Some(are_lines(found.items(), made))
 }
 
-/// Whether a row's narrow lines are made on a network; none where memory is out.
+/// Whether a row's narrow lines are made on a network; `None` if memory runs out.
 fn are_narrow_on(alloc: Global, instance: &Instance, row: &NarrowRow) -> Option<bool> {
     let (given, made) = row;
     let all = tested(alloc, instance, given.cuts, given.lines)?;
     are_narrow_of(alloc, instance, all.items(), made)
 }
 
-/// Whether a row's narrow lines are made; none where memory is out.
+/// Whether a row's narrow lines are made; `None` if memory runs out.
 fn are_narrow_made(alloc: Global, row: &NarrowRow) -> Option<bool> {
     let p = problem_of(alloc, row.0.tried)?;
     are_narrow_on(alloc, &instance_of(&p), row)
@@ -349,7 +349,7 @@ fn parts(alloc: Global, rows: &[(usize, usize, u128)]) -> Option<List<Part>> {
     Some(point)
 }
 
-/// Whether a row's table lines are made of lines at a point; none where memory is out.
+/// Whether a row's table lines are made of lines at a point; `None` if memory runs out.
 fn are_tables_at(
     alloc: Global,
     instance: &Instance,
@@ -369,7 +369,7 @@ fn are_tables_at(
     Some(are_lines(found.items(), made))
 }
 
-/// Whether a row's table lines are made of lines; none where memory is out.
+/// Whether a row's table lines are made of lines; `None` if memory runs out.
 fn are_tables_of(
     alloc: Global,
     instance: &Instance,
@@ -380,7 +380,7 @@ fn are_tables_of(
     are_tables_at(alloc, instance, all, point.items(), row)
 }
 
-/// Whether a row's table lines are made on a network; none where memory is out.
+/// Whether a row's table lines are made on a network; `None` if memory runs out.
 fn are_tables_on(
     alloc: Global,
     instance: &Instance,
@@ -391,13 +391,13 @@ fn are_tables_on(
     are_tables_of(alloc, instance, all.items(), row)
 }
 
-/// Whether a row's table lines are made of what is given; none where memory is out.
+/// Whether a row's table lines are made of what is given; `None` if memory runs out.
 fn are_tables_over(alloc: Global, given: &Given, row: &TableRow) -> Option<bool> {
     let p = problem_of(alloc, given.tried)?;
     are_tables_on(alloc, &instance_of(&p), given, row)
 }
 
-/// Whether a row's table lines are made; none where memory is out.
+/// Whether a row's table lines are made; `None` if memory runs out.
 fn are_tables_made(alloc: Global, row: &TableRow) -> Option<bool> {
     match row.0 {
         Place::Triangle => are_tables_over(alloc, &TRIANGLE, row),

@@ -285,7 +285,7 @@ const COUNTS: [Many; 5] = [
     (ROUTES, b"state 0 none 1(", 65536, b"D ", 1, b"(a)", b"D"),
 ];
 
-/// Puts an element with its number last.
+/// Appends an element with its number.
 fn put_element(text: &mut Bytes, before: &[u8], number: u32, after: &[u8]) -> Option<()> {
     text.append(before).ok()?;
     put_decimal(text, u128::from(number)).ok()?;

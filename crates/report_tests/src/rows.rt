@@ -11,7 +11,7 @@ pub(crate) type StateWant = (&'static [LinkId], u128, Option<LinkId>, u32, u32);
 /// What a link carries in a state, and the use there in per cent.
 pub(crate) type LoadWant = (u128, u32);
 
-/// Whether the row at a place is as wanted.
+/// Whether the row at a place is the expected one.
 fn is_link_row(at: usize, row: &LinkRow, want: &LinkWant) -> bool {
     row.link.0 as usize == at
         && row.capacity == want.0
@@ -22,7 +22,7 @@ fn is_link_row(at: usize, row: &LinkRow, want: &LinkWant) -> bool {
         && row.cost == want.5
 }
 
-/// Whether the row at a place is as wanted.
+/// Whether the row at a place is the expected one.
 fn is_state_row(at: usize, row: &StateRow, want: &StateWant) -> bool {
     row.state.0 as usize == at
         && row.failed.items() == want.0
@@ -37,7 +37,7 @@ fn is_load_row(at: usize, row: &LoadRow, want: &LoadWant) -> bool {
     row.link.0 as usize == at && row.load == want.0 && row.used == want.1
 }
 
-/// Whether all rows are as wanted.
+/// Whether all rows are the expected ones.
 pub(crate) fn are_link_rows(rows: &[LinkRow], wants: &[LinkWant]) -> bool {
     for at in 0..wants.len() {
         match rows.get(at) {
@@ -48,7 +48,7 @@ pub(crate) fn are_link_rows(rows: &[LinkRow], wants: &[LinkWant]) -> bool {
     rows.len() == wants.len()
 }
 
-/// Whether all rows are as wanted.
+/// Whether all rows are the expected ones.
 pub(crate) fn are_state_rows(rows: &[StateRow], wants: &[StateWant]) -> bool {
     for at in 0..wants.len() {
         match rows.get(at) {
@@ -59,7 +59,7 @@ pub(crate) fn are_state_rows(rows: &[StateRow], wants: &[StateWant]) -> bool {
     rows.len() == wants.len()
 }
 
-/// Whether all rows are as wanted.
+/// Whether all rows are the expected ones.
 pub(crate) fn are_load_rows(rows: &[LoadRow], wants: &[LoadWant]) -> bool {
     for at in 0..wants.len() {
         match rows.get(at) {

@@ -214,7 +214,7 @@ fn is_accepted(alloc: Global, instance: &Instance, plan: &Plan) -> bool
     }
 }
 
-/// Whether the rows of a sound plan are as wanted.
+/// Whether the rows of a sound plan are the expected ones.
 fn are_seen(alloc: Global, instance: &Instance, plan: &Plan, worked: &Worked) -> Option<bool>
     requires { IsSoundPlan (case_of instance.now) plan.now }
 {
@@ -233,7 +233,7 @@ fn are_seen(alloc: Global, instance: &Instance, plan: &Plan, worked: &Worked) ->
     )
 }
 
-/// Whether a check accepts the plan, and its rows are as wanted.
+/// Whether a check accepts the plan, and its rows are the expected ones.
 fn is_seen(alloc: Global, instance: &Instance, plan: &Plan, worked: &Worked) -> Option<bool>
     requires { IsPlanInForm (known_to (case_of instance.now)) plan.now }
 {
@@ -244,7 +244,7 @@ fn is_seen(alloc: Global, instance: &Instance, plan: &Plan, worked: &Worked) -> 
     }
 }
 
-/// Whether what people read of a row's plan for an instance is as wanted.
+/// Whether what people read of a row's plan for an instance is the expected one.
 fn is_right_for(alloc: Global, instance: &Instance, worked: &Worked) -> Option<bool> {
     let text = worked.report.as_bytes();
     let report = read_report(alloc, instance.net, instance.states, text).ok()?;
@@ -254,7 +254,7 @@ fn is_right_for(alloc: Global, instance: &Instance, worked: &Worked) -> Option<b
     }
 }
 
-/// Whether what people read of a row's plan is as wanted.
+/// Whether what people read of a row's plan is the expected one.
 fn is_right(alloc: Global, worked: &Worked) -> Option<bool> {
     let p = problem_of(alloc, worked)?;
     is_right_for(alloc, &p.instance(), worked)
