@@ -1,9 +1,9 @@
 #!/usr/bin/env python3
-"""Draws the house of crates from crates.txt, and tests that it stands.
+"""Draws the house of crates from crates.txt, and tests that no edge of it goes up.
 
 crates.txt has a line for each crate, under headings that are the storeys of the house, lowest first. This writes crates/README.md,
 one line a crate under the same headings by the //! lines of its root file, and the picture in docs/ARCHITECTURE.md. It fails where
-a crate stands on one of a later line, where no file of a crate names a library that it is said to stand on, where a crate has no
+a crate depends on one of a later line, where no file of a crate names a library that crates.txt gives it, where a crate has no
 line, and where there are too many ways down the house. With --check it writes nothing, and fails also where one of the two files is out of date.
 """
 
@@ -54,7 +54,7 @@ def levels_of(crates):
 
     def level(name, above):
         if name in above:
-            sys.exit("these crates stand on each other: " + " ".join(above[above.index(name):] + (name,)))
+            sys.exit("these crates depend on each other: " + " ".join(above[above.index(name):] + (name,)))
         if name not in levels:
             below = [library for library in crates[name].libraries if library in crates]
             levels[name] = max((level(library, above + (name,)) + 1 for library in below), default=0)
@@ -94,9 +94,9 @@ def faults_of(crates):
         text = text_of(crate)
         for library in crate.libraries:
             if library in crates and crates[library].place >= crate.place:
-                faults.append(f"{crate.name} stands on {library}, which has a later line")
+                faults.append(f"{crate.name} depends on {library}, which has a later line")
             if not names(text, library):
-                faults.append(f"{crate.name} is said to stand on {library}, and no file of it names that")
+                faults.append(f"crates.txt gives {crate.name} the library {library}, and no file of it names that")
     for folder in sorted((TOP / "crates").iterdir()):
         if (folder / "src").is_dir() and folder.name not in crates:
             faults.append(f"{folder.name} has no line in crates.txt")
@@ -127,8 +127,8 @@ def storeys_of(crates):
 def list_of(crates):
     """The text of crates/README.md."""
     lines = ["# The crates", ""]
-    lines += ["One line each, in the order of `crates.txt`: a crate stands only on crates of earlier lines. `bench/house.py` writes",
-              "this page, by the first sentence of each crate's root file."]
+    lines += ["One line each, in the order of `crates.txt`: a crate depends only on crates of earlier lines. `bench/house.py` writes",
+              "this page from the first paragraph of each crate's root file."]
     for heading, members in storeys_of(crates).items():
         lines += ["", f"## {heading}", ""]
         lines += [f"- [{crate.name}]({crate.name}): {sentence_of(crate)}" for crate in members]
