@@ -11,7 +11,7 @@ mod short_paths;
 
 mod metric_cut {
     pub mod cut;
-    mod keep;
+    mod kept_lengths;
 
     pub use cut::{Cut, CutFault};
 }

@@ -19,7 +19,7 @@ impl net_core::Copied for simplex_core::columns::Entry {
 
 mod metric_cut {
     pub mod cut;
-    pub mod keep;
+    pub mod kept_lengths;
 
     pub use cut::{Cut, CutFault};
 }

@@ -10,7 +10,7 @@ PLACES = [
     ("able_counts/able_test.rs", "        if let Some(line) = last_violated", "        crate::work(0);\n{}"),
     ("able_counts/able_test.rs", "            return Ok(Some(Stop::Cut(line)));\n", "            crate::work(1);\n{}"),
     ("able_counts/quick.rs", "        *routing = found;", "        crate::work(2);\n{}"),
-    ("able_counts/routed.rs", "    match warm.ask", "    crate::work(3);\n{}"),
+    ("able_counts/state_stop.rs", "    match warm.ask", "    crate::work(3);\n{}"),
     ("flow_router/route.rs", "    match solve_task", "    crate::work(4);\n{}"),
 ]
 

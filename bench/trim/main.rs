@@ -35,7 +35,7 @@ mod plan_types {
 
 mod metric_cut {
     pub mod cut;
-    pub mod keep;
+    pub mod kept_lengths;
     pub mod multiplier;
     pub mod openings;
     pub mod own_bounds;
@@ -44,7 +44,7 @@ mod metric_cut {
 
     
     pub use cut::{Cut, CutFault};
-    pub use keep::divisor_of_lengths;
+    pub use kept_lengths::divisor_of_lengths;
     pub use openings::opening;
     pub use own_bounds::{fixed_along, own_bound};
     pub use violation::violated_by;
