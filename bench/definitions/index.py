@@ -9,6 +9,7 @@ from pathlib import Path
 TOP = Path(__file__).resolve().parent.parent.parent
 HEAD = re.compile(r"^(?:pub )?(?:abbrev|unfoldable|opaque|record|data) (?:pub )?(?:\{[^}]*\} )?(\S+)")
 TITLE = "## Index of names\n"
+MOST_CHARACTERS = 1_000
 
 
 def defined_names():
@@ -41,6 +42,16 @@ def places_in(text, names):
     return places
 
 
+def items_of(entries):
+    """The entries of a letter, as items of a list that are not much longer than a paragraph should be."""
+    items = [""]
+    for entry in entries:
+        if len(items[-1]) + len(entry) > MOST_CHARACTERS:
+            items.append("")
+        items[-1] += (", " if items[-1] else "- ") + entry
+    return items
+
+
 def main():
     page = TOP / "docs" / "DEFINITIONS.md"
     text = page.read_text()
@@ -49,7 +60,7 @@ def main():
     lines = [TITLE, "With the section that explains each; `bench/definitions/index.py` writes this list.", ""]
     for letter in sorted({name[0].upper() for name in places}):
         entries = sorted((name for name in places if name[0].upper() == letter), key=str.lower)
-        lines.append("- " + ", ".join(f"`{name}` [{places[name]}]" for name in entries))
+        lines += items_of([f"`{name}` [{places[name]}]" for name in entries])
     lines += [""] + [f"[{section}]: {anchor(section)}" for section in dict.fromkeys(places.values())]
     new = body.rstrip() + "\n\n" + "\n".join(lines) + "\n"
     if sys.argv[1:] == ["--check"]:
