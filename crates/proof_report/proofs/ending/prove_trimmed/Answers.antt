@@ -8,15 +8,15 @@ prove_planned-requires-clause-trimmed g c =
     let i = c.args.instance.now in
     record { blocks = _; trimmed = subst (IsTrimEnding (case_of i) i.net.now.notes) c.in-Trimmed.is c.requires.trimmed }
 
-pub returns-in_ok-proved-in-Trimmed-clause-plain : goal.returns-in_ok-proved-in-Trimmed-clause-plain
-returns-in_ok-proved-in-Trimmed-clause-plain g c = λ none. record { lined = c.in_ok-proved-in-Trimmed.ensures.lined; plain = c.in_ok-proved-in-Trimmed.ensures.plain none }
+pub returns-in-Trimmed-clause-plain : goal.returns-in-Trimmed-clause-plain
+returns-in-Trimmed-clause-plain g c = λ none. record { lined = c.in_ok-proved-in-Trimmed.ensures.lined; plain = c.in_ok-proved-in-Trimmed.ensures.plain none }
 
-pub returns-in-Separated-clause-lined : goal.returns-in-Separated-clause-lined
-returns-in-Separated-clause-lined g c =
+pub returns-clause-lined : goal.returns-clause-lined
+returns-clause-lined g c =
     let i = c.args.instance.now in
     subst (IsTrimEnding (case_of i) i.net.now.notes) c.in-Separated.is c.requires.trimmed
 
-pub returns-in-Separated-clause-plain : goal.returns-in-Separated-clause-plain
-returns-in-Separated-clause-plain g c = λ _.
+pub returns-clause-plain : goal.returns-clause-plain
+returns-clause-plain g c = λ _.
     let i = c.args.instance.now in
     subst (IsTrimEnding (case_of i) i.net.now.notes) c.in-Separated.is c.requires.trimmed
