@@ -1,7 +1,7 @@
 -- what is answered of counts that are asked about
 use Rattle.std.proofs.Common.{◌≡◌, ◌∙◌, ℕ, zero, suc, ◌+◌, ◌^◌, ◌<◌, ◌⊎◌, inl, inr, ⊎_elim, List, [], ◌∷◌, ◌++◌, All, Some, length, slice_get, refl, ap, sym, subst, arith}
 use Rattle.net_core.proofs.Library.{∥∥₁_elim, props}
-use Rattle.plan_terms.specs.Terms.{AreCounts, AreDemands, AreWithinLimits, Case, IsNetwork, Joins, Link, Routing, capacities, graph_in, total_cost}
+use Rattle.plan_terms.specs.Terms.{AreCounts, AreDemands, Case, IsNetwork, Joins, Link, Routing, capacities, graph_in, total_cost}
 use Rattle.plan_swaps.specs.Terms.{AreRoutingsWithin, IsRoutingWithin}
 use Rattle.plan_swaps.proofs.Lemmas.{shape_at_most, total_at_most}
 use Rattle.box_search.specs.Finds.{AreCheaperCounts}
@@ -34,11 +34,6 @@ module _ (p : Case) (nums : List ℕ) where
 -- ---- counts that carry the demands
 
 module _ (p : Case) (counts : List (List ℕ)) where
-  -- the counts themselves
-  pub counts_carried : (cost : ℕ) (routings : List Routing) → AreCounts p.links counts → AreWithinLimits p.links counts → AreRoutingsWithin p (capacities p.links counts) routings → cost ≡ total_cost p.links counts
-      → AreCheaperCounts p (total_cost p.links counts + 1) (record { counts = counts; cost = cost; routings = routings })
-  counts_carried cost routings shape limits within paid = record { shape = shape; limits = limits; routings = within; paid = paid; cheaper = omega (arith, paid) }
-
   -- lowered ones
   pub lowered_carried : (lowered : List (List ℕ)) (cost : ℕ) (routings : List Routing) → AreDemands (length p.nodes) p.demands → All (λ l. l.fixed < 2 ^ 40) p.links → AreCounts p.links counts
       → HaveRoomFor p.links counts lowered → AreRoutingsWithin p (capacities p.links counts) routings → cost ≡ total_cost p.links lowered

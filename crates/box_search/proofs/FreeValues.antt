@@ -5,8 +5,8 @@ use Rattle.net_core.proofs.Library.{All-nil, IsGcd, IsGcd-from_mod, IsGcd-from_z
 use Rattle.module_prices.proofs.Divisors.{rounded_up}
 use Rattle.plan_terms.proofs.Bounds.{bound_free, bound_rounded, bound_unique, divisor_both, divisor_none, divisor_one}
 use Rattle.plan_terms.specs.Terms.{IsBound, IsGreatestDivisor, IsModule, Link, Module, charges, sum_below}
-use Rattle.tree_check.specs.Terms.{any_count, span_at, HasBoxValue, IsBoxCertificate, IsBoxValue, all_gains, all_losses, certain_setup, certain_setups, module_charge, module_costs, module_gain, module_loss, value_gains, value_losses, TreeBox, Inequality}
-use Rattle.line_check.specs.Terms.{AreNamedBy, WeightedLine, entry, module_number, over_modules}
+use Rattle.tree_check.specs.Terms.{any_count, span_at, HasBoxValue, IsBoxCertificate, all_gains, all_losses, certain_setup, certain_setups, module_charge, module_costs, module_gain, module_loss, value_gains, value_losses, TreeBox, Inequality}
+use Rattle.line_check.specs.Terms.{WeightedLine, entry, module_number, over_modules}
 use Rattle.tree_check.specs.declared.boxes.Span.{Span}
 use Rattle.box_search.specs.Causes.{HasFreeValue}
 use Rattle.box_search.specs.Finds.{AreLow}
@@ -24,7 +24,7 @@ gcd_exists (suc n) a b le = ⊎_elim
     (rest.0, IsGcd-from_mod a b rest.0 rest.1))
     (cases_eq b 0)
 
-divisor_exists : (xs : List ℕ) → (g : ℕ) × IsGreatestDivisor xs g
+pub divisor_exists : (xs : List ℕ) → (g : ℕ) × IsGreatestDivisor xs g
 divisor_exists [] = (0, divisor_none)
 divisor_exists (x ∷ xs) =
     let rest = divisor_exists xs in
@@ -158,10 +158,3 @@ free_once links box a b one other =
 module _ (names : ℕ → Inequality → Type 0) (links : List Link) (box : TreeBox) (value : ℕ) where
   pub free_has_value : HasFreeValue links box value → HasBoxValue names links box (record { den = 1; lines = [] }) value
   free_has_value is = record { terms = []; named = tt; is = is }
-
-  no_lines : (terms : List WeightedLine) → AreNamedBy names [] terms → IsBoxValue links box 1 terms value → HasFreeValue links box value
-  no_lines [] named is = is
-  no_lines (t ∷ terms) named is = absurd named
-
-  pub value_is_free : HasBoxValue names links box (record { den = 1; lines = [] }) value → HasFreeValue links box value
-  value_is_free has = no_lines has.terms has.named has.is

@@ -48,7 +48,7 @@ total_least (l ∷ ls) (ss ∷ box) shape =
 none_divided : (n : ℕ) → 0 ∣ n → n ≡ 0
 none_divided n divides = let whole = mul-div_cancel' 0 divides in omega (arith, whole)
 
-over_none : (links : List Link) → over_modules links (λ e m. 0) ≡ 0
+pub over_none : (links : List Link) → over_modules links (λ e m. 0) ≡ 0
 over_none links = below-same (length links) _ (λ e. 0) (λ e lt. below-none (module_number links e)) ∙ below-none (length links)
 
 module _ (links : List Link) (box : TreeBox) where

@@ -1,17 +1,11 @@
 -- routings within lowered counts
-use Rattle.std.proofs.Common.{◌≡◌, ℕ, zero, suc, ◌+◌, ◌*◌, ◌^◌, ◌≤◌, ◌<◌, true, false, if◌then◌else◌, ⊎_elim, List, [], ◌∷◌, Some, length, map, slice_get, slice_index, sum_by, refl, ap, subst, arith, mul-le-mul_right}
+use Rattle.std.proofs.Common.{◌≡◌, ℕ, zero, suc, ◌+◌, ◌*◌, ◌^◌, ◌≤◌, ◌<◌, ⊎_elim, List, [], ◌∷◌, Some, length, map, slice_get, slice_index, sum_by, refl, ap, subst, arith, mul-le-mul_right}
 use Rattle.net_core.proofs.Library.{recursion_from_All, slice_get_within, sum_by-cons, AllByRecursion, below-first, below-same, sums-equal}
-use Rattle.plan_terms.specs.Terms.{AreCounts, Carries, Demand, Flow, IsFlow, Link, Routing, capacities, load, names_link, sent, sum_below, total_need}
+use Rattle.plan_terms.specs.Terms.{AreCounts, Carries, Demand, Flow, IsFlow, Link, Routing, capacities, load, sent, sum_below, total_need}
 use Rattle.plan_terms.proofs.Metric.{all_carried, all_weaker}
+use Rattle.module_choice.proofs.Carrying.{load_all}
 use Rattle.box_search.specs.inner.Lowering.{HaveRoomFor}
 use Rattle.box_search.proofs.Lowering.{room_at}
-
--- a link carries at most what all flows sum to
-load_most : (flows : List Flow) (e : ℕ) → load flows e ≤ sum_by (λ f. f.num) flows
-load_most [] e = omega arith
-load_most (f ∷ fs) e =
-    let one : (if names_link e f.path then f.num else 0) ≤ f.num = elim (names_link e f.path) as (λ b. (if b then f.num else 0) ≤ f.num) [ true ↦ omega arith | false ↦ omega arith ] in
-    omega (arith, sum_by-cons (λ (h : Flow). (if names_link e h.path then h.num else 0)) f fs, sum_by-cons (λ (g : Flow). g.num) f fs, one, load_most fs e)
 
 -- what all needs sum to, over a denominator
 needs_summed : (den : ℕ) (demands : List Demand) → sum_below (length demands) (λ k. slice_index (map (λ d. d.need) demands) k * den) ≡ total_need demands * den
@@ -60,6 +54,6 @@ module _ (joins : ℕ → ℕ → ℕ → Type 0) (demands : List Demand) where
         (λ (same : slice_index (capacities links counts) e ≡ slice_index (capacities links lowered) e). subst (λ n. load r.flows e ≤ n * r.den) same (carries.within e))
         (λ (enough : 2 ^ 44 ≤ slice_index (capacities links lowered) e + 1).
         let most : total_need demands * r.den ≤ slice_index (capacities links lowered) e * r.den = mul-le-mul_right r.den (omega (arith, low, enough)) in
-        omega (arith, most, load_most r.flows e, flows_summed (capacities links counts) r carries))
+        omega (arith, most, load_all r.flows e, flows_summed (capacities links counts) r carries))
         (room_at links counts lowered e shape have);
   }

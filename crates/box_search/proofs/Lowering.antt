@@ -122,12 +122,6 @@ room_at (l ∷ links) (c ∷ counts) (x ∷ lowered) (suc e) shape have = room_a
 
 -- ---- link by link
 
-pub counts_long : (links : List Link) (counts : List (List ℕ)) → AreCounts links counts → length counts ≡ length links
-counts_long [] [] shape = refl
-counts_long [] (c ∷ counts) shape = absurd shape
-counts_long (l ∷ links) [] shape = absurd shape
-counts_long (l ∷ links) (c ∷ counts) shape = ap suc (counts_long links counts shape.1)
-
 -- a link has a count for each of its modules
 pub counts_at : (links : List Link) (counts : List (List ℕ)) (e : ℕ) (l : Link) (c : List ℕ) → AreCounts links counts → e < length links → length (get_or counts e c) ≡ length (get_or links e l).modules
 counts_at [] counts e l c shape lt = absurd (omega (arith, lt))

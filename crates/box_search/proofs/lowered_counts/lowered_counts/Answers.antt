@@ -1,9 +1,10 @@
 use Rattle.std.proofs.Common.{◌≡◌, ◌∙◌, [], List, ℕ, All, get_or, length, ap, sym, subst, arith}
 use Rattle.std.proofs.lemmas.List.{length_push}
 use Rattle.net_core.proofs.Networks.{modules_sound}
+use Rattle.module_choice.proofs.Pairs.{counts_long}
 use Rattle.plan_terms.specs.Terms.{AreCounts, IsModule, Link, Module}
 use Rattle.box_search.specs.inner.Lowering.{IsLoweredLink, modules_at}
-use Rattle.box_search.proofs.Lowering.{counts_at, counts_long, links_more}
+use Rattle.box_search.proofs.Lowering.{counts_at, links_more}
 use Rattle.box_search.proofs.lowered_counts.lowered_counts.Goals as goal
 
 pub bounds-lists-e : goal.bounds-lists-e
