@@ -1,5 +1,6 @@
 pub mod CheapSplits
 pub mod Choices
+pub mod Lemmas
 pub mod Opened
 pub mod Placing
 pub mod PlanBounds

@@ -113,7 +113,7 @@ set_has_shape (l ∷ ls) (ss ∷ box) (suc e) m s shape = (shape.0, set_has_shap
 
 -- ---- trees
 
-splits_more : (node : Node) (nodes : List Node) → split_number (node ∷ nodes) ≡ cond (is_split node) 1 0 + split_number nodes
+pub splits_more : (node : Node) (nodes : List Node) → split_number (node ∷ nodes) ≡ cond (is_split node) 1 0 + split_number nodes
 splits_more node nodes = sum_by-cons (λ (n : Node). cond (is_split n) 1 0) node nodes
 
 abbrev rooms : ℕ → List Link → List TreeBox → ℕ
