@@ -1,21 +1,10 @@
 -- cuts that are handed in one by one
-use Rattle.std.proofs.Common.{◌≡◌, ◌≢◌, ◌∙◌, ◌+◌, ◌≤◌, ◌++◌, ◌⊎◌, ⊎_elim, List, [], ◌∷◌, All, Contains, ap, arith, length, subst, sym, append_assoc, append-nil, length-append}
+use Rattle.std.proofs.Common.{◌≡◌, ◌≢◌, ◌∙◌, ◌+◌, ◌≤◌, ◌++◌, ◌⊎◌, ⊎_elim, List, [], ◌∷◌, All, Contains, ap, arith, length, subst, sym, append_assoc, length-append}
 use Rattle.net_core.proofs.Library.{All-weaker, all_pairs_push, All-push, Contains-append_left, Contains-append_right, Contains-get_or}
 use Rattle.plan_terms.specs.Terms.{CutLine}
 use Rattle.proof_report.specs.ProvedReports.{AreHandedIn}
 
 module _ (pool : List CutLine) where
-  -- the pool alone
-  pub none_handed : AreHandedIn pool [] pool
-  none_handed = record {
-    others = [];
-    whole = sym (append-nil pool);
-    few = omega arith;
-    all = λ i d lt. absurd (omega (arith, lt));
-    each = λ i d lt. absurd (omega (arith, lt));
-    once = λ i j d lt inside. absurd (omega (arith, inside));
-  }
-
   module _ (own cuts : List CutLine) (cut : CutLine) (was : AreHandedIn pool own cuts) where
     -- a cut that the pool lacks, among these and the next
     abbrev IsOther : CutLine → Type 0

@@ -1,13 +1,10 @@
 -- a tree without splits is its root alone
-use Rattle.std.proofs.Common.{◌≡◌, ◌+◌, ◌≤◌, ◌<◌, List, [], ◌∷◌, ◌++◌, arith, cond, length, refl, subst, take}
-use Rattle.std.proofs.lemmas.List.Sums.{sum_by-cons}
+use Rattle.std.proofs.Common.{◌≡◌, ◌+◌, ◌≤◌, ◌<◌, List, [], ◌∷◌, ◌++◌, arith, length, refl, subst, take}
 use Rattle.plan_terms.specs.Terms.{Case, Link}
 use Rattle.branch_tree.specs.Terms.{HoldsAtNode, IsAcceptedProof, whole_box, IsWhole, TreeBox, boxes_left, sides_of, Node, Split, Closed, Empty, Spent, Stuck}
-use Rattle.branch_tree.specs.Terms.{Proof, is_split}
+use Rattle.branch_tree.specs.Terms.{Proof}
 use Rattle.branch_tree.specs.FewSplits.{split_number}
-
-splits_more : (node : Node) (nodes : List Node) → split_number (node ∷ nodes) ≡ cond (is_split node) 1 0 + split_number nodes
-splits_more node nodes = sum_by-cons (λ (n : Node). cond (is_split n) 1 0) node nodes
+use Rattle.branch_tree.proofs.Lemmas.{splits_more}
 
 -- the first node has no sides
 first_leaf : (node : Node) (nodes : List Node) (box : TreeBox) → split_number (node ∷ nodes) ≤ 0 → sides_of box node ≡ []
