@@ -1,8 +1,8 @@
 -- routings that are found are in form
 use Rattle.std.proofs.Common.{◌≡◌, ◌≢◌, ℕ, ◌^◌, ◌<◌, ◌≤◌, List, [], ◌∷◌, All, get_or, length, subst, arith}
 use Rattle.net_core.proofs.Library.{All-cons, All-nil, slice_get_within, get_or_from_slice_get}
-use Rattle.plan_terms.specs.Terms.{Demand, LinkId, Caps, Flow, Routing, AreDemands, IsDemand, Graph, Joins, IsFlow, Leads, last_node}
-use Rattle.plan_report.specs.Terms.{IsFlowInForm, IsRoutingInForm}
+use Rattle.plan_terms.specs.Terms.{Demand, LinkId, Caps, Flow, Routing, AreDemands, IsDemand, Graph, Joins, IsFlow, IsPath, Leads, last_node}
+use Rattle.plan_report.specs.Terms.{IsFlowInForm, IsPathInForm, IsRoutingInForm}
 use Rattle.separator.specs.Terms.{IsRouted}
 
 module _ (g : Graph) where
@@ -18,6 +18,9 @@ module _ (g : Graph) where
   has_link a b ne [] (c ∷ cs) leads last = absurd leads
   has_link a b ne (e ∷ es) cs leads last = omega arith
 
+  pub path_found : (a b : ℕ) → a ≢ b → (es : List LinkId) → IsPath (Joins g) a b es → IsPathInForm g.links es
+  path_found a b ne es path = record { some = has_link a b ne es path.0 path.1 path.2; known = links_known a es path.0 path.1 }
+
   module _ (demands : List Demand) (belong : AreDemands (length g.nodes) demands) where
     flow_found : (f : Flow) → f.num < 2 ^ 124 → IsFlow (Joins g) demands f → IsFlowInForm g.links demands f
     flow_found f low is =
@@ -26,7 +29,7 @@ module _ (g : Graph) where
           demand = slice_get_within demands f.demand is.of is.at;
           positive = is.positive;
           num = low;
-          path = record { some = has_link is.of.from.0 is.of.to.0 d.different f.path is.path.0 is.path.1 is.path.2; known = links_known is.of.from.0 f.path is.path.0 is.path.1 };
+          path = path_found is.of.from.0 is.of.to.0 d.different f.path is.path;
         }
 
     pub routing_found : length g.links ≤ 256 → (caps : Caps) (r : Routing) → IsRouted g demands caps r → IsRoutingInForm g.links demands r
