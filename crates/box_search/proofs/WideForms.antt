@@ -1,31 +1,16 @@
 -- evidence at the capacities of counts is in form: it names columns and rows of its program alone
-use Rattle.std.proofs.Common.{◌≡◌, ◌≢◌, ℕ, ◌*◌, ◌^◌, ◌≤◌, ◌<◌, List, [], ◌∷◌, All, ⊎_elim, length, zip, ap, subst, sym, arith, slice_get, Some}
-use Rattle.net_core.proofs.Library.{All-cons, All-from_recursion, All-nil, cases_lt, get_or_from_slice_get, get_or_past, recursion_from_All, slice_get_within, sum_by-cons, mul-le, AllByRecursion}
+use Rattle.std.proofs.Common.{◌≡◌, ℕ, ◌*◌, ◌^◌, ◌≤◌, ◌<◌, List, [], ◌∷◌, All, ⊎_elim, length, zip, ap, subst, sym, arith, slice_get, Some}
+use Rattle.net_core.proofs.Library.{All-from_recursion, cases_lt, get_or_from_slice_get, get_or_past, recursion_from_All, slice_get_within, sum_by-cons, mul-le, AllByRecursion}
 use Rattle.plan_swaps.specs.Terms.{IsWideSomewhere, whole_caps}
+use Rattle.plan_swaps.proofs.Lemmas.{path_found}
 use Rattle.flow_router.specs.Answers.{IsEvidenceHere}
 use Rattle.module_choice.proofs.Pairs.{capacities_long}
-use Rattle.plan_report.specs.Terms.{AreCapsInForm, IsKindInForm, IsPathInForm, IsRouteColumnInForm, IsRouteEvidenceInForm, known_to}
-use Rattle.plan_terms.specs.Terms.{AreCounts, AreDemands, Caps, Case, Common, Demand, DemandSlack, Evidence, Graph, IsDemand, IsLink, IsModule, IsPath, Joins, Leads, Length, Link, LinkId, LinkSlack, Master, Module, Number, Product, Route, RouteColumn, Row, StateId, Sum, Value, WideKind, capacities, graph_in, last_node, modules_capacity}
+use Rattle.plan_report.specs.Terms.{AreCapsInForm, IsKindInForm, IsRouteColumnInForm, IsRouteEvidenceInForm, known_to}
+use Rattle.plan_terms.specs.Terms.{AreCounts, AreDemands, Caps, Case, Common, Demand, DemandSlack, Evidence, Graph, IsDemand, IsLink, IsModule, Length, Link, LinkSlack, Master, Module, Number, Product, Route, RouteColumn, Row, StateId, Sum, Value, WideKind, capacities, graph_in, modules_capacity}
 use Rattle.route_law.proofs.Lemmas.{beside_each}
 use Rattle.route_law.specs.Terms.{HasWideLength, HoldsOfRoute, IsCarrying, IsRouteColumn, IsRouteEvidence, route_bound, route_rows, route_slack}
 use Rattle.simplex_law.specs.Terms.{AreNames, ColumnOf, IsFeasible, IsSlack}
 use Rattle.tree_check.specs.Proofs.{IsEvidenceAt}
-
--- ---- paths
-
-module _ (g : Graph) where
-  leads_known : (a : ℕ) (es : List LinkId) (cs : List ℕ) → Leads (Joins g) a es cs → All (λ e. e.0 < length g.links) es
-  leads_known a [] cs leads = All-nil (λ (e : LinkId). e.0 < length g.links)
-  leads_known a (e ∷ es) [] leads = absurd leads
-  leads_known a (e ∷ es) (c ∷ cs) leads = All-cons (λ (x : LinkId). x.0 < length g.links) e es (slice_get_within g.links e.0 leads.0.survives.link leads.0.survives.at) (leads_known c es cs leads.1)
-
-  path_some : (a b : ℕ) → a ≢ b → (es : List LinkId) (cs : List ℕ) → Leads (Joins g) a es cs → last_node a cs ≡ b → 1 ≤ length es
-  path_some a b ne [] [] leads last = absurd (ne last)
-  path_some a b ne [] (c ∷ cs) leads last = absurd leads
-  path_some a b ne (e ∷ es) cs leads last = omega arith
-
-  path_form : (a b : ℕ) → a ≢ b → (es : List LinkId) → IsPath (Joins g) a b es → IsPathInForm g.links es
-  path_form a b ne es path = record { some = path_some a b ne es path.0 path.1 path.2; known = leads_known a es path.0 path.1 }
 
 -- ---- columns and rows
 
@@ -42,7 +27,7 @@ module _ (g : Graph) (demands : List Demand) (belong : AreDemands (length g.node
   column_form : (c : ColumnOf RouteColumn) → IsRouteColumn g demands c → InForm c.name
   column_form c is = ⊎_elim
       (λ (carry : IsCarrying g demands c). subst InForm (sym carry.named)
-      (slice_get_within demands carry.place carry.demand carry.at, path_form g carry.demand.from.0 carry.demand.to.0 (demand_at carry.place carry.demand carry.at).different carry.path carry.leads))
+      (slice_get_within demands carry.place carry.demand carry.at, path_found g carry.demand.from.0 carry.demand.to.0 (demand_at carry.place carry.demand carry.at).different carry.path carry.leads))
       (λ (slack : IsSlack (route_rows g demands) (route_slack g) c). subst InForm (sym slack.named) (slack_form slack.row slack.inside))
       is
 
