@@ -12,10 +12,10 @@ const LOLLIPOP: [LinkRow; 4] = [
     (2, 3, 0, &TEN),
 ];
 
-/// The demands, the text of the failure list, and how many states are read from it with the one in which nothing fails.
+/// The demands, the text of the failure list, and how many states are read from it, counting the one in which nothing fails.
 type ListRow = (&'static [DemandRow], &'static [u8], u32);
 
-/// A demand over the bridge d, one of no need, and one beside it.
+/// A demand over the bridge d, one that needs nothing, and one beside the bridge.
 const LISTS: [ListRow; 3] = [
     (
         &[(0, 3, 12000)],
@@ -40,7 +40,7 @@ fn list(alloc: Global, net: &Network, rows: &[DemandRow]) -> Option<FailureAnswe
     failure_list(alloc, net, &asked).ok()
 }
 
-/// Whether a text is the one that the row wants, and gives the row's number of states.
+/// Whether a text is the one that the row expects, and gives the row's number of states.
 fn is_list(alloc: Global, net: &Network, text: &Bytes, row: &ListRow) -> Option<bool> {
     let states = read_failures(alloc, net, text.items()).ok()?;
     Some(text.items() == row.1 && states.count() == row.2)
@@ -71,7 +71,7 @@ fn failure_lists_leave_out_bridges_of_demands(rt: HostRuntime) {
     assert!(rt; wrong.is_none(), "row {}", wrong.unwrap_or(0));
 }
 
-/// The demand that is separated without a failure, of A to B along link a, and of B to C, which nothing joins.
+/// The demand that is separated without a failure, of one from A to B along link a, and one from B to C, which nothing joins.
 fn separated(alloc: Global) -> Option<u32> {
     let net = network(alloc, 3, &[(0, 1, 0, &TEN)]).ok()?;
     match list(alloc, &net, &[(0, 1, 3000), (1, 2, 3000)])? {

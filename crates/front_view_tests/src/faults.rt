@@ -17,15 +17,15 @@ const SHORT: Sentence = Sentence {
     help: "do better",
 };
 
-/// A network whose link has capacity in place and no module.
+/// A network whose link has capacity installed and no modules.
 const BROKEN: &[u8] =
     b"?SNDlib native format; type: network; version: 1.0\nNODES ( A B )\nLINKS ( L ( A B ) 5 0 0 0 ( ) )\nDEMANDS ( )\n";
 
-/// A failure list whose lines end in carriage returns, too.
+/// A failure list whose lines end in carriage return and line feed.
 const LIST: &[u8] = b"?planner failures; version: 1\r\nFAILURES (\r\n\ts ( XY )\r\n)\r\n";
 
-/// Faults in the middle of a line, after a tab, after characters of two bytes and bytes of control, at the end of files, at a comment, at
-/// control characters of one byte and of two, and at what isn't UTF-8.
+/// Faults in the middle of a line, after a tab, after characters of two bytes and control characters, at the end of files, at a comment, at
+/// control characters of one byte and of two, and at bytes that aren't UTF-8.
 const FAULTS: [FaultRow; 8] = [
     FaultRow {
         name: b"data/broken.txt",

@@ -1,4 +1,4 @@
-/// A network whose names are longer than a byte or two, so that others may be near.
+/// A network with names of several letters, so that other words may be near them.
 pub(crate) const NETWORK: &[u8] = b"?SNDlib native format; type: network; version: 1.0
 NODES ( Aachen Berlin Celle )
 LINKS (

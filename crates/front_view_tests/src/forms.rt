@@ -7,7 +7,7 @@ use std::alloc::Global;
 use view_csv::Sheet;
 use view_forms::ViewForm;
 
-/// A report, a sheet of it, or none and a state, and its text.
+/// A report, the sheet of it that is asked for or else a state, and the text.
 type Row = (&'static str, Option<Sheet>, &'static str, &'static str);
 
 const ROWS: [Row; 7] = [

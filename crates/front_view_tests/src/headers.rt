@@ -1,6 +1,6 @@
 use fault_messages::{FileFormat, header_guess};
 
-/// Which format is expected, how a file begins that has another header, and what it seems to be; nothing where nobody can tell.
+/// Which format is expected, how a file with another header begins, and what it seems to be; `None` if that can't be told.
 const HEADERS: [(FileFormat, &[u8], &str); 17] = [
     (
         FileFormat::Network,

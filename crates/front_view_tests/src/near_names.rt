@@ -54,7 +54,7 @@ fn near_names_are_found(rt: HostRuntime) {
 /// A text, the place of a name that nothing has, and the line that asks for a near one.
 type NoteRow = (&'static [u8], usize, &'static [u8]);
 
-/// A near word before the name; none but the name itself, and one after it; and a place where no word begins.
+/// A near word before the name; only the name itself, and a near one after it; and a place where no word begins.
 const NOTES: [NoteRow; 4] = [
     (
         b"NODES ( Hamburg Berlin )\nLINKS ( L ( Hambrug",
@@ -92,8 +92,8 @@ fn lines_ask_for_words_before(rt: HostRuntime) {
     assert!(rt; wrong.is_none(), "row {}", wrong.unwrap_or(0));
 }
 
-/// How many bytes two words share, the place of the second, which has one byte more and another than the first, and the line that asks for the
-/// first: words of 255 bytes, as long as a name may be, and of 256.
+/// How many bytes two words share, the place of the second, which has one more byte than that and ends with another byte than the first,
+/// and the line that asks for the first: words of 255 bytes, as long as a name may be, and of 256.
 const LONG: [(usize, usize, &[u8]); 2] = [
     (
         254,

@@ -1,6 +1,6 @@
 use text_places::{Place, place_of};
 
-/// A text, the place of a byte or of the end, and the line and the column of that.
+/// A text, the place of a byte or of the end, and the line and the column of that place.
 type PlaceRow = (&'static [u8], usize, u64, u64);
 
 /// Line ends of all kinds, a tab, a byte order mark, and characters of two bytes and more.

@@ -11,7 +11,7 @@ use worked_networks::problem;
 const NAME: &str =
     "!\"#$%&'*+,-./0123456789:;<=>?@ABCDEFGHIJKLMNOPQRSTUVWXYZ[\\]^_`abcdefghijklmnopqrstuvwxyz{|}~";
 
-/// A network of two nodes and two links between them, of which one each has that name.
+/// A network of two nodes and two links between them. One node and one link have that name.
 const NETWORK: &str = "?SNDlib native format; type: network; version: 1.0
 NODES ( !\"#$%&'*+,-./0123456789:;<=>?@ABCDEFGHIJKLMNOPQRSTUVWXYZ[\\]^_`abcdefghijklmnopqrstuvwxyz{|}~ B )
 LINKS ( !\"#$%&'*+,-./0123456789:;<=>?@ABCDEFGHIJKLMNOPQRSTUVWXYZ[\\]^_`abcdefghijklmnopqrstuvwxyz{|}~ ( !\"#$%&'*+,-./0123456789:;<=>?@ABCDEFGHIJKLMNOPQRSTUVWXYZ[\\]^_`abcdefghijklmnopqrstuvwxyz{|}~ B ) 0 0 0 0 ( 10 5 ) b ( !\"#$%&'*+,-./0123456789:;<=>?@ABCDEFGHIJKLMNOPQRSTUVWXYZ[\\]^_`abcdefghijklmnopqrstuvwxyz{|}~ B ) 0 0 0 0 ( 10 5 ) )

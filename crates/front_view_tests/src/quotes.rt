@@ -39,7 +39,7 @@ fn word_of(alloc: Global, row: &QuoteRow) -> Result<Bytes, NoMemory> {
     Ok(word)
 }
 
-/// The quote that is wanted.
+/// The quote that the row expects.
 fn wanted(alloc: Global, row: &QuoteRow) -> Result<Bytes, NoMemory> {
     let mut quote = List::from_slice(alloc, b"`")?;
     put_many(&mut quote, row.1.0, row.1.1)?;

@@ -8,7 +8,7 @@ use net_core::{Bytes, List, Name};
 use outside_io::{MemFile, MemShelf, have_different_names};
 use std::alloc::Global;
 
-/// A part of a file, another in its place, and the message of the file that comes of it.
+/// A part of a file, what replaces it, and the message about the file.
 pub(crate) type Row = (&'static [u8], &'static [u8], &'static [u8]);
 
 /// What comes before the first occurrence of a part, and what comes after it.
@@ -21,7 +21,7 @@ fn split_at<'a>(text: &'a [u8], part: &[u8]) -> Option<(&'a [u8], &'a [u8])> {
     None
 }
 
-/// A file with the part of a row replaced; nothing where there is no such part.
+/// A file with the part of a row replaced; `None` if it has no such part.
 fn changed(alloc: Global, base: &[u8], row: &Row) -> Option<Bytes> {
     let (front, rest) = split_at(base, row.0)?;
     let mut text = List::from_slice(alloc, front).ok()?;
@@ -46,7 +46,7 @@ fn shelf_of(alloc: Global, network: &[u8], model: &[u8], list: &[u8]) -> Option<
     have_different_names(files.items()).then(|| MemShelf::new(files, List::new(alloc)))
 }
 
-/// What is said where these files are read; nothing where they are all right.
+/// What is said when these files are read; `None` if they are right.
 fn message_of(alloc: Global, mut shelf: MemShelf) -> Option<Bytes> {
     let words = CaseFiles {
         files: PlanFiles {
@@ -62,7 +62,7 @@ fn message_of(alloc: Global, mut shelf: MemShelf) -> Option<Bytes> {
     }
 }
 
-/// Whether this is said of these files.
+/// Whether reading these files gives this message.
 fn is_said(
     alloc: Global,
     network: &[u8],
@@ -89,7 +89,7 @@ fn is_said_of_list(alloc: Global, row: &Row) -> Option<bool> {
     is_said(alloc, NETWORK, MODEL, text.items(), row.2)
 }
 
-/// The first row of which something else is said, where a part of the network is replaced.
+/// The first row whose message isn't the expected one, with a part of the network replaced.
 fn first_network(alloc: Global, rows: &[Row]) -> Option<usize> {
     for i in 0..rows.len() {
         if is_said_of_network(alloc, &rows[i]) != Some(true) {
@@ -99,7 +99,7 @@ fn first_network(alloc: Global, rows: &[Row]) -> Option<usize> {
     None
 }
 
-/// The first row of which something else is said, where a part of the model is replaced.
+/// The first row whose message isn't the expected one, with a part of the model replaced.
 fn first_model(alloc: Global, rows: &[Row]) -> Option<usize> {
     for i in 0..rows.len() {
         if is_said_of_model(alloc, &rows[i]) != Some(true) {
@@ -109,7 +109,7 @@ fn first_model(alloc: Global, rows: &[Row]) -> Option<usize> {
     None
 }
 
-/// The first row of which something else is said, where a part of the failure list is replaced.
+/// The first row whose message isn't the expected one, with a part of the failure list replaced.
 fn first_list(alloc: Global, rows: &[Row]) -> Option<usize> {
     for i in 0..rows.len() {
         if is_said_of_list(alloc, &rows[i]) != Some(true) {
@@ -119,7 +119,7 @@ fn first_list(alloc: Global, rows: &[Row]) -> Option<usize> {
     None
 }
 
-/// The first whole file in place of the network of which something else is said.
+/// The first whole file in place of the network whose message isn't the expected one.
 fn first_whole(alloc: Global, rows: &[WholeRow]) -> Option<usize> {
     for i in 0..rows.len() {
         if is_said(alloc, rows[i].0, MODEL, LIST, rows[i].1) != Some(true) {

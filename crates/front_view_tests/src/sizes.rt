@@ -10,7 +10,7 @@ const NODES: u32 = 128;
 
 const LINKS: u32 = 256;
 
-/// A picture is smaller, where names have at most 20 bytes.
+/// A limit for the number of bytes of a picture, where names have at most 20 bytes.
 const MOST: usize = 100_000;
 
 /// The names of the state without failures, and of that in which the first link fails.
@@ -63,7 +63,7 @@ fn put_network(text: &mut Bytes) -> Option<()> {
     text.append(b" ) DEMANDS ( )\n").ok()
 }
 
-/// That network.
+/// A network of a ring of nodes, of which each two neighbours have two links between them.
 fn network_text(alloc: Global) -> Option<Bytes> {
     let mut text = List::new(alloc);
     put_network(&mut text)?;
@@ -79,7 +79,7 @@ fn put_modules(text: &mut Bytes) -> Option<()> {
     Some(())
 }
 
-/// Puts a flow of 1000.00 last that goes round the ring, from the first node backwards to the second, along links from this one on.
+/// Appends a flow of 1000.00 that goes round the ring, from the first node backwards to the second, along links from this one on.
 fn put_way_round(text: &mut Bytes, first: u32) -> Option<()> {
     text.append(b" A 1000000 (").ok()?;
     for back in 1..NODES {
@@ -88,7 +88,7 @@ fn put_way_round(text: &mut Bytes, first: u32) -> Option<()> {
     text.append(b" )").ok()
 }
 
-/// Puts the routing of the state last in which the first link fails: along the other one beside it, and along both ways round.
+/// Appends the routing of the state in which the first link fails: along the link beside it, and along both ways round.
 fn put_other_paths(text: &mut Bytes) -> Option<()> {
     text.append(b" state 1 link_of_the_ring_100 1 ( A 1000000 ( link_of_the_ring_228 )")
         .ok()?;
@@ -97,7 +97,7 @@ fn put_other_paths(text: &mut Bytes) -> Option<()> {
     text.append(b" )").ok()
 }
 
-/// Puts the routing of the state last in which another link fails.
+/// Appends the routing of a state in which another link fails.
 fn put_same_path(text: &mut Bytes, e: u32) -> Option<()> {
     text.append(b" state ").ok()?;
     put_decimal(text, 1 + u128::from(e)).ok()?;
@@ -117,7 +117,7 @@ fn put_routings(text: &mut Bytes) -> Option<()> {
     Some(())
 }
 
-/// Puts a report of a plan of 3000.00 last, from the first node to the second, with the most words on each link.
+/// Appends a report of a plan for 3000.00 from the first node to the second, with as many words on each link as there may be.
 fn put_report(text: &mut Bytes) -> Option<()> {
     text.append(
         b"?planner report; version: 1\nNOTES ( ) JOURNAL ( ) POOL ( ) OUTCOMES ( PLAN ( caller 1 plan 1 version 0 position 0
@@ -130,7 +130,7 @@ DEMANDS ( A ( node_of_the_ring_100 node_of_the_ring_101 ) 3000.000 ) cost 154859
     text.append(b" ) loose cuts ) )\n").ok()
 }
 
-/// That report.
+/// A report of a plan for 3000.00 from the first node to the second, with as many words on each link as there may be.
 fn report_text(alloc: Global) -> Option<Bytes> {
     let mut text = List::new(alloc);
     put_report(&mut text)?;
@@ -155,7 +155,7 @@ fn count_of(text: &[u8], part: &[u8]) -> usize {
     count
 }
 
-/// The picture in a state; nothing where there is none.
+/// The picture in a state; `None` if there is none.
 fn picture_of(alloc: Global, p: &Problem, report: &[u8], state: &str) -> Option<Bytes> {
     let form = picture_form(alloc, p, state, &[]).ok()?;
     view_report(alloc, "ring.txt", "report", p, report, form).ok()

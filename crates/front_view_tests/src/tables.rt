@@ -75,7 +75,7 @@ fn is_table(alloc: Global) -> Result<bool, NoMemory> {
 }
 
 #[test]
-fn cells_stand_in_columns(rt: HostRuntime) {
+fn cells_are_laid_out_in_columns(rt: HostRuntime) {
     assert_eq!(rt; is_table(rt.alloc()), Ok(true));
 }
 

@@ -34,7 +34,7 @@ OUTCOMES ( PLAN ( caller 1 plan 1 version 0 position 0
 ) )
 ";
 
-/// A section is left out.
+/// A report with a section left out.
 pub(crate) const SHORT: &str = "?planner report; version: 1
 NOTES ( ) POOL ( )
 ";

@@ -46,7 +46,7 @@ const WINDOWS: [WindowRow; 13] = [
     ((100, b"\x80", b""), (b"", 100, b"\x80"), (0, 64)),
 ];
 
-/// Puts the line of a row between two others; the place of its byte.
+/// Puts the line of a row between two others. The place of its byte.
 fn put_lines(text: &mut Bytes, row: &WindowRow) -> Result<usize, NoMemory> {
     text.append(b"x\n")?;
     put_many(text, row.0.1, row.0.0)?;

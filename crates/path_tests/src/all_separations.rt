@@ -62,7 +62,7 @@ fn lines(alloc: Global, row: &SeparationRow) -> Option<Bytes> {
     lines_of(alloc, &problem.instance())
 }
 
-/// Whether the lines of a row are as wanted.
+/// Whether the lines of a row are the expected ones.
 fn are_right(alloc: Global, row: &SeparationRow) -> bool {
     match lines(alloc, row) {
         Some(text) => text.items() == row.3,

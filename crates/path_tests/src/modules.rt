@@ -391,7 +391,7 @@ fn is_fallback_there(alloc: Global, case: &Case) -> bool {
     }
 }
 
-/// The first case whose fallback plan is another one.
+/// The first case whose fallback plan isn't the expected one.
 fn first_other_fallback(alloc: Global, cases: &[Case]) -> Option<usize> {
     for i in 0..cases.len() {
         if !is_fallback_there(alloc, &cases[i]) {

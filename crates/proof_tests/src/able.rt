@@ -5,7 +5,7 @@ use net_core::{Instance, List, Module, Problem};
 use std::alloc::Global;
 use worked_networks::{DemandRow, LinkRow, network, problem};
 
-/// The networks whose counts are all tried.
+/// The networks of which all counts are tried.
 #[derive(Clone, Copy)]
 pub(crate) enum Tried {
     /// The triangle of links with modules of 10.00, and a demand of 12.00.
@@ -16,7 +16,7 @@ pub(crate) enum Tried {
     Sample,
 }
 
-/// The cuts of one link each of the triangle where the two others don't carry, and that of C where nothing fails.
+/// Cuts of the triangle: that of one link in each state in which the two others don't carry the demand, and that of C where nothing fails.
 pub(crate) const TRIANGLE_CUTS: [CutRow; 4] = [
     (1, &[0, 0, 1], 12000),
     (3, &[1, 0, 0], 12000),
@@ -42,7 +42,7 @@ const PARALLEL: [LinkRow; 3] = [
     (0, 1, 0, &TWO_KINDS),
 ];
 
-/// The cuts of the parallel links where one of them fails, and where nothing does.
+/// Cuts of the parallel links: where each one of them fails, and where nothing does.
 pub(crate) const PARALLEL_CUTS: [CutRow; 4] = [
     (1, &[0, 1, 1], 30000),
     (2, &[1, 0, 1], 30000),
@@ -70,7 +70,7 @@ const SAMPLE: [LinkRow; 6] = [
     (2, 0, 0, &SMALL),
 ];
 
-/// Its demands.
+/// The sample's demands.
 const SAMPLE_DEMANDS: [DemandRow; 6] = [
     (0, 1, 35000),
     (0, 2, 13000),
@@ -101,8 +101,8 @@ const DIVISORS: [u128; 12] = [
     100, 2500, 4000, 5000, 7500, 10000, 12000, 12500, 15000, 24000, 25000, 30000,
 ];
 
-/// Lines over four cuts, of which the last one is robust: divided ones over one cut and over sums, one over two of these, and table lines
-/// of both kinds with costs and with other weights.
+/// Lines over four cuts, of which the last one is robust: divided lines over one cut and over sums, one over two of these, and table lines
+/// of both kinds, with costs and with other weights.
 fn lines_over(divisor: u128) -> [LineRow; 16] {
     [
         Divided(divisor, &[(0, 1)]),
@@ -133,7 +133,7 @@ fn count_at(code: u64, at: u32) -> u128 {
     }
 }
 
-/// What parallel links carry without one of them.
+/// The capacity of parallel links without one of them.
 fn carried_without(code: u64, failed: u32) -> u128 {
     let mut sum = 0u128;
     for e in 0..3 {
@@ -151,7 +151,7 @@ fn are_apart(inside: u32, a: u32, b: u32) -> bool {
     a < 32 && b < 32 && (inside >> a) & 1 != (inside >> b) & 1
 }
 
-/// What the sample's links carry between a set of nodes and the others without one of them.
+/// The capacity between a set of nodes and the others, of the sample's links without one of them.
 fn carried_across(code: u64, inside: u32, failed: u32) -> u128 {
     let mut at = 0u32;
     let mut sum = 0u128;
@@ -199,7 +199,7 @@ fn are_able(tried: Tried, code: u64) -> bool {
     }
 }
 
-/// Whether counts meet a line.
+/// Whether counts satisfy a line.
 fn are_met(line: &Inequality, code: u64) -> bool {
     let mut at = 0u32;
     let mut sum = line.given;
@@ -227,7 +227,7 @@ fn able_codes(alloc: Global, tried: Tried) -> Option<List<u64>> {
     Some(codes)
 }
 
-/// Whether all these counts meet a line.
+/// Whether all these counts satisfy a line.
 fn are_all_met(line: &Inequality, codes: &[u64]) -> bool {
     for code in codes {
         if !are_met(line, *code) {
@@ -237,7 +237,7 @@ fn are_all_met(line: &Inequality, codes: &[u64]) -> bool {
     true
 }
 
-/// How many lines hold; none where some counts don't meet one of them.
+/// How many lines hold; `None` if some counts violate one of them.
 fn number_of_held(all: &[Tested], codes: &[u64]) -> Option<usize> {
     let mut held = 0usize;
     for t in all {
@@ -265,7 +265,7 @@ pub(crate) fn problem_of(alloc: Global, tried: Tried) -> Option<Problem> {
     }
 }
 
-/// How many lines of one divisor hold; none where some counts don't meet one of them.
+/// How many lines of one divisor hold; `None` if some counts violate one of them.
 fn number_held_of(
     alloc: Global,
     instance: &Instance,
@@ -277,7 +277,7 @@ fn number_held_of(
     number_of_held(all.items(), codes)
 }
 
-/// How many lines of all divisors hold; none where some counts don't meet one of them.
+/// How many lines of all divisors hold; `None` if some counts violate one of them.
 fn number_held_by(
     alloc: Global,
     instance: &Instance,
@@ -291,7 +291,7 @@ fn number_held_by(
     Some(held)
 }
 
-/// How many lines hold, of all divisors; none where some able counts don't meet one of them.
+/// How many lines of all divisors hold on a network; `None` if some counts that carry the demands violate one of them.
 fn number_held(alloc: Global, tried: Tried, cuts: &[CutRow]) -> Option<usize> {
     let p = problem_of(alloc, tried)?;
     let codes = able_codes(alloc, tried)?;
@@ -310,7 +310,7 @@ fn able_counts_of_parallel_links_meet_all_lines(rt: HostRuntime) {
     assert!(rt; held >= Some(150), "{} lines", held.unwrap_or(0));
 }
 
-/// Three modules on each link carry the sample's demands, and without those of its first link they don't.
+/// Three modules on each link carry the sample's demands. Without those of the first link they don't.
 #[test]
 fn counts_of_a_sample_are_able_or_not(rt: HostRuntime) {
     assert!(rt; carry_sample(0xfff) && !carry_sample(0xffc));

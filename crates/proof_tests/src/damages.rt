@@ -26,7 +26,8 @@ const BC: DividedRow = (10000, &[(2, 1)]);
 
 const ALL: DividedRow = (1, &[(3, 1), (4, 1), (5, 1)]);
 
-/// Lines that prove it: also where one that isn't named is doubled, and up to the divisor of 12000, which asks for one module alone.
+/// Lines that still prove it: one that isn't named is doubled, or a divisor is raised, but not to 12000, which would ask for one module
+/// alone.
 const KEPT: [&[DividedRow]; 4] = [
     &[AC, AB, BC, ALL],
     &[AC, AB, BC, ALL, ALL],
@@ -60,7 +61,7 @@ const BROKEN_SUMS: [&[DividedRow]; 7] = [
     &[AC, AB, BC, (1, &[(3, 1), (4, 1), (6, 1)])],
 ];
 
-/// Whether a check says this of the tree over these lines.
+/// Whether a check of the tree over these lines gives this answer.
 fn is_said(alloc: Global, lines: &[DividedRow], said: &[TreeRow]) -> bool {
     let named = Named { cuts: &CUTS, lines };
     first_wrong(alloc, 30000, &named, said).is_none()

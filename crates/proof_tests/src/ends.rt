@@ -13,7 +13,7 @@ const ENDS: [(&[u8], u64); 8] = [
     (b"", 0),
 ];
 
-/// The first text whose end isn't there.
+/// The first text whose report doesn't end at its place.
 fn first_wrong() -> Option<usize> {
     for i in 0..ENDS.len() {
         let (text, end) = ENDS[i];

@@ -5,7 +5,7 @@ use net_core::Problem;
 use report_words::fault::ReportRefusal;
 use std::alloc::Global;
 
-/// The place of a line, what replaces the line, and the place and the kind of the first fault; `read` at 0 where there is none.
+/// The place of a line, what replaces the line, and the place and the kind of the first fault; `read` at 0 if there is none.
 type Damaged = (usize, &'static [u8], u64, &'static str);
 
 /// The triangle's tree with other lines in the place of one: left out, doubled, with a letter in a number, and with a number too many or too
@@ -84,7 +84,7 @@ const OTHER_WORDS: [Damaged; 25] = [
     (15, b" \t# cheapest", 0, "read"),
 ];
 
-/// The tree with lines of each kind, damaged so.
+/// Damages of the tree that has lines of each kind.
 const DAMAGED_LINES: [Damaged; 19] = [
     (1, b"# line 2 10000 3 0\n", 46, "limit"),
     (1, b"# line 1 10k 3 0\n", 48, "number-not"),
@@ -141,7 +141,7 @@ fn fault_of(alloc: Global, p: &Problem, text: &[u8]) -> Option<(u64, &'static st
     }
 }
 
-/// Whether the lines, damaged so, have this first fault.
+/// Whether a tree with one line replaced has this first fault.
 fn is_told(alloc: Global, p: &Problem, lines: &[&[u8]], row: &Damaged) -> bool {
     let (place, by, at, kind) = *row;
     match changed(alloc, lines, place, by) {
@@ -150,7 +150,7 @@ fn is_told(alloc: Global, p: &Problem, lines: &[&[u8]], row: &Damaged) -> bool {
     }
 }
 
-/// The first row that isn't told so of lines on the triangle.
+/// The first row whose fault isn't the expected one, for trees on the triangle.
 fn first_untold(alloc: Global, p: &Problem, lines: &[&[u8]], rows: &[Damaged]) -> Option<usize> {
     for i in 0..rows.len() {
         if !is_told(alloc, p, lines, &rows[i]) {
@@ -160,7 +160,7 @@ fn first_untold(alloc: Global, p: &Problem, lines: &[&[u8]], rows: &[Damaged]) -
     None
 }
 
-/// The first row that isn't told so.
+/// The first row whose fault isn't the expected one.
 fn first_wrong(alloc: Global, lines: &[&[u8]], rows: &[Damaged]) -> Option<usize> {
     match worked(alloc, 0) {
         None => Some(rows.len()),

@@ -8,8 +8,8 @@ const MOST: [(u32, u64); 256] = [(0, 1); 256];
 
 const TOO_MANY: [(u32, u64); 257] = [(0, 1); 257];
 
-/// Each number at its limit, and one past it: 2^126 for divisors and sums, 2^62 for numerators, 256 terms, and 4096 for what a table
-/// line needs. A weight may be as great as 32 bits hold, and two modules cover what 4096 asks for.
+/// Each number at its limit, and one above it: 2^126 for divisors and sums, 2^62 for numerators, 256 terms, and 4096 for what a table line
+/// asks for. A weight may be any number below 2^32, and two modules cover what 4096 asks for.
 const ROWS: [(LineRow, Expected); 22] = [
     (Divided((1 << 126) - 1, &[(0, 1)]), Some(([0, 0, 1], 1))),
     (Divided(1 << 126, &[(0, 1)]), None),

@@ -9,8 +9,8 @@ use table_maker::{Part, TableTask, narrow_lines, set_cuts, table_lines};
 /// Known cuts of the triangle, and the further ones of the node sets into which they part it.
 type SetsRow = (&'static [CutRow], &'static [CutRow]);
 
-/// Where AB has no length, A and B are on one side; where BC has none and AB fails, B and C are. All three nodes are apart where each
-/// link has a length, but nothing has to leave B.
+/// If AB has no length, A and B are on one side; if BC has none and AB fails, B and C are. If each link has a length, all three nodes are
+/// apart, but nothing has to leave B.
 const SETS: [SetsRow; 6] = [
     (&[], &[]),
     (
@@ -86,7 +86,7 @@ const TRIANGLE: Given = Given {
     lines: &[],
 };
 
-/// Lines that need 4096 and 4097.
+/// Lines that ask for 4096 and 4097.
 const AT_THE_LIMIT: Given = Given {
     tried: Tried::Triangle,
     cuts: &[(0, &[0, 1, 1], 12000)],
@@ -144,7 +144,7 @@ const NARROW: [NarrowRow; 4] = [
     (&THREE_LINKS, &[Divided(5000, &[(0, 1)])]),
 ];
 
-/// What a point has of modules, by link and place, over a denominator.
+/// How much of each module a point has: link, place and numerator, and the common denominator.
 type PointRow = (&'static [(usize, usize, u128)], u128);
 
 /// What a table line is made of.
@@ -156,20 +156,20 @@ enum Place {
     ThreeLinks,
 }
 
-/// Table lines over what is given: the point, the greatest weight, how many at most, and those that are made.
+/// Table lines from given lines: the point, the greatest weight, the most lines, and those that are made.
 type TableRow = (Place, PointRow, u32, usize, &'static [LineRow]);
 
 /// 0.6 of a module on BC and on AC.
 const LITTLE: PointRow = (&[(1, 0, 6), (2, 0, 6)], 10);
 
-/// At C two modules cover what is needed, and three where one has failed. In parts of 20 they weigh 10 each, and 7, which makes 21. With
-/// 0.6 on each link 12 of 20 are there, and 8.4 of 21; with one on each 20, and 14 of 21; with 2.9 together 20.3 of 21; and with 2.99999
-/// less than a ten-thousandth is missed. A module that isn't there gives nothing.
+/// At C two modules cover what is needed, and three if one of them has failed. In parts of 20 a module weighs 10, and two make 20; with a
+/// failure it weighs 7, and three make 21. With 0.6 on each link a point has 12 of 20, and 8.4 of 21; with one on each it has 20, and 14 of
+/// 21; with 2.9 together 20.3 of 21; and with 2.99999 it misses by less than a ten-thousandth. A module that isn't there gives nothing.
 ///
-/// Where BC fails only AC is left, of which nothing more may fail.
+/// If BC fails, only AC is left, and nothing more may fail.
 ///
-/// Over the three links the kinds cost 5000 and 9000. Covers cost 14000 at least by one of each kind, and where a largest one has failed
-/// 20000, by four small ones: in parts of 20 the weights are 8 and 13, and 5 and 9, over which four small ones weigh 20.
+/// Over the three links the kinds cost 5000 and 9000. A cover costs at least 14000, by one module of each kind, and 20000 if a largest one
+/// has failed, by four small ones. In parts of 20 the kinds weigh 8 and 13, and with a failure 5 and 9, where four small ones weigh 20.
 const TABLES_AT_C: [TableRow; 12] = [
     (
         Place::AtC,

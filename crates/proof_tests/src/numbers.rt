@@ -1,7 +1,7 @@
 use crate::rows::LineRow::{Divided, Failing, Plain};
 use crate::rows::{CutRow, Expected, LineRow, first_wrong};
 
-/// The cuts of one link each where the two others don't carry, that of C where nothing fails, and one whose right side isn't its own.
+/// The cuts of one link each where the two others don't carry the demand, that of C where nothing fails, and one with a wrong right side.
 const CUTS: [CutRow; 5] = [
     (1, &[0, 0, 1], 12000),
     (3, &[1, 0, 0], 12000),
@@ -43,14 +43,14 @@ const ROWS: [(LineRow, Expected); 22] = [
     (Plain(10, &[0]), Some(([0, 0, 0], 0))),
 ];
 
-/// With 2.00 in place on each link 10.00 are missing on each: one module will do. The cut of C misses 8.00.
+/// With 2.00 installed on each link 10.00 are missing on each, so that one module is enough. The cut of C misses 8.00.
 const FIXED: [(LineRow, Expected); 3] = [
     (Divided(10000, &[(0, 1)]), Some(([0, 0, 1], 1))),
     (Divided(1, &[(3, 1)]), Some(([0, 8000, 8000], 8000))),
     (Divided(4000, &[(3, 1)]), Some(([0, 2, 2], 2))),
 ];
 
-/// With 12.00 in place no module is needed, and lines ask for nothing.
+/// With 12.00 installed no module is needed, and lines ask for nothing.
 const ENOUGH: [(LineRow, Expected); 2] = [
     (Divided(10000, &[(0, 1)]), Some(([0, 0, 0], 0))),
     (Plain(5, &[]), None),

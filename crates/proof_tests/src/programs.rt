@@ -84,7 +84,7 @@ fn lines(alloc: Global, asked: Option<u128>) -> Result<List<Tested>, NoMemory> {
     Ok(lines)
 }
 
-/// What a solution says of the module, of the line and of the rank.
+/// What a solution gives: the module's amount, the line's numerator, and the rank.
 fn told(solution: &Solution) -> Found {
     let amount = solution.amounts.items().first();
     let line = solution.cert.lines.items().first();

@@ -17,7 +17,7 @@ pub(crate) enum LineRow {
     Failing(u32, &'static [u32]),
 }
 
-/// What is expected of a line: the coefficients of three links of one module each, and the right side; none where it doesn't hold.
+/// What is expected of a line: the coefficients of three links with one module each, and the right side; `None` if it doesn't hold.
 pub(crate) type Expected = Option<([u128; 3], u128)>;
 
 pub(crate) fn cuts(alloc: Global, rows: &[CutRow]) -> Result<List<CutLine>, NoMemory> {
@@ -71,7 +71,7 @@ pub(crate) fn lines(alloc: Global, rows: &[LineRow]) -> Result<List<Line>, NoMem
     Ok(lines)
 }
 
-/// The triangle of links with modules of 10.00 for 5.00 and so much in place, a demand of 12.00 from A to C, and each link failing alone.
+/// The triangle of links with modules of 10.00 for 5.00 and so much installed, a demand of 12.00 from A to C, and each link failing alone.
 pub(crate) fn worked(alloc: Global, fixed: u64) -> Option<Problem> {
     problem(alloc, triangle(alloc, fixed).ok()?, &[(0, 2, 12000)]).ok()
 }

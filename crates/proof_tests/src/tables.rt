@@ -1,4 +1,4 @@
-//! A tree over table lines, damaged line by line and number by number, with what comes of each damage, as it was worked out by hand.
+//! Tests of a tree over table lines, damaged line by line and number by number, with the results of each damage worked out by hand.
 use crate::rows::worked;
 use crate::tables::Said::{Checked, Fault};
 use crate::texts::{changed, read};
@@ -24,14 +24,14 @@ const TREE: [&[u8]; 10] = [
     b"# above 15.000\n",
 ];
 
-/// What comes of a tree: the place and the kind of its first fault, or what a check says.
+/// The result for a tree: the place and the kind of its first fault, or what a check says.
 #[derive(Clone, Copy)]
 enum Said {
     Fault(u64, &'static str),
     Checked(TreeAnswer),
 }
 
-/// The place of a line, what replaces the line, and what comes of it.
+/// The place of a line, what replaces the line, and the result.
 type Damage = (usize, &'static [u8], Said);
 
 /// The tree as it is, and each line left out.
@@ -96,7 +96,7 @@ const DOUBLED: [Damage; 10] = [
     (9, b"# above 15.000\n# above 15.000\n", Fault(203, "limit")),
 ];
 
-/// The numbers of the cuts.
+/// Changes of the numbers of the cuts.
 const CUTS: [Damage; 19] = [
     (0, b"# box-cut 1 0 12000 0 1 1\n", Fault(23, "limit")),
     (0, b"# box-cut 0 1 12000 0 1 1\n", Checked(Rejected(2))),
@@ -119,7 +119,7 @@ const CUTS: [Damage; 19] = [
     (1, b"# box-cut 1 1 12000 0 0 0\n", Checked(Rejected(1))),
 ];
 
-/// The numbers of the divided lines.
+/// Changes of the numbers of the divided lines.
 const LINES: [Damage; 15] = [
     (2, b"# line 3 10000 1 0\n", Fault(72, "limit")),
     (2, b"# line 1 10000 1 0\n", Fault(72, "limit")),
@@ -138,7 +138,7 @@ const LINES: [Damage; 15] = [
     (3, b"# line 3 5000 1 0\n", Checked(Rejected(1))),
 ];
 
-/// The numbers of the table lines, and another kind.
+/// Changes of the numbers of the table lines, and of the kind of a table.
 const TABLES: [Damage; 14] = [
     (4, b"# table 5 2 failing 1\n", Fault(110, "limit")),
     (4, b"# table 3 2 failing 1\n", Fault(110, "limit")),
@@ -156,7 +156,7 @@ const TABLES: [Damage; 14] = [
     (5, b"# table 5 3 failing 1\n", Checked(Rejected(1))),
 ];
 
-/// The numbers of the nodes, and of what the tree shows.
+/// Changes of the numbers of the nodes, and of what the tree shows.
 const NODES: [Damage; 13] = [
     (6, b"# split AC 1 1\n", Checked(Rejected(0))),
     (6, b"# split AC 0 2\n", Checked(Rejected(1))),
@@ -173,7 +173,7 @@ const NODES: [Damage; 13] = [
     (9, b"# above 14.999\n", Checked(Rejected(4))),
 ];
 
-/// Whether this comes of a damaged tree.
+/// Whether a damaged tree has this result.
 fn is_said(alloc: Global, p: &Problem, row: &Damage) -> bool {
     let (place, by, said) = *row;
     let Ok(text) = changed(alloc, &TREE, place, by) else {
@@ -188,7 +188,7 @@ fn is_said(alloc: Global, p: &Problem, row: &Damage) -> bool {
     }
 }
 
-/// The first row of which something else comes on the triangle.
+/// The first row whose result isn't the expected one, for trees on the triangle.
 fn first_unsaid(alloc: Global, p: &Problem, rows: &[Damage]) -> Option<usize> {
     for i in 0..rows.len() {
         if !is_said(alloc, p, &rows[i]) {
@@ -198,7 +198,7 @@ fn first_unsaid(alloc: Global, p: &Problem, rows: &[Damage]) -> Option<usize> {
     None
 }
 
-/// The first row of which something else comes.
+/// The first row whose result isn't the expected one.
 fn first_wrong(alloc: Global, rows: &[Damage]) -> Option<usize> {
     match worked(alloc, 0) {
         None => Some(rows.len()),

@@ -3,10 +3,10 @@ use proof_reader::{ReadTree, read_tree};
 use report_words::fault::ReportRefusal;
 use std::alloc::Global;
 
-/// What a report ends with, before its tree.
+/// The last tokens of a report, before its tree.
 const REPORT: &[u8] = b"OUTCOMES ( )\n";
 
-/// The place after its last token.
+/// The place after the report's last token.
 const END: usize = 12;
 
 /// The triangle's tree: two modules on each link are cheapest.
@@ -41,7 +41,7 @@ pub(crate) const LINED_TREE: [&[u8]; 8] = [
     b"# above 25.000\n",
 ];
 
-/// A tree's lines below the end of a report, with others in the place of one.
+/// The end of a report with a tree below it, one line of which is replaced.
 pub(crate) fn changed(
     alloc: Global,
     lines: &[&[u8]],

@@ -122,14 +122,14 @@ fn empty_proof(alloc: Global, cost: u128, verdict: Verdict) -> Proof {
     }
 }
 
-/// Puts cuts, lines and nodes into an empty tree.
+/// Fills an empty tree with cuts, lines and nodes.
 fn fill(alloc: Global, made: &mut Proof, named: &Named, rows: &[NodeRow]) -> Result<(), NoMemory> {
     made.cuts = cuts(alloc, named.cuts)?;
     made.lines = divided(alloc, named.lines)?;
     put_nodes(alloc, &mut made.tree, rows)
 }
 
-/// What a check says of a plan with a tree; nothing where the tree has a thousand nodes or more.
+/// What a check says of a plan with a tree; `None` if the tree has a thousand nodes or more.
 pub(crate) fn answer_of(alloc: Global, p: &Problem, proof: &Proof) -> Option<TreeAnswer> {
     if proof.tree.len() < 1000 {
         Some(check_tree(alloc, &p.net, &p.states, &p.demands, proof))

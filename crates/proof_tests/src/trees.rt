@@ -1,4 +1,4 @@
-//! What trees say that were read, and what a check of trees says of them.
+//! Tests of what is read from the text of trees, and of what a check says of it.
 use crate::rows::worked;
 use crate::texts::{LINED_TREE, TREE, changed, read};
 use crate::tree_rows::{answer_of, plan_of};
@@ -42,7 +42,7 @@ struct TreeRow {
     verdict: Verdict,
 }
 
-/// What the triangle's tree says.
+/// What is read from the triangle's tree.
 const SAID: TreeRow = TreeRow {
     cuts: &[
         (0, 12000, &[1, 0, 1]),
@@ -67,7 +67,7 @@ const SAID: TreeRow = TreeRow {
     verdict: Verdict::Cheapest,
 };
 
-/// What the tree with lines of each kind says.
+/// What is read from the tree with lines of each kind.
 const LINES_SAID: TreeRow = TreeRow {
     cuts: &[(1, 12000, &[0, 0, 1])],
     lines: &[
@@ -158,7 +158,7 @@ fn is_node(node: &Node, row: &NodeRow) -> bool {
     }
 }
 
-/// Whether cuts are told, in their order.
+/// Whether cuts are these, in their order.
 fn are_cuts(cuts: &[CutLine], rows: &[CutRow]) -> bool {
     for i in 0..rows.len() {
         match cuts.get(i) {
@@ -169,7 +169,7 @@ fn are_cuts(cuts: &[CutLine], rows: &[CutRow]) -> bool {
     cuts.len() == rows.len()
 }
 
-/// Whether further lines are told, in their order.
+/// Whether lines are these, in their order.
 fn are_lines(lines: &[Line], rows: &[LineRow]) -> bool {
     for i in 0..rows.len() {
         match lines.get(i) {
@@ -180,7 +180,7 @@ fn are_lines(lines: &[Line], rows: &[LineRow]) -> bool {
     lines.len() == rows.len()
 }
 
-/// Whether nodes are told, in their order.
+/// Whether nodes are these, in their order.
 fn are_nodes(nodes: &[Node], rows: &[NodeRow]) -> bool {
     for i in 0..rows.len() {
         match nodes.get(i) {
@@ -199,7 +199,7 @@ fn is_said(tree: &ReadTree, row: &TreeRow) -> bool {
         && tree.verdict == row.verdict
 }
 
-/// The tree that these lines spell, with others in the place of one.
+/// The tree that is read from these lines, one of which is replaced.
 fn tree_of(
     alloc: Global,
     p: &Problem,
@@ -244,7 +244,7 @@ pub(crate) fn answer_to(alloc: Global, p: &Problem, tree: ReadTree) -> Option<Tr
     answer_of(alloc, p, &proof)
 }
 
-/// Whether a check says this of the triangle's tree, with others in the place of one line.
+/// Whether a check says this of the triangle's tree, one line of which is replaced.
 fn is_checked(alloc: Global, p: &Problem, place: usize, by: &[u8], answer: TreeAnswer) -> bool {
     match tree_of(alloc, p, &TREE, place, by) {
         Some(tree) => answer_to(alloc, p, tree) == Some(answer),
@@ -272,7 +272,7 @@ fn first_wrong(alloc: Global) -> Option<usize> {
 }
 
 #[test]
-fn trees_say_what_stands_there(rt: HostRuntime) {
+fn trees_are_read_as_their_text_says(rt: HostRuntime) {
     assert!(rt; says(rt.alloc(), &TREE, &SAID));
     assert!(rt; says(rt.alloc(), &LINED_TREE, &LINES_SAID));
 }
