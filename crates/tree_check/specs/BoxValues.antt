@@ -84,14 +84,6 @@ pub record IsBounded (charge price : ℕ) (s : Span) : Type 0 where
   pub gain_limit : gain_by charge price s < 2 ^ 126
   pub loss_limit : loss_by charge price s < 2 ^ 126
 
--- so it is with module m of link e
-abbrev pub IsModuleBounded : List Link → List (List Span) → ℕ → List WeightedLine → ℕ → ℕ → Type 0
-IsModuleBounded links box den terms e m = IsBounded (module_charge links den e m) (module_price terms e m) (span_at box e m)
-
--- and with all modules
-abbrev pub AreBounded : List Link → List (List Span) → ℕ → List WeightedLine → Type 0
-AreBounded links box den terms = (e m : ℕ) → e < length links → m < module_number links e → IsModuleBounded links box den terms e m
-
 -- Lines with numerators over a denominator are a certificate of a box: their numbers and sums keep their limits.
 pub record IsBoxCertificate (links : List Link) (box : List (List Span)) (den : ℕ) (terms : List WeightedLine) : Type 0 where
   pub positive : 1 ≤ den
@@ -99,7 +91,7 @@ pub record IsBoxCertificate (links : List Link) (box : List (List Span)) (den : 
   pub nums : All (λ t. t.num < 2 ^ 62) terms
   pub asked_limit : asked_right terms < 2 ^ 126
   pub given_limit : given_free terms < 2 ^ 126
-  pub modules : AreBounded links box den terms
+  pub modules : (e m : ℕ) → e < length links → m < module_number links e → IsBounded (module_charge links den e m) (module_price terms e m) (span_at box e m)
   pub modules_limit : AreNear (all_gains links box den terms) (all_losses links box den terms)
   pub value_limit : AreNear (value_gains links box den terms) (value_losses links box den terms)
 

@@ -4,7 +4,7 @@ use Rattle.plan_terms.specs.Terms.{Link}
 use Rattle.tree_check.specs.Boxes.{lower_side, upper_side, whole_box}
 use Rattle.tree_check.specs.declared.boxes.Span.{Span}
 use Rattle.tree_check.specs.declared.proof.Node.{Node}
-use Rattle.tree_check.specs.declared.proof.Node.TheVariants.{Split, Closed, Empty, Spent, Stuck}
+use Rattle.tree_check.specs.declared.proof.Node.TheVariants.{Split}
 
 -- a box, as a list of spans for each link
 abbrev pub TreeBox : Type 0
@@ -13,10 +13,7 @@ TreeBox = List (List Span)
 -- the boxes of the two sides of a split; a leaf has none
 abbrev pub sides_of : TreeBox → Node → List TreeBox
 sides_of box (Split link at_module number) = lower_side box link.0 at_module number ∷ upper_side box link.0 at_module number ∷ []
-sides_of box (Closed cert) = []
-sides_of box (Empty line) = []
-sides_of box (Spent cert) = []
-sides_of box (Stuck cert evidence) = []
+sides_of box _ = []
 
 -- The boxes that no node has yet, the next one first, where nodes in preorder take them in turn: a split leaves its two sides in its box's place.
 abbrev pub boxes_left : List TreeBox → List Node → List TreeBox

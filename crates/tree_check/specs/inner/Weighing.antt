@@ -1,8 +1,9 @@
 -- gains of modules, and their sums
 use Rattle.std.specs.Prelude.{◌≡◌, ℕ, ◌+◌, ◌*◌, ◌<◌, ◌≤◌, ◌^◌, Option, None, Some}
 use Rattle.plan_terms.specs.Terms.{sum_below}
-use Rattle.tree_check.specs.BoxValues.{IsBounded, IsBoxValue, IsModuleBounded, gain_by, loss_by, module_gain, module_loss}
-use Rattle.line_check.specs.Terms.{module_number, weighed}
+use Rattle.tree_check.specs.BoxValues.{IsBounded, IsBoxValue, gain_by, loss_by, module_charge, module_gain, module_loss}
+use Rattle.tree_check.specs.Boxes.{span_at}
+use Rattle.line_check.specs.Terms.{module_number, module_price, weighed}
 use Rattle.tree_check.specs.declared.gains.Gain.{Gain}
 use Rattle.tree_check.specs.declared.gains.Gains.{Gains}
 use Rattle.tree_check.specs.declared.weighing.Weighing.{Weighing}
@@ -21,7 +22,8 @@ IsGainOf charge price s (Some g) = IsBounded charge price s × (g.gain ≡ gain_
 
 -- module m of link e is bounded
 abbrev pub IsBoundedIn : Weighing → ℕ → ℕ → Type 0
-IsBoundedIn w e m = IsModuleBounded w.links.now w.boxed.now w.den (weighed w.tested.now w.lines.now) e m
+IsBoundedIn w e m =
+    IsBounded (module_charge w.links.now w.den e m) (module_price (weighed w.tested.now w.lines.now) e m) (span_at w.boxed.now e m)
 
 -- what it adds
 abbrev pub gain_in : Weighing → ℕ → ℕ → ℕ
