@@ -11,7 +11,7 @@ use Rattle.text_kit.specs.declared.refusal.Refusal.TheVariants.{Bad, NoMemory}
 use Rattle.text_kit.proofs.Lemmas.{fault_kept, found_spelled, only_spelled, spelled_faultless, err_parts}
 use Rattle.sndlib_reader.specs.declared.fault.ReadKind.{ReadKind}
 use Rattle.sndlib_reader.specs.declared.fault.ReadKind.TheVariants.{Header, Section, Token, Ended, Limit, Number, UnknownName, DoubleName, SelfLink, SelfDemand, ZeroModule, FixedLink}
-use Rattle.sndlib_reader.specs.NetworkFiles.{IsFirstFault, IsNoEarlyFault, IsReadWith, IsTooFineAt, Spells, in_its_places, is_too_fine, network_in, network_of}
+use Rattle.sndlib_reader.specs.NetworkFiles.{IsNoEarlyFault, IsReadWith, Spells, in_its_places, is_too_fine, network_in, network_of}
 use Rattle.sndlib_reader.specs.Reading.{native_sections_at}
 use Rattle.sndlib_reader.specs.Spelling.{Parts, SpellsParts, header, parts_of}
 use Rattle.sndlib_reader.proofs.Online.{sections_online}
@@ -103,7 +103,7 @@ is_only bytes (Ok x) h = λ net demands s.
     (sym (ap (λ (y : Parts × List Demand). y.0.nodes) same), sym (ap (λ (y : Parts × List Demand). y.0.links) same), sym (ap (λ (y : Parts × List Demand). y.0.notes) same), sym (ap (λ (y : Parts × List Demand). y.0.places) same), sym (ap (λ (y : Parts × List Demand). y.1) same))
 is_only bytes (Err e) h = tt
 
-pub first_fault : (bytes : List ℕ) (r : Answer) → ReadsAllAs seen r (network_of bytes) → (at : ℕ) (kind : ReadKind) → r ≡ Err (Bad at kind) → IsFirstFault bytes at kind × ((net : Network) (demands : List Demand) → Spells bytes net demands → ⊥)
+pub first_fault : (bytes : List ℕ) (r : Answer) → ReadsAllAs seen r (network_of bytes) → (at : ℕ) (kind : ReadKind) → r ≡ Err (Bad at kind) → (network_of bytes ≡ Err (at, kind)) × ((net : Network) (demands : List Demand) → Spells bytes net demands → ⊥)
 first_fault bytes r h at kind e =
     let f : ReadsAllAs seen (Err (Bad at kind)) (network_of bytes) = subst (λ (x : Answer). ReadsAllAs seen x (network_of bytes)) e h in
     let i = its_places bytes in
@@ -118,7 +118,7 @@ same_fault_in p bytes at kind other n same e ends = fault_kept Header header (na
 
 -- bytes that agree past a fault, and past each number that is too fine, are read with the places of these
 same_places : (p : Places) (bytes : List ℕ) (at : ℕ) (kind : ReadKind) (other : List ℕ) (n : ℕ) → take n bytes ≡ take n other → IsReadWith p bytes → network_in p bytes ≡ Err (at, kind) → EndsBefore at n (body bytes)
-    → ((fine : ℕ) → IsTooFineAt bytes fine → EndsBefore fine n (body bytes)) → IsReadWith p other
+    → ((fine : ℕ) → network_in Three bytes ≡ Err (fine, Number TooFine) → EndsBefore fine n (body bytes)) → IsReadWith p other
 same_places Three bytes at kind other n same reads e ends past = λ t.
     let there = same_fault_in Three bytes at kind other n same e ends in
     reads (at, e ∙ ap (λ (k : ReadKind). Err (at, k)) (one_fault (network_in Three other) at t.0 kind (Number TooFine) there t.1))

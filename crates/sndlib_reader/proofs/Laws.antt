@@ -6,7 +6,7 @@ use Rattle.net_core.specs.declared.demand.Demand.{Demand}
 use Rattle.net_core.specs.declared.ids.NodeId.{NodeId}
 use Rattle.net_core.specs.declared.network.Module.{Module}
 use Rattle.net_core.specs.declared.places.Places.{Places}
-use Rattle.text_kit.specs.Terms.{ComeAfter, AreSpelled, Item, Verbatim, Money, Opening, Closing, word_at, Parenthesis, no_fault, number_or}
+use Rattle.text_kit.specs.Terms.{ComeAfter, AreSpelled, Item, Verbatim, Money, Opening, Closing, word_at, Parenthesis, list_at, no_fault, number_or}
 use Rattle.text_kit.proofs.Lemmas.{all_after, after_all, after_as, after_both, lawful_amount, number_takes, IsNew, are_new, lawful_new_name, lawful_place, new_are, AnyText, Lawful, Starts, after_few, few_after, lawful_as, lawful_close, lawful_give, lawful_list, lawful_open, lawful_then, lawful_word, Spelled, after_parts, parts_after, spelled_as, spelled_give, spelled_law, spelled_list, spelled_then, spelled_word}
 use Rattle.snd_tokens.specs.Terms.{amount_of, units_of}
 use Rattle.sndlib_reader.specs.declared.costs.CostedLink.{CostedLink}
@@ -17,7 +17,7 @@ use Rattle.sndlib_reader.specs.declared.fault.Limited.TheVariants as limits
 use Rattle.sndlib_reader.specs.declared.fault.ReadKind.{ReadKind}
 use Rattle.sndlib_reader.specs.declared.fault.ReadKind.TheVariants.{Token, Ended, Limit, Number, DoubleName, UnknownName, SelfLink, SelfDemand, FixedLink}
 use Rattle.sndlib_reader.specs.Spelling.{IsHops, IsShortLink, SpellsDemand, node_pair_items, link_items, module_items}
-use Rattle.sndlib_reader.specs.Reading.{other_node, amount, unit, capacity, need, hops, ends_at, module_at, unserved, native_modules_at, link_numbers_at, link_rest_at, named_link, native_link_at, costed_links_at, demand_rest_at, native_demand_at, native_demands_at}
+use Rattle.sndlib_reader.specs.Reading.{other_node, amount, unit, capacity, need, hops, ends_at, module_at, unserved, link_numbers_at, link_rest_at, named_link, native_link_at, costed_links_at, demand_rest_at, native_demand_at, native_demands_at}
 use Rattle.sndlib_reader.proofs.WordTests.{IsCapacity, IsNodeIn, capacity_again, capacity_takes, hops_again, hops_takes, need_again, need_takes, other_again, other_takes}
 
 abbrev pub AreDifferent : List (List ℕ) → Type 0
@@ -75,8 +75,8 @@ served_again : (fixed : ℕ) (ms : List Module) → (ms ≡ [] → fixed ≡ 0) 
 served_again fixed [] h = rw (h refl) refl
 served_again fixed (m ∷ ms) h = rw (has_some m ms) refl
 
-modules_lawful : (p : Places) (fixed : ℕ) → Lawful (native_modules_at p fixed []) (λ ms. flat_map (module_items p) ms ++ Closing ∷ []) (AreModules fixed) AnyText
-modules_lawful p fixed = lawful_as (native_modules_at p fixed []) _ (λ ms. flat_map (module_items p) ms ++ Closing ∷ []) _ (AreModules fixed) AnyText (λ ms h. refl)
+modules_lawful : (p : Places) (fixed : ℕ) → Lawful (list_at Parenthesis (unserved fixed) (module_at p) []) (λ ms. flat_map (module_items p) ms ++ Closing ∷ []) (AreModules fixed) AnyText
+modules_lawful p fixed = lawful_as (list_at Parenthesis (unserved fixed) (module_at p) []) _ (λ ms. flat_map (module_items p) ms ++ Closing ∷ []) _ (AreModules fixed) AnyText (λ ms h. refl)
     (λ ms h. let f = few_after 16 (λ before m. IsModule m) [] ms (omega arith) h.1 in record { few = f.0; each = after_all IsModule [] ms f.1; served = served_takes fixed ms h.0 })
     (λ ms h. (served_again fixed ms h.served, after_few 16 (λ before m. IsModule m) [] ms h.few (all_after IsModule [] ms h.each)))
     (lawful_list Parenthesis (unserved fixed) (module_at p) (module_items p) (λ sofar m. (length sofar < 16) × IsModule m) (λ m. tt) (module_lawful p))

@@ -22,13 +22,9 @@ abbrev pub is_too_fine : ReadKind → Bool
 is_too_fine (Number TooFine) = true
 is_too_fine _ = false
 
--- the first fault with three places is the number at this place, which has too many
-abbrev pub IsTooFineAt : List ℕ → ℕ → Type 0
-IsTooFineAt bytes at = network_in Three bytes ≡ Err (at, Number TooFine)
-
 -- the first fault with three places is a number that has too many
 abbrev pub IsTooFine : List ℕ → Type 0
-IsTooFine bytes = (at : ℕ) × IsTooFineAt bytes at
+IsTooFine bytes = (at : ℕ) × (network_in Three bytes ≡ Err (at, Number TooFine))
 
 -- a file is read with three places, and with six where it is too fine for three
 abbrev pub IsReadWith : Places → List ℕ → Type 0
@@ -48,15 +44,11 @@ in_its_places (Err e) six = if is_too_fine e.1 then six else Err e
 abbrev pub network_of : List ℕ → Read ReadKind (Parts × List Demand)
 network_of bytes = in_its_places (network_in Three bytes) (network_in Six bytes)
 
--- the first fault by place of these bytes
-abbrev pub IsFirstFault : List ℕ → ℕ → ReadKind → Type 0
-IsFirstFault bytes at kind = network_of bytes ≡ Err (at, kind)
-
 -- A fault isn't too early: no bytes are spelled right that agree past the lexeme at its place, and past the number that was too fine for three
 -- places where one was. It says nothing of the header and of the end.
 abbrev pub IsNoEarlyFault : List ℕ → Refusal ReadKind → Type 0
 IsNoEarlyFault bytes (Bad at kind) =
     (other : List ℕ) (n : ℕ) → take n bytes ≡ take n other → EndsBefore at n (body bytes)
-    → ((fine : ℕ) → IsTooFineAt bytes fine → EndsBefore fine n (body bytes))
+    → ((fine : ℕ) → network_in Three bytes ≡ Err (fine, Number TooFine) → EndsBefore fine n (body bytes))
     → (net : Network) (demands : List Demand) → Spells other net demands → ⊥
 IsNoEarlyFault bytes NoMemory = Unit {0}

@@ -142,10 +142,6 @@ module_at p sofar = do
 abbrev pub unserved : ℕ → List Module → Option ReadKind
 unserved fixed modules = if (length modules == 0) && nat_lt 0 fixed then Some FixedLink else None
 
--- further modules of a link
-abbrev pub native_modules_at : Places → ℕ → List Module → Reading ReadKind (List Module)
-native_modules_at p fixed sofar = list_at Parenthesis (unserved fixed) (module_at p) sofar
-
 -- the pre-installed capacity of a link and its costs
 unfoldable pub link_numbers_at : Places → Reading ReadKind LinkNumbers
 link_numbers_at p = do
@@ -161,7 +157,7 @@ link_rest_at p nodes = do
   ends ← ends_at SelfLink nodes
   numbers ← link_numbers_at p
   _ ← open_at Token Ended
-  modules ← native_modules_at p numbers.fixed []
+  modules ← list_at Parenthesis (unserved numbers.fixed) (module_at p) []
   give (record { a = ends.0; b = ends.1; numbers = numbers; modules = modules })
 
 -- the link of a name, with the two costs that aren't kept

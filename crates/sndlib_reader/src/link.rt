@@ -1,8 +1,8 @@
 ghost use Rattle.std.specs.Prelude.{◌≡◌, ◌≤◌, ◌<◌, ◌++◌, ◌∷◌, None, false, IsTrue, IfOk, OnOk, Ok, [], length, map};
 ghost use Rattle.net_core.specs.Terms.{is_named};
 ghost use Rattle.snd_tokens.specs.Terms.{left, size};
-ghost use Rattle.text_kit.specs.Terms.{ReadsAs, TakesElement, sound, word_at};
-ghost use Rattle.sndlib_reader.specs.Reading.{capacity, native_link_at, link_numbers_at, link_rest_at, named_link, link_fault, costed_links_at, module_at, native_modules_at};
+ghost use Rattle.text_kit.specs.Terms.{ReadsAs, TakesElement, Parenthesis, list_at, sound, word_at};
+ghost use Rattle.sndlib_reader.specs.Reading.{capacity, native_link_at, link_numbers_at, link_rest_at, named_link, link_fault, costed_links_at, module_at, unserved};
 
 use crate::costs::CostedLink;
 use crate::fault::{Limited, ReadKind, ReadRefusal};
@@ -77,8 +77,8 @@ fn take_module(
     all: &mut List<Module>,
     text: &mut Cursor,
 ) -> Result<bool, ReadRefusal>
-    ensures turn { TakesElement result (native_modules_at places fixed all.old (left text.old))
-        (native_modules_at places fixed all.new (left text.new)) (Ok (all.new, left text.new)) }
+    ensures turn { TakesElement result (list_at Parenthesis (unserved fixed) (module_at places) all.old (left text.old))
+        (list_at Parenthesis (unserved fixed) (module_at places) all.new (left text.new)) (Ok (all.new, left text.new)) }
     ensures shorter { IfOk result (λ more. IsTrue more → size (left text.new) < size (left text.old)) }
 {
     if let Some(at) = closes(text) {
@@ -99,7 +99,7 @@ fn modules(
     fixed: u64,
     text: &mut Cursor,
 ) -> Result<List<Module>, ReadRefusal>
-    ensures { ReadsAs (λ modules. modules) result (left text.new) (native_modules_at places fixed [] (left text.old)) }
+    ensures { ReadsAs (λ ms. ms) result (left text.new) (list_at Parenthesis (unserved fixed) (module_at places) [] (left text.old)) }
 {
     let mut all = List::new(alloc);
     while take_module(places, fixed, &mut all, text)? {}

@@ -6,7 +6,7 @@ ghost use Rattle.net_core.specs.declared.demand.Demand.{Demand as Dem};
 ghost use Rattle.text_kit.specs.Terms.{ReadsAllAs, ReadsAs, word_at};
 ghost use Rattle.text_kit.specs.declared.refusal.Refusal.{Refusal};
 ghost use Rattle.sndlib_reader.specs.declared.fault.ReadKind.{ReadKind};
-ghost use Rattle.sndlib_reader.specs.NetworkFiles.{IsFirstFault, IsNoEarlyFault, Spells, network_in, network_of};
+ghost use Rattle.sndlib_reader.specs.NetworkFiles.{IsNoEarlyFault, Spells, network_in, network_of};
 ghost use Rattle.sndlib_reader.specs.inner.Refused.{was_too_fine};
 ghost use Rattle.sndlib_reader.specs.Spelling.{parts_of};
 ghost use Rattle.sndlib_reader.specs.Reading.{after_links_at, after_nodes_at, native_demands_at, is_meta, costed_links_at, parts, native_nodes_at, native_section_at, native_sections_at, node_section_at, start_at};
@@ -249,7 +249,7 @@ pub fn read_network(alloc: Global, bytes: &[u8]) -> Result<(Network, Demands), R
         × (net.links ≡ r.0.links) × (net.notes ≡ r.0.notes) × (net.places ≡ r.0.places) × (demands ≡ r.1)) }
     // What is refused as bad spells nothing, and the fault is the first one by place.
     ensures refused { (at : ℕ) (kind : ReadKind) → result ≡ Err (Refusal.Bad at kind)
-        → IsFirstFault bytes.now at kind × ((net : Net) (demands : List Dem) → Spells bytes.now net demands → ⊥) }
+        → (network_of bytes.now ≡ Err (at, kind)) × ((net : Net) (demands : List Dem) → Spells bytes.now net demands → ⊥) }
     // A fault isn't too early: no bytes that agree past it, and past a number that was too fine, are spelled right.
     ensures not_early { IfErr result (IsNoEarlyFault bytes.now) }
 {
