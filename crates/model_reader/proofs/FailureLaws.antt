@@ -7,7 +7,7 @@ use Rattle.net_core.specs.declared.network.Link.{Link}
 use Rattle.net_core.specs.declared.states.Listed.{Listed}
 use Rattle.net_core.specs.declared.states.States.{States}
 use Rattle.snd_tokens.specs.Terms.{first_line, trimmed, Text, EndAt}
-use Rattle.text_kit.specs.Terms.{AnswersAs, ReadsAllAs, IsNotTooEarly, body, ComeAfter, Item, Verbatim, Opening, Closing, word_at, Parenthesis, no_fault, not_empty}
+use Rattle.text_kit.specs.Terms.{AnswersAs, ReadsAllAs, IsNotTooEarly, body, ComeAfter, Item, Verbatim, Opening, Closing, word_at, Parenthesis, list_at, no_fault, not_empty}
 use Rattle.text_kit.specs.declared.refusal.Refusal.{Refusal}
 use Rattle.text_kit.proofs.Lemmas.{all_after, after_all, after_as, after_both, IsNew, are_new, lawful_new_name, lawful_place, new_are, answer_found, answer_only, answer_first, file_read, AnyText, IsEnd, Lawful, lawful_as, lawful_give, lawful_list, lawful_open, lawful_some, lawful_then, lawful_whole, lawful_word, IsOnline, TakesSome, online_give, online_list, online_open, online_then, online_whole, online_word, takes_some}
 use Rattle.model_reader.specs.declared.failures.FailureList.{FailureList}
@@ -15,7 +15,7 @@ use Rattle.model_reader.specs.declared.failures.FailureList.TheVariants.{OneByOn
 use Rattle.model_reader.specs.declared.failures.FailuresKind.{FailuresKind}
 use Rattle.model_reader.specs.declared.failures.FailuresKind.TheVariants.{Header, Section, Token, Ended, LimitName, UnknownLink, DoubleState, LimitStates}
 use Rattle.model_reader.specs.Failures.{IsListInForm, IsShort, SpellsFailures, failures_header, list_items, state_items, states_of}
-use Rattle.model_reader.specs.FailuresReading.{after_word, failure_list_at, failures_at, failures_of, failing_link_at, is_list, links_at, state_at, states_at}
+use Rattle.model_reader.specs.FailuresReading.{after_word, failure_list_at, failures_at, failures_of, failing_link_at, is_list, links_at, state_at}
 use Rattle.model_reader.proofs.FailureSingles.{network_differs}
 
 -- ---- links by name
@@ -80,8 +80,8 @@ state_lawful links pairs sofar = lawful_as (state_at links sofar) _ (state_items
     lawful_then _ _ _ _ _ _ AnyText (λ s. s.links) (λ a s h. ap (λ (x : Listed). x.links) h) (lawful_some Token (λ before. failing_link_at links) (λ e. Verbatim (link_name links e) ∷ []) (λ before e. IsLinkIn links e) (λ e. tt) (λ before. link_lawful links pairs)) (λ failing.
     lawful_give (record { name = name; links = failing })))))
 
-states_lawful : (links : List Link) → AreDifferent links → Lawful (states_at links []) (λ xs. flat_map (state_items links) xs ++ Closing ∷ []) (λ xs. AreStates (length links) xs × All (IsShort links) xs) AnyText
-states_lawful links pairs = lawful_as (states_at links []) _ (λ xs. flat_map (state_items links) xs ++ Closing ∷ []) _ _ AnyText (λ xs h. refl) (λ xs h. are_states links xs h.1) (λ xs h. (refl, are_after links xs h))
+states_lawful : (links : List Link) → AreDifferent links → Lawful (list_at Parenthesis no_fault (state_at links) []) (λ xs. flat_map (state_items links) xs ++ Closing ∷ []) (λ xs. AreStates (length links) xs × All (IsShort links) xs) AnyText
+states_lawful links pairs = lawful_as (list_at Parenthesis no_fault (state_at links) []) _ (λ xs. flat_map (state_items links) xs ++ Closing ∷ []) _ _ AnyText (λ xs h. refl) (λ xs h. are_states links xs h.1) (λ xs h. (refl, are_after links xs h))
     (lawful_list Parenthesis no_fault (state_at links) (state_items links) (IsStateAfter links) (λ s. tt) (state_lawful links pairs))
 
 -- the first word, and what comes after it

@@ -27,10 +27,6 @@ state_at links sofar = do
   failing ← links_at links []
   give (record { name = name; links = failing })
 
--- further states
-abbrev pub states_at : List Link → List Listed → Reading FailuresKind (List Listed)
-states_at links sofar = list_at Parenthesis no_fault (state_at links) sofar
-
 -- whether a word begins states one by one
 abbrev pub is_list : List ℕ → Result Bool FailuresKind
 is_list w =
@@ -41,7 +37,7 @@ is_list w =
 unfoldable pub after_word : List Link → Bool → Reading FailuresKind FailureList
 after_word links true = do
   _ ← open_at Section Ended
-  listed ← states_at links []
+  listed ← list_at Parenthesis no_fault (state_at links) []
   give (OneByOne listed)
 after_word links false = give EverySingleLink
 

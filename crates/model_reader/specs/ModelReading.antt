@@ -56,10 +56,6 @@ setting_at sofar = do
 abbrev pub missing : List Setting → Option ModelKind
 missing settings = option_map (λ k. kinds.Missing k) (first_key (λ k. not (has_key settings k)) all_keys)
 
--- further settings, up to the end
-abbrev pub settings_at : List Setting → Reading ModelKind (List Setting)
-settings_at sofar = list_at TheEnd missing setting_at sofar
-
 -- a whole file: its model, or its first fault by place
 abbrev pub model_of : List ℕ → Read ModelKind Model
-model_of bytes = file_at kinds.Header model_header (mapped model_of_settings (settings_at [])) bytes
+model_of bytes = file_at kinds.Header model_header (mapped model_of_settings (list_at TheEnd missing setting_at [])) bytes

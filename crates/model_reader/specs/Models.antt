@@ -56,15 +56,13 @@ pub record IsEachOnce (settings : List Setting) : Type 0 where
 
 -- the setting asks for reconfiguration
 abbrev pub asks_to_reconfigure : Setting → Bool
-asks_to_reconfigure (Plain key) = false
 asks_to_reconfigure Reconfiguration = true
-asks_to_reconfigure Charge = false
+asks_to_reconfigure _ = false
 
 -- the setting asks for a fixed charge
 abbrev pub asks_to_charge : Setting → Bool
-asks_to_charge (Plain key) = false
-asks_to_charge Reconfiguration = false
 asks_to_charge Charge = true
+asks_to_charge _ = false
 
 -- the model of settings
 abbrev pub model_of_settings : List Setting → Model

@@ -1,8 +1,8 @@
 ghost use Rattle.std.specs.Prelude.{◌≡◌, ◌≤◌, ◌<◌, [], None, length, position, IsTrue, IfOk, Ok};
 ghost use Rattle.net_core.specs.Terms.{are_same, is_named};
 ghost use Rattle.snd_tokens.specs.Terms.{left, size};
-ghost use Rattle.text_kit.specs.Terms.{ReadsAs, TakesElement, sound, word_at, named_place, new_name};
-ghost use Rattle.model_reader.specs.FailuresReading.{failing_link_at, links_at, state_at, states_at};
+ghost use Rattle.text_kit.specs.Terms.{ReadsAs, TakesElement, sound, word_at, named_place, new_name, Parenthesis, list_at, no_fault};
+ghost use Rattle.model_reader.specs.FailuresReading.{failing_link_at, links_at, state_at};
 
 use crate::failures::{FailuresKind, FailuresRefusal};
 use net_core::{Link, LinkId, List, Listed, Name};
@@ -140,8 +140,8 @@ fn take_state(
     text: &mut Cursor,
 ) -> Result<bool, FailuresRefusal>
     requires { length links.now ≤ 256 }
-    ensures turn { TakesElement result (states_at links.now all.old (left text.old)) (states_at links.now all.new (left text.new))
-        (Ok (all.new, left text.new)) }
+    ensures turn { TakesElement result (list_at Parenthesis no_fault (state_at links.now) all.old (left text.old))
+        (list_at Parenthesis no_fault (state_at links.now) all.new (left text.new)) (Ok (all.new, left text.new)) }
     ensures shorter { IfOk result (λ more. IsTrue more → size (left text.new) < size (left text.old)) }
 {
     if let Some(_) = closes(text) {
@@ -159,7 +159,7 @@ pub(crate) fn states(
     text: &mut Cursor,
 ) -> Result<List<Listed>, FailuresRefusal>
     requires { length links.now ≤ 256 }
-    ensures { ReadsAs (λ l. l) result (left text.new) (states_at links.now [] (left text.old)) }
+    ensures { ReadsAs (λ l. l) result (left text.new) (list_at Parenthesis no_fault (state_at links.now) [] (left text.old)) }
 {
     let mut all = List::new(alloc);
     while take_state(alloc, links, &mut all, text)? {}

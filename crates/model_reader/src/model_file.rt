@@ -2,10 +2,10 @@ ghost use Rattle.std.specs.Prelude.{◌≡◌, ◌<◌, [], IsTrue, IfOk, IfErr,
 ghost use Rattle.std.specs.List.{list_any};
 ghost use Rattle.net_core.specs.Terms.{are_same};
 ghost use Rattle.snd_tokens.specs.Terms.{left, size};
-ghost use Rattle.text_kit.specs.Terms.{AnswersAs, ReadsAllAs, ReadsAs, TakesElement, IsNotTooEarly, word_at};
+ghost use Rattle.text_kit.specs.Terms.{AnswersAs, ReadsAllAs, ReadsAs, TakesElement, IsNotTooEarly, TheEnd, list_at, word_at};
 ghost use Rattle.model_reader.specs.declared.model.Model.{Model as Mod};
 ghost use Rattle.model_reader.specs.Models.{SpellsModel, asks_to_charge, asks_to_reconfigure, key_of, key_word, model_of_settings, plain_word, value_word};
-ghost use Rattle.model_reader.specs.ModelReading.{all_keys, first_key, has_key, is_setting, key_after, missing, model_of, setting_at, settings_at, value_of};
+ghost use Rattle.model_reader.specs.ModelReading.{all_keys, first_key, has_key, is_setting, key_after, missing, model_of, setting_at, value_of};
 
 use crate::model::{Model, ModelKey, ModelKind, ModelRefusal, Setting};
 use net_core::List;
@@ -215,7 +215,8 @@ fn missing(settings: &[Setting]) -> Option<ModelKind>
 
 /// Takes one setting more, and says whether there was one.
 fn take_setting(all: &mut List<Setting>, text: &mut Cursor) -> Result<bool, ModelRefusal>
-    ensures turn { TakesElement result (settings_at all.old (left text.old)) (settings_at all.new (left text.new)) (Ok (all.new, left text.new)) }
+    ensures turn { TakesElement result (list_at TheEnd missing setting_at all.old (left text.old))
+        (list_at TheEnd missing setting_at all.new (left text.new)) (Ok (all.new, left text.new)) }
     ensures shorter { IfOk result (λ more. IsTrue more → size (left text.new) < size (left text.old)) }
 {
     if let Some(at) = ends(text) {
@@ -231,7 +232,7 @@ fn take_setting(all: &mut List<Setting>, text: &mut Cursor) -> Result<bool, Mode
 
 /// Takes settings, up to the end.
 fn settings(alloc: Global, text: &mut Cursor) -> Result<List<Setting>, ModelRefusal>
-    ensures { ReadsAs (λ l. l) result (left text.new) (settings_at [] (left text.old)) }
+    ensures { ReadsAs (λ l. l) result (left text.new) (list_at TheEnd missing setting_at [] (left text.old)) }
 {
     let mut all = List::new(alloc);
     while take_setting(&mut all, text)? {}
