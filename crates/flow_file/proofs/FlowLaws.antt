@@ -5,7 +5,7 @@ use Rattle.plan_terms.specs.Terms.{IsLink, IsNetwork, Demand, LinkId, NodeId, Li
 use Rattle.snd_tokens.specs.Terms.{amount_of}
 use Rattle.path_split.specs.declared.arc.Arc.{Arc}
 use Rattle.path_split.specs.Balances.{IsArc}
-use Rattle.text_kit.specs.Terms.{AnswersAs, ReadsAllAs, IsNotTooEarly, Item, Verbatim, Money, Closing, number_or, no_fault, of_length, Parenthesis, word_at}
+use Rattle.text_kit.specs.Terms.{AnswersAs, ReadsAllAs, IsNotTooEarly, Item, Verbatim, Money, Closing, list_at, number_or, no_fault, of_length, Parenthesis, word_at}
 use Rattle.text_kit.specs.declared.refusal.Refusal.{Refusal}
 use Rattle.text_kit.proofs.Lemmas.{all_after, after_all, amount_again, amount_takes, answer_found, answer_only, answer_first, AnyText, IsEnd, Lawful, lawful_as, lawful_key, lawful_list, lawful_open, lawful_whole, lawful_word, if_ok, ok_is}
 use Rattle.plan_report.specs.Terms.{numbered_from, KnownNames, node_name, state_name}
@@ -18,7 +18,7 @@ use Rattle.flow_file.specs.declared.fault.FlowsKind.TheVariants.{Header, Section
 use Rattle.flow_file.specs.declared.flow.FlowFile.{FlowFile}
 use Rattle.flow_file.specs.declared.flow.LinkFlow.{LinkFlow}
 use Rattle.flow_file.specs.FlowFiles.{AreLinkFlows, IsFlowFile, IsLinkFlow, SpellsFlows, flow_file_items, flows_header, link_flow_items, state_flows_items}
-use Rattle.flow_file.specs.FlowReading.{above_zero, end_of, end_or_fault, flow_amount, flow_sections_at, flows_at, flows_of, link_flow_at, link_flows_at, state_flows_at, states_flows_at}
+use Rattle.flow_file.specs.FlowReading.{above_zero, end_of, end_or_fault, flow_amount, flow_sections_at, flows_at, flows_of, link_flow_at, state_flows_at, states_flows_at}
 use Rattle.flow_file.proofs.FlowsOnline.{flows_online}
 use Rattle.flow_file.proofs.Telling.{lawful_told}
 
@@ -140,8 +140,8 @@ module _ (known : KnownNames) (demands : List Demand) (net : ∥ IsNetwork known
       made_then _ _ _ _ _ _ _ _ (end_law known.nodes (slice_get known.links link.0) (nodes_differ known.nodes known.links net)) (λ from h.
       made_last _ (λ (num : ℕ). record { demand = demand; arc = record { link = link; from = from; num = num } }) _ _ (flow_amount_law known.places)))))
 
-  link_flows_law : Lawful (link_flows_at known demands []) (λ fs. flat_map (link_flow_items known demands) fs ++ Closing ∷ []) AreRight AnyText
-  link_flows_law = lawful_as (link_flows_at known demands []) _ (λ fs. flat_map (link_flow_items known demands) fs ++ Closing ∷ []) _ AreRight AnyText
+  link_flows_law : Lawful (list_at Parenthesis no_fault (link_flow_at known demands) []) (λ fs. flat_map (link_flow_items known demands) fs ++ Closing ∷ []) AreRight AnyText
+  link_flows_law = lawful_as (list_at Parenthesis no_fault (link_flow_at known demands) []) _ (λ fs. flat_map (link_flow_items known demands) fs ++ Closing ∷ []) _ AreRight AnyText
       (λ fs h. refl) (λ fs h. rooms_few 65536 IsRight fs h.1) (λ fs h. (refl, few_rooms 65536 IsRight fs h.0 h.1))
       (lawful_list Parenthesis no_fault (link_flow_at known demands) (link_flow_items known demands) (λ sofar f. (has_room 65536 sofar ≡ true) × IsRight f) (λ f. tt) link_flow_law)
 

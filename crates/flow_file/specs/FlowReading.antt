@@ -51,16 +51,12 @@ link_flow_at known demands sofar = do
   num ← word_at Token Ended (flow_amount known.places)
   give (record { demand = demand; arc = record { link = link; from = from; num = num } })
 
--- further flows of a state, up to the closing parenthesis
-abbrev pub link_flows_at : KnownNames → List Demand → List LinkFlow → Reading FlowsKind (List LinkFlow)
-link_flows_at known demands sofar = list_at Parenthesis no_fault (link_flow_at known demands) sofar
-
 -- the flows of a state after those of earlier states
 unfoldable pub state_flows_at : KnownNames → List Demand → List (List LinkFlow) → Reading FlowsKind (List LinkFlow)
 state_flows_at known demands sofar = do
   _ ← told_at (this_name_at (state_name known.listed (length sofar)))
   _ ← open_at Token Ended
-  link_flows_at known demands []
+  list_at Parenthesis no_fault (link_flow_at known demands) []
 
 -- the flows of further states, up to the closing parenthesis
 abbrev pub states_flows_at : KnownNames → List Demand → List (List LinkFlow) → Reading FlowsKind (List (List LinkFlow))

@@ -1,5 +1,5 @@
 ghost use Rattle.std.specs.Prelude.{◌≡◌, ◌+◌, ◌<◌, [], length, IsTrue, IfErr, IfOk, Ok};
-ghost use Rattle.text_kit.specs.Terms.{of_length, AnswersAs, ReadsAllAs, ReadsAs, TakesElement, IsNotTooEarly};
+ghost use Rattle.text_kit.specs.Terms.{of_length, AnswersAs, ReadsAllAs, ReadsAs, TakesElement, IsNotTooEarly, Parenthesis, list_at, no_fault};
 ghost use Rattle.plan_terms.specs.Terms.{AreDemands};
 ghost use Rattle.snd_tokens.specs.Terms.{left, size};
 ghost use Rattle.plan_report.specs.Terms.{known_of};
@@ -8,7 +8,7 @@ ghost use Rattle.report_parts.specs.ReadingParts.{all_counts_at};
 ghost use Rattle.flow_file.specs.declared.flow.FlowFile.{FlowFile as File};
 ghost use Rattle.flow_file.specs.FlowFiles.{IsFlowFile, SpellsFlows};
 ghost use Rattle.flow_file.specs.FlowKinds.{told_at};
-ghost use Rattle.flow_file.specs.FlowReading.{flow_sections_at, flows_at, flows_of, link_flow_at, link_flows_at, state_flows_at, states_flows_at};
+ghost use Rattle.flow_file.specs.FlowReading.{flow_sections_at, flows_at, flows_of, link_flow_at, state_flows_at, states_flows_at};
 
 use crate::fault::{FlowsKind, FlowsRefusal};
 use crate::flow::{FlowFile, LinkFlow};
@@ -58,8 +58,8 @@ fn take_link_flow(
     text: &mut Cursor,
 ) -> Result<bool, FlowsRefusal>
     ensures turn { TakesElement result
-        (link_flows_at (known_in context.now) demands.now.list.now all.old (left text.old))
-        (link_flows_at (known_in context.now) demands.now.list.now all.new (left text.new))
+        (list_at Parenthesis no_fault (link_flow_at (known_in context.now) demands.now.list.now) all.old (left text.old))
+        (list_at Parenthesis no_fault (link_flow_at (known_in context.now) demands.now.list.now) all.new (left text.new))
         (Ok (all.new, left text.new)) }
     ensures shorter { IfOk result (λ more. IsTrue more → size (left text.new) < size (left text.old)) }
 {
@@ -78,7 +78,8 @@ fn link_flows(
     demands: &KnownDemands,
     text: &mut Cursor,
 ) -> Result<List<LinkFlow>, FlowsRefusal>
-    ensures { ReadsAs (λ l. l) result (left text.new) (link_flows_at (known_in context.now) demands.now.list.now [] (left text.old)) }
+    ensures { ReadsAs (λ l. l) result (left text.new)
+        (list_at Parenthesis no_fault (link_flow_at (known_in context.now) demands.now.list.now) [] (left text.old)) }
 {
     let mut all = List::new(alloc);
     while take_link_flow(context, demands, &mut all, text)? {}
