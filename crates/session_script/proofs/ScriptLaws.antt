@@ -5,7 +5,7 @@ use Rattle.net_core.specs.Terms.{are_same}
 use Rattle.net_core.specs.declared.journal.Edit.TheVariants as edits
 use Rattle.net_core.specs.declared.places.Places.{Places}
 use Rattle.snd_tokens.specs.Terms.{first_line, trimmed, Text, EndAt}
-use Rattle.text_kit.specs.Terms.{AnswersAs, ReadsAllAs, IsNotTooEarly, body, ComeAfter, Item, Verbatim, Whole, Money, Opening, Closing, word_at, TheEnd, no_fault, any_name}
+use Rattle.text_kit.specs.Terms.{AnswersAs, ReadsAllAs, IsNotTooEarly, body, ComeAfter, Item, Verbatim, Whole, Money, Opening, Closing, word_at, TheEnd, list_at, no_fault, any_name}
 use Rattle.text_kit.specs.declared.refusal.Refusal.{Refusal}
 use Rattle.text_kit.proofs.Lemmas.{lawful_amount, lawful_any_name, all_after, after_all, after_as, after_both, answer_found, answer_only, answer_first, file_read, AnyText, IsEnd, Lawful, after_few, few_after, lawful_as, lawful_close, lawful_give, lawful_list, lawful_open, lawful_then, lawful_word, IsOnline, TakesSome, online_close, online_give, online_list, online_open, online_then, online_word, takes_some}
 use Rattle.session_script.specs.declared.fault.ScriptKind.{ScriptKind}
@@ -17,7 +17,7 @@ use Rattle.session_script.specs.declared.script.Script.{Script}
 use Rattle.session_script.specs.declared.script.Verb.{Verb}
 use Rattle.session_script.specs.declared.script.Verb.TheVariants as verbs
 use Rattle.session_script.specs.Scripts.{IsActInForm, IsCommandInForm, IsScript, SpellsScript, act_items, command_items, is_plan, script_header, script_of_commands}
-use Rattle.session_script.specs.ScriptReading.{act_at, begun_command, caller_of, command_at, commands_at, need_in_script, script_of, verb_after}
+use Rattle.session_script.specs.ScriptReading.{act_at, begun_command, caller_of, command_at, need_in_script, script_of, verb_after}
 use Rattle.session_script.proofs.ScriptWords.{HasRoom, IsCallerNumber, begun_again, begun_takes, caller_again, caller_takes, verb_again, verb_takes, verb_word}
 
 -- ---- words
@@ -210,8 +210,8 @@ are_commands cs is =
     (after_few 1000 (λ before c. Unit {0}) [] cs is.few (all_after (λ c. Unit {0}) [] cs (λ k d lt. tt)))
     (after_both (λ before c. HasRoom before (verb_for c.act)) (λ before c. IsCommandInForm c) [] cs (more_plans [] cs is.plans) (all_after IsCommandInForm [] cs is.each)))
 
-commands_lawful : (p : Places) → Lawful (commands_at p []) (λ cs. flat_map (command_items p) cs) IsScript IsEnd
-commands_lawful p = lawful_as (commands_at p []) _ (λ cs. flat_map (command_items p) cs) _ IsScript IsEnd (λ cs h. append-nil (flat_map (command_items p) cs)) (λ cs h. is_script cs h.1) (λ cs h. (refl, are_commands cs h))
+commands_lawful : (p : Places) → Lawful (list_at TheEnd no_fault (command_at p) []) (λ cs. flat_map (command_items p) cs) IsScript IsEnd
+commands_lawful p = lawful_as (list_at TheEnd no_fault (command_at p) []) _ (λ cs. flat_map (command_items p) cs) _ IsScript IsEnd (λ cs h. append-nil (flat_map (command_items p) cs)) (λ cs h. is_script cs h.1) (λ cs h. (refl, are_commands cs h))
     (lawful_list TheEnd no_fault (command_at p) (command_items p) IsCommandAfter (λ c. tt) (command_lawful p))
 
 -- ---- a fault is at the place where it is met
@@ -250,15 +250,15 @@ command_some p sofar = takes_some (command_at p sofar) (command_online p sofar) 
 
 -- ---- whole files
 
-pub script_read : (p : Places) (bytes : List ℕ) (cs : List Command) (rest : Text) → are_same (trimmed (first_line bytes)) script_header ≡ true → commands_at p [] (body bytes) ≡ Ok (cs, rest) → (at : ℕ) × (script_of p bytes ≡ Ok (script_of_commands cs, EndAt at))
-script_read p bytes cs rest line read = file_read Header script_header (commands_at p []) script_of_commands (λ xs. flat_map (command_items p) xs) IsScript (commands_lawful p) bytes cs rest line read
+pub script_read : (p : Places) (bytes : List ℕ) (cs : List Command) (rest : Text) → are_same (trimmed (first_line bytes)) script_header ≡ true → list_at TheEnd no_fault (command_at p) [] (body bytes) ≡ Ok (cs, rest) → (at : ℕ) × (script_of p bytes ≡ Ok (script_of_commands cs, EndAt at))
+script_read p bytes cs rest line read = file_read Header script_header (list_at TheEnd no_fault (command_at p) []) script_of_commands (λ xs. flat_map (command_items p) xs) IsScript (commands_lawful p) bytes cs rest line read
 
 pub script_found : (p : Places) (bytes : List ℕ) (a : Result Script (Refusal ScriptKind)) → ReadsAllAs (λ s. s) a (script_of p bytes) → IfOk a (λ s. SpellsScript p bytes s)
-script_found p bytes a h = answer_found Header script_header (commands_at p []) script_of_commands (λ xs. flat_map (command_items p) xs) IsScript (commands_lawful p) (λ s. s) bytes a h
+script_found p bytes a h = answer_found Header script_header (list_at TheEnd no_fault (command_at p) []) script_of_commands (λ xs. flat_map (command_items p) xs) IsScript (commands_lawful p) (λ s. s) bytes a h
 
 pub script_only : (p : Places) (bytes : List ℕ) (a : Result Script (Refusal ScriptKind)) → ReadsAllAs (λ s. s) a (script_of p bytes) → (s : Script) → SpellsScript p bytes s → AnswersAs (λ x. x) a s
-script_only p bytes a h = answer_only Header script_header (commands_at p []) script_of_commands (λ xs. flat_map (command_items p) xs) IsScript (commands_lawful p) (λ s. s) bytes a h
+script_only p bytes a h = answer_only Header script_header (list_at TheEnd no_fault (command_at p) []) script_of_commands (λ xs. flat_map (command_items p) xs) IsScript (commands_lawful p) (λ s. s) bytes a h
 
 pub script_first : (p : Places) (bytes : List ℕ) (a : Result Script (Refusal ScriptKind)) → ReadsAllAs (λ s. s) a (script_of p bytes) → IfErr a (IsNotTooEarly (SpellsScript p) bytes)
-script_first p bytes a h = answer_first Header script_header (commands_at p []) script_of_commands (λ xs. flat_map (command_items p) xs) IsScript (commands_lawful p) (λ s. s)
+script_first p bytes a h = answer_first Header script_header (list_at TheEnd no_fault (command_at p) []) script_of_commands (λ xs. flat_map (command_items p) xs) IsScript (commands_lawful p) (λ s. s)
     (online_list TheEnd no_fault (command_at p) (command_online p) (command_some p) []) bytes a h

@@ -83,10 +83,6 @@ command_at p sofar = do
   act ← act_at p verb
   give (record { caller = caller; act = act })
 
--- further commands, up to the end
-abbrev pub commands_at : Places → List Command → Reading ScriptKind (List Command)
-commands_at p sofar = list_at TheEnd no_fault (command_at p) sofar
-
 -- a whole file: its script, or its first fault by place
 abbrev pub script_of : Places → List ℕ → Read ScriptKind Script
-script_of p bytes = file_at Header script_header (mapped script_of_commands (commands_at p [])) bytes
+script_of p bytes = file_at Header script_header (mapped script_of_commands (list_at TheEnd no_fault (command_at p) [])) bytes

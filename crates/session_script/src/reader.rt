@@ -1,9 +1,9 @@
 ghost use Rattle.std.specs.Prelude.{◌≡◌, ◌<◌, [], IsTrue, IfOk, IfErr, Ok};
 ghost use Rattle.snd_tokens.specs.Terms.{left, size};
-ghost use Rattle.text_kit.specs.Terms.{AnswersAs, ReadsAllAs, ReadsAs, TakesElement, IsNotTooEarly};
+ghost use Rattle.text_kit.specs.Terms.{AnswersAs, ReadsAllAs, ReadsAs, TakesElement, IsNotTooEarly, TheEnd, list_at, no_fault};
 ghost use Rattle.session_script.specs.declared.script.Script.{Script as Scr};
 ghost use Rattle.session_script.specs.Scripts.{SpellsScript};
-ghost use Rattle.session_script.specs.ScriptReading.{commands_at, script_of};
+ghost use Rattle.session_script.specs.ScriptReading.{command_at, script_of};
 
 use crate::command::command;
 use crate::fault::{ScriptKind, ScriptRefusal};
@@ -22,7 +22,8 @@ fn take_command(
     all: &mut List<Command>,
     text: &mut Cursor,
 ) -> Result<bool, ScriptRefusal>
-    ensures turn { TakesElement result (commands_at places all.old (left text.old)) (commands_at places all.new (left text.new)) (Ok (all.new, left text.new)) }
+    ensures turn { TakesElement result (list_at TheEnd no_fault (command_at places) all.old (left text.old))
+        (list_at TheEnd no_fault (command_at places) all.new (left text.new)) (Ok (all.new, left text.new)) }
     ensures shorter { IfOk result (λ more. IsTrue more → size (left text.new) < size (left text.old)) }
 {
     if let Some(_) = ends(text) {
@@ -39,7 +40,7 @@ fn commands(
     places: Places,
     text: &mut Cursor,
 ) -> Result<List<Command>, ScriptRefusal>
-    ensures { ReadsAs (λ l. l) result (left text.new) (commands_at places [] (left text.old)) }
+    ensures { ReadsAs (λ l. l) result (left text.new) (list_at TheEnd no_fault (command_at places) [] (left text.old)) }
 {
     let mut all = List::new(alloc);
     while take_command(alloc, places, &mut all, text)? {}
