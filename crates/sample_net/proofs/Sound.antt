@@ -4,22 +4,22 @@ use Rattle.net_core.proofs.Library.{list_any, range_with_len, All-append, All-co
 use Rattle.std.proofs.lemmas.List.Sums.{sum_by-le}
 use Rattle.plan_terms.specs.Terms.{AreDemands, IsDemand, IsLink, IsModule, IsNetwork, Demand, Link, Module}
 use Rattle.sample_net.specs.Draws.{nth_draw, nth_number}
-use Rattle.sample_net.specs.Samples.{chord_count, chord_ends, demands_between, link_count, links_between, numbered, ring_ends, sample_demand, sample_ends, sample_link, sample_links, sample_modules, sample_nodes, sample_pairs}
+use Rattle.sample_net.specs.Samples.{chord_count, chord_ends, demands_between, links_between, numbered, ring_ends, sample_demand, sample_ends, sample_link, sample_links, sample_modules, sample_nodes, sample_pairs}
 use Rattle.sample_net.proofs.Naming.{numbered_differ}
 use Rattle.sample_net.proofs.Pairs.{AreOrdered, pairs_few, pairs_ordered}
 use Rattle.sample_net.proofs.Sequence.{all_made, draw_below, pairs_made, steps_add}
 
 -- ---- the ends of links
 
-pub ends_long : (seed n : ℕ) → length (sample_ends seed n) ≡ link_count n
+pub ends_long : (seed n : ℕ) → length (sample_ends seed n) ≡ n + chord_count n
 ends_long seed n =
     let ring = map (ring_ends n) (range_with_len 0 n) in
     let chords = map (chord_ends seed n) (range_with_len 0 (chord_count n)) in
     omega (arith, length-append ring chords, length-map-range_with_len (ring_ends n) 0 n, length-map-range_with_len (chord_ends seed n) 0 (chord_count n))
 
 -- the steps of chords and links
-pub links_steps : (x n y z long : ℕ) → y ≡ nth_number x (chord_count n) → long ≡ link_count n → z ≡ nth_number y (2 * long) → z ≡ nth_number x (chord_count n + 2 * link_count n)
-links_steps x n y z long chords e last = last ∙ ap (λ k. nth_number y (2 * k)) e ∙ ap (λ v. nth_number v (2 * link_count n)) chords ∙ steps_add x (chord_count n) (2 * link_count n)
+pub links_steps : (x n y z long : ℕ) → y ≡ nth_number x (chord_count n) → long ≡ n + chord_count n → z ≡ nth_number y (2 * long) → z ≡ nth_number x (chord_count n + 2 * (n + chord_count n))
+links_steps x n y z long chords e last = last ∙ ap (λ k. nth_number y (2 * k)) e ∙ ap (λ v. nth_number v (2 * (n + chord_count n))) chords ∙ steps_add x (chord_count n) (2 * (n + chord_count n))
 
 pub ends_few : (seed n : ℕ) → n ≤ 40 → length (sample_ends seed n) ≤ 60
 ends_few seed n le = omega (arith, le, ends_long seed n)

@@ -13,12 +13,9 @@ numbered letter k = letter ∷ decimal k
 abbrev pub sample_nodes : ℕ → List (List ℕ)
 sample_nodes n = map (numbered 110) (range_with_len 0 n)
 
--- a chord for each even node, a ring link for each node
+-- a chord for each even node, beside a ring link for each node
 abbrev pub chord_count : ℕ → ℕ
 chord_count n = (n + 1) / 2
-
-abbrev pub link_count : ℕ → ℕ
-link_count n = n + chord_count n
 
 -- ring link i joins node i with the next one
 abbrev pub ring_ends : ℕ → ℕ → ℕ × ℕ
@@ -73,7 +70,7 @@ demands_between x pairs = map (λ k. sample_demand k (slice_index_or pairs k (0,
 
 -- the demands: their draws follow those of the chords and the two of each link
 abbrev pub sample_demands : ℕ → ℕ → List Demand
-sample_demands seed n = demands_between (nth_number seed (chord_count n + 2 * link_count n)) (sample_pairs n)
+sample_demands seed n = demands_between (nth_number seed (chord_count n + 2 * (n + chord_count n))) (sample_pairs n)
 
 -- a network with three places and its demands, where each link fails alone
 abbrev pub with_single_failures : List (List ℕ) → List Link → List Demand → Case

@@ -1,7 +1,7 @@
 ghost use Rattle.std.specs.Prelude.{◌≡◌, ◌≤◌, ◌+◌, ◌-◌, ◌*◌, ◌/◌, IfOk, OnOk, length};
 ghost use Rattle.plan_terms.specs.Terms.{AreDemands, IsNetwork, IsSurvivable};
 ghost use Rattle.sample_net.specs.Draws.{nth_number};
-ghost use Rattle.sample_net.specs.Samples.{chord_count, demands_between, link_count, no_notes, sample_demands, sample_links, sample_nodes, sample_pairs, with_single_failures};
+ghost use Rattle.sample_net.specs.Samples.{chord_count, demands_between, no_notes, sample_demands, sample_links, sample_nodes, sample_pairs, with_single_failures};
 ghost use Rattle.sample_net.specs.Texts.{HasWritableNotes};
 
 use crate::demands::demands_between;
@@ -44,7 +44,7 @@ fn checked(nodes: List<Name>, links: List<Link>) -> Network
 fn links(alloc: Global, n: u32, draws: &mut Draws) -> Result<List<Link>, NoMemory>
     requires { (4 ≤ n) × (n ≤ 40) }
     ensures links { IfOk result (λ links. links ≡ sample_links draws.old.number n) }
-    ensures draws { OnOk result (draws.new.number ≡ nth_number draws.old.number (chord_count n + 2 * link_count n)) }
+    ensures draws { OnOk result (draws.new.number ≡ nth_number draws.old.number (chord_count n + 2 * (n + chord_count n))) }
 {
     let ends = link_ends(alloc, n, draws)?;
     links_between(alloc, ends.items(), draws)
