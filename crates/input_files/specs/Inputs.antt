@@ -1,5 +1,5 @@
 -- the files of a plan, read one after another, and the possible outcomes of each
-use Rattle.std.specs.Prelude.{◌≡◌, ◌≢◌, ℕ, ◌^◌, ◌⊎◌, Bool, true, false, List, [], ◌∷◌, ◌++◌, Option, Err, codes}
+use Rattle.std.specs.Prelude.{◌≡◌, ◌≢◌, ℕ, ◌^◌, ◌⊎◌, Bool, true, false, List, [], ◌∷◌, ◌++◌, Option, codes}
 use Rattle.plan_terms.specs.Terms.{Case, Demand, Link, Network, Notes, Places, Listed, settled_links, settled_notes}
 use Rattle.outside_io.specs.Outside.{Fetches, Files}
 use Rattle.outside_io.specs.declared.shelf.Fetch.TheVariants as fetch
@@ -7,7 +7,7 @@ use Rattle.model_reader.specs.Failures as failures
 use Rattle.model_reader.specs.Terms.{failures_of, failures_word, model_word, model_of}
 use Rattle.model_reader.specs.Models as models
 use Rattle.model_reader.specs.declared.model.Model.{Model}
-use Rattle.sndlib_reader.specs.Terms.{kind_word, IsFirstFault}
+use Rattle.sndlib_reader.specs.Terms.{kind_word, network_of}
 use Rattle.sndlib_reader.specs.NetworkFiles as networks
 use Rattle.plan_report.specs.Terms.{KnownNames, SpellsReport}
 use Rattle.flow_file.specs.FlowFiles.{SpellsFlows}
@@ -50,28 +50,24 @@ SpellsNetwork bytes read = networks.Spells bytes read.0 read.1
 
 -- the bytes spell no network, no model, or no states of these links, and the text names their first fault
 abbrev pub RefusesNetworkFile : List ℕ → List ℕ → Type 0
-RefusesNetworkFile = Refuses SpellsNetwork IsFirstFault (codes "network") kind_word
+RefusesNetworkFile = Refuses SpellsNetwork network_of (codes "network") kind_word
 
 abbrev pub RefusesModelFile : List ℕ → List ℕ → Type 0
-RefusesModelFile = Refuses models.SpellsModel (λ bytes at kind. model_of bytes ≡ Err (at, kind)) (codes "model") model_word
+RefusesModelFile = Refuses models.SpellsModel model_of (codes "model") model_word
 
 abbrev pub RefusesFailureFile : List Link → List ℕ → List ℕ → Type 0
-RefusesFailureFile links =
-    Refuses (failures.SpellsFailures links) (λ bytes at kind. failures_of links bytes ≡ Err (at, kind)) (codes "failures") failures_word
+RefusesFailureFile links = Refuses (failures.SpellsFailures links) (failures_of links) (codes "failures") failures_word
 
 -- The bytes spell no script with amounts of these places, or no report of this network and these states, and the text names their
 -- first fault.
 abbrev pub RefusesScriptFile : Places → List ℕ → List ℕ → Type 0
-RefusesScriptFile places =
-    Refuses (SpellsScript places) (λ bytes at kind. script_of places bytes ≡ Err (at, kind)) (codes "script") script_kind_word
+RefusesScriptFile places = Refuses (SpellsScript places) (script_of places) (codes "script") script_kind_word
 
 abbrev pub RefusesReportFile : KnownNames → List ℕ → List ℕ → Type 0
-RefusesReportFile names =
-    Refuses (SpellsReport names) (λ bytes at kind. report_of names bytes ≡ Err (at, kind)) (codes "report") report_kind_word
+RefusesReportFile names = Refuses (SpellsReport names) (report_of names) (codes "report") report_kind_word
 
 abbrev pub RefusesFlowFile : KnownNames → List Demand → List ℕ → List ℕ → Type 0
-RefusesFlowFile names demands =
-    Refuses (SpellsFlows names demands) (λ bytes at kind. flows_of names demands bytes ≡ Err (at, kind)) (codes "flows") flows_kind_word
+RefusesFlowFile names demands = Refuses (SpellsFlows names demands) (flows_of names demands) (codes "flows") flows_kind_word
 
 -- The model: that of its file; without one, reconfiguration where a failure file is named, and no setup is charged.
 abbrev pub HasModel : Option Files → PlanWords → Model → Type 0

@@ -1,5 +1,5 @@
 -- the lines that say why a file is refused
-use Rattle.std.specs.Prelude.{◌≡◌, ℕ, List, [], ◌∷◌, ◌++◌, codes, decimal}
+use Rattle.std.specs.Prelude.{◌≡◌, ℕ, List, [], ◌∷◌, ◌++◌, Result, Err, codes, decimal}
 
 -- the line of a refused file: which file it is, the fault, and its place
 abbrev pub refusal_line : List ℕ → List ℕ → ℕ → List ℕ
@@ -9,11 +9,11 @@ refusal_line file word at = codes "refused " ++ file ++ 32 ∷ word ++ codes " a
 abbrev pub unused_line : List ℕ
 unused_line = refusal_line (codes "failures") (codes "unused") 0
 
--- the bytes spell nothing in their format, and the text names their first fault
-pub record Refuses {X K : Type 0} (Spells : List ℕ → X → Type 0) (IsFirst : List ℕ → ℕ → K → Type 0) (file : List ℕ)
+-- the bytes spell nothing in their format, and the text names the first fault that reading them gives
+pub record Refuses {X Y K : Type 0} (Spells : List ℕ → X → Type 0) (reading : List ℕ → Result Y (ℕ × K)) (file : List ℕ)
     (word : K → List ℕ) (bytes text : List ℕ) : Type 0 where
   pub nothing : (x : X) → Spells bytes x → ⊥
   pub at : ℕ
   pub kind : K
-  pub first : IsFirst bytes at kind
+  pub first : reading bytes ≡ Err (at, kind)
   pub printed : text ≡ refusal_line file (word kind) at
