@@ -1,10 +1,10 @@
 -- what is said of a file that ends a run
-use Rattle.std.specs.Prelude.{◌≡◌, ℕ, ◌⊎◌, min, List, [], ◌++◌, Option, Err, codes, length}
+use Rattle.std.specs.Prelude.{◌≡◌, ℕ, ◌⊎◌, min, List, [], ◌++◌, Option, Result, codes, length}
 use Rattle.plan_terms.specs.Terms.{Link}
 use Rattle.outside_io.specs.Outside.{Files}
 use Rattle.outside_io.specs.declared.shelf.ReadFault.{ReadFault}
 use Rattle.outside_io.specs.declared.shelf.ReadFault.TheVariants.{Folder, NoRight, Other}
-use Rattle.sndlib_reader.specs.Terms.{kind_word, IsFirstFault}
+use Rattle.sndlib_reader.specs.Terms.{kind_word, network_of}
 use Rattle.model_reader.specs.Terms.{SpellsFailures, failures_of, failures_word, model_word, SpellsModel, model_of}
 use Rattle.check_answers.specs.declared.status.Status.{Status}
 use Rattle.check_answers.specs.declared.status.Status.TheVariants.{NoFile, TooLong}
@@ -38,10 +38,10 @@ pub record ShowsPlace (name bytes : List ℕ) (at : ℕ) (words : List ℕ × Li
 
 -- The bytes spell nothing in their format, and the message shows the place of their first fault, with the words of its kind and what is known
 -- besides, and ends in the planner's line of it.
-abbrev pub ShowsFault : {X K : Type 0} → (List ℕ → X → Type 0) → (List ℕ → ℕ → K → Type 0)
+abbrev pub ShowsFault : {X Y K : Type 0} → (List ℕ → X → Type 0) → (List ℕ → Result Y (ℕ × K))
     → List ℕ → (K → List ℕ) → (K → List ℕ × List ℕ) → (List ℕ → ℕ → K → List ℕ → Type 0) → List ℕ → List ℕ → List ℕ → Type 0
-ShowsFault Spells IsFirst file word words AreNotes name bytes message =
-    (line : List ℕ) × (refused : Refuses Spells IsFirst file word bytes line)
+ShowsFault Spells reading file word words AreNotes name bytes message =
+    (line : List ℕ) × (refused : Refuses Spells reading file word bytes line)
     × (notes : List ℕ) × AreNotes bytes (min refused.at (length bytes)) refused.kind notes
     × ShowsPlace name bytes refused.at (words refused.kind) notes line message
 
@@ -56,17 +56,16 @@ FailsAtFile files limit name bad Shown status message =
 
 -- the bytes of a network's file are refused
 abbrev pub ShowsNetworkFault : List ℕ → List ℕ → List ℕ → Type 0
-ShowsNetworkFault = ShowsFault SpellsNetwork IsFirstFault (codes "network") kind_word network_message AreNetworkNotes
+ShowsNetworkFault = ShowsFault SpellsNetwork network_of (codes "network") kind_word network_message AreNetworkNotes
 
 -- the bytes of a model's file are refused
 abbrev pub ShowsModelFault : List ℕ → List ℕ → List ℕ → Type 0
-ShowsModelFault = ShowsFault SpellsModel (λ bytes at kind. model_of bytes ≡ Err (at, kind)) (codes "model") model_word model_message AreModelNotes
+ShowsModelFault = ShowsFault SpellsModel model_of (codes "model") model_word model_message AreModelNotes
 
 -- the bytes of a failure list of these links are refused
 abbrev pub ShowsFailuresFault : List Link → List ℕ → List ℕ → List ℕ → Type 0
 ShowsFailuresFault links =
-    ShowsFault (SpellsFailures links) (λ bytes at kind. failures_of links bytes ≡ Err (at, kind)) (codes "failures") failures_word failures_message
-    (AreFailuresNotes links)
+    ShowsFault (SpellsFailures links) (failures_of links) (codes "failures") failures_word failures_message (AreFailuresNotes links)
 
 -- what is said of a failure list beside a model without survivability, before the planner's line of it
 abbrev pub unused_words : List ℕ → List ℕ
