@@ -1,5 +1,5 @@
 -- what the comment lines below a report show of its plan
-use Rattle.std.specs.Prelude.{◌≡◌, ℕ, ◌+◌, ◌⊎◌, true, List, [], ◌∷◌, ◌++◌, Err, codes, cond, decimal, length, nat_eq, nat_lt}
+use Rattle.std.specs.Prelude.{◌≡◌, ℕ, ◌+◌, ◌⊎◌, true, List, [], ◌∷◌, ◌++◌, codes, cond, decimal, length, nat_eq, nat_lt}
 use Rattle.plan_terms.specs.Terms.{Case}
 use Rattle.plan_report.specs.Terms.{known_to, Plan, Outcome, Planned, Unsurvivable}
 use Rattle.snd_tokens.specs.Terms.{tokens_from}
@@ -67,8 +67,8 @@ ReadsProof p (outcome ∷ other ∷ outcomes) bytes proof = proof ≡ Nothing
 -- the lines spell no tree of the plan, and the message shows the place of their first fault
 abbrev pub ShowsNoTree : List ℕ → Case → Plan → List ℕ → List ℕ → Type 0
 ShowsNoTree name p plan =
-    ShowsFault (SpellsPlanTree p plan) (λ bytes at kind. tree_at (known_to p) plan.demands (lines_begin bytes) bytes ≡ Err (at, kind))
-    (codes "report") report_kind_word proof_message HasNoNotes name
+    ShowsFault (SpellsPlanTree p plan) (λ bytes. tree_at (known_to p) plan.demands (lines_begin bytes) bytes) (codes "report") report_kind_word proof_message
+    HasNoNotes name
 
 -- what is wrong past the nodes of a tree: one is missing, or the last line doesn't follow
 abbrev pub end_wrong : ℕ → ℕ → List ℕ

@@ -1,5 +1,5 @@
 -- the outcome of the bytes of a report: its view, or a message
-use Rattle.std.specs.Prelude.{◌≡◌, ℕ, ◌⊎◌, List, [], ◌++◌, Err, codes}
+use Rattle.std.specs.Prelude.{◌≡◌, ℕ, ◌⊎◌, List, [], ◌++◌, codes}
 use Rattle.plan_terms.specs.Terms.{Case, Notes}
 use Rattle.plan_report.specs.Terms.{SpellsReport, known_to, Report}
 use Rattle.report_checker.specs.Terms.{Finding, IsFirstOfReport}
@@ -20,9 +20,7 @@ use Rattle.front_views.specs.ProofLines.{FailsAtLines, ReadsProof}
 -- the bytes spell no report of a case, and the message shows the place of their first fault
 abbrev pub ShowsReportFault : Case → List ℕ → List ℕ → List ℕ → Type 0
 ShowsReportFault p name =
-    ShowsFault (SpellsReport (known_to p)) (λ bytes at kind. report_of (known_to p) bytes ≡ Err (at, kind))
-    (codes "report") report_kind_word (report_message p.places)
-    (AreReportNotes p) name
+    ShowsFault (SpellsReport (known_to p)) (report_of (known_to p)) (codes "report") report_kind_word (report_message p.places) (AreReportNotes p) name
 
 -- what is said of a file: what is wrong, and what that means
 abbrev pub said_text : List ℕ → List ℕ × List ℕ → List ℕ

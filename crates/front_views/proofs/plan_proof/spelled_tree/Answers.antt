@@ -29,7 +29,7 @@ returns-in-Err-Bad-clause-refused c =
     let p = problem_case c.args.problem.now in
     let demands = c.args.plan.now.demands in
     let bytes = c.args.bytes.now in
-    fault_shown (SpellsPlanTree p c.args.plan.now) (λ b at kind. tree_at (known_to p) demands (lines_begin b) b ≡ Err (at, kind)) (codes "report") report_kind_word proof_message HasNoNotes BadReport
+    fault_shown (SpellsPlanTree p c.args.plan.now) (λ b. tree_at (known_to p) demands (lines_begin b) b) (codes "report") report_kind_word proof_message HasNoNotes BadReport
     c.args.name.now bytes c.in-Err-Bad.at c.in-Err-Bad.kind c.proof_sentence.result.wrong.now c.proof_sentence.result.help.now [] c.refused.result
     (λ t spelled. subst (λ (q : Refusal ReportKind). AnswersAs (λ (x : ReadTree). x) (refused q) t) c.in-Err-Bad.field-0-is
     (c.in-Err-Bad.ensures.only t (subst (λ (k : ℕ). SpellsTree (known_to p) demands k bytes t) (sym c.requires.from) spelled)))

@@ -22,7 +22,7 @@ returns-in_ok-notes-in-Err-Bad-clause-refused c =
     let bytes = c.args.bytes.now in
     let at = c.in-Err-Bad.at in
     let kind = c.in-Err-Bad.kind in
-    fault_shown (SpellsReport names) (λ b at kind. report_of names b ≡ Err (at, kind)) (codes "report") report_kind_word (report_message names.places) (AreReportNotes p) BadReport
+    fault_shown (SpellsReport names) (report_of names) (codes "report") report_kind_word (report_message names.places) (AreReportNotes p) BadReport
     c.args.name.now bytes at kind c.report_sentence-sentence.result.wrong.now c.report_sentence-sentence.result.help.now c.items.result.now c.refused.result
     (λ r spelled. subst (λ (q : Refusal ReportKind). AnswersAs (λ (x : Report). x) (refused q) r) c.in-Err-Bad.field-0-is (c.in-Err-Bad.ensures.only r spelled))
     (subst (λ (q : Refusal ReportKind). Fails q (report_of names bytes)) c.in-Err-Bad.field-0-is c.in-Err-Bad.ensures.exact)
