@@ -2,6 +2,7 @@
 use Rattle.std.proofs.Common.{◌≡◌, ℕ, zero, suc, ◌+◌, ◌-◌, ◌*◌, ◌^◌, ◌≤◌, ◌<◌, ◌⊎◌, inl, inr, ⊎_elim, List, [], ◌∷◌, ◌++◌, All, get_or, length, slice_index, zip, refl, ap, sym, subst, arith}
 use Rattle.std.specs.List.{AllZip}
 use Rattle.net_core.proofs.Library.{cases_lt, All-cons, All-head, All-nil, All-push, All-tail, sum_by-cons, get_or_append_left, get_or_default, get_or_push}
+use Rattle.module_choice.proofs.Pairs.{counts_long}
 use Rattle.plan_terms.specs.Terms.{AreCounts, AreWithinLimits, IsModule, Link, Module, capacities, modules_capacity}
 use Rattle.plan_swaps.specs.Terms.{AreAtMost}
 use Rattle.box_search.specs.inner.Lowering.{HaveRoomFor, IsLoweredLink, modules_at}
