@@ -10,10 +10,10 @@ use net_core::{Copied, Evidence, List, MasterColumn, Network, Problem, StateId, 
 use std::alloc::Global;
 use worked_networks::{LinkRow, PARALLEL, TEN};
 
-/// A state whose unit cut is meant, and a right side.
+/// A unit cut: its state and its right side.
 type LineRow = (u32, u128);
 
-/// The cut where all links that a state keeps are of length 1.
+/// The unit cut of a state: every link that survives in it has length 1.
 fn unit_cut(alloc: Global, p: &Problem, state: u32) -> Option<Cut>
     ensures { IfSome result (λ cut. HaveBound p.now.net.links cut.lengths) }
 {
@@ -21,7 +21,7 @@ fn unit_cut(alloc: Global, p: &Problem, state: u32) -> Option<Cut>
     Cut::new(alloc, &p.net, &p.states, StateId(state), units).ok()
 }
 
-/// The unit cut of a row.
+/// The unit cut of a row, with the row's right side.
 fn unit_line(alloc: Global, p: &Problem, row: &LineRow) -> Option<CutLine>
     ensures bound { IfSome result (λ line. HaveBound p.now.net.links line.lengths) }
     ensures right { IfSome result (λ line. line.right < 2 ^ 84) }
@@ -56,10 +56,11 @@ fn unit_lines(alloc: Global, p: &Problem, rows: &[LineRow]) -> Option<List<CutLi
     Some(cuts)
 }
 
-/// Cuts of the triangle where 12.00 are needed from A to C, and the place of the first one of greatest bound.
+/// Unit cuts of the triangle, and the place of the first one whose own bound is greatest; `None` if there are no cuts.
 type OwnRow = (&'static [LineRow], Option<u32>);
 
-/// With all links, without AB and without AC.
+/// The right sides are those of 12.00 from A to C. With all links and without AB the distance of A and C is 1: the bound is 12.00 / 2 = 6.00,
+/// rounded up to modules of 5.00, which gives 10.00. Without AC their distance is 2: it is 24.00 / 2 = 12.00, rounded up to 15.00.
 const OWN: [OwnRow; 6] = [
     (&[], None),
     (&[(0, 12000)], Some(0)),
@@ -92,7 +93,7 @@ fn first_of_greatest_bound(rt: HostRuntime) {
 
 /// What is expected of the best certificate of some cuts.
 enum Want {
-    /// As many multipliers of 1 over this denominator, and this raw value.
+    /// This many multipliers, each 1 over this denominator, and this fraction as the raw value, in thousandths.
     Ones(usize, u128, (u128, u128)),
     /// A share of this scale, with this many units on each link.
     Share(u64, u64),
@@ -107,22 +108,22 @@ const INSTALLED: [LinkRow; 3] = [
     (0, 2, 20000, &TEN),
 ];
 
-/// Nodes and links, unit cuts, and the best certificate.
+/// The number of nodes, the links, unit cuts, and what is expected of their best certificate.
 type Row = (usize, &'static [LinkRow<'static>], &'static [LineRow], Want);
 
 const ROWS: [Row; 10] = [
-    // The triangle: 12.00 over links of 10.00 for 5.00 take 1.2 modules.
+    // The triangle: 12.00 take 1.2 modules of 10.00, which cost 1.2 * 5.00 = 6.00.
     (3, &TRIANGLE, &[(0, 12000)], Want::Ones(1, 2, (6000, 1))),
     (3, &TRIANGLE, &[], Want::Ones(0, 1, (0, 1))),
     (3, &TRIANGLE, &[(0, 0)], Want::Ones(0, 1, (0, 1))),
     (3, &TRIANGLE, &[(0, 1 << 62)], Want::Wide),
-    // What is installed is more than enough.
+    // The installed 3 * 20.00 = 60.00 are more than the 12.00 that the cut asks for.
     (3, &INSTALLED, &[(0, 12000)], Want::Ones(0, 1, (0, 1))),
-    // Three parallel links: any two have to carry 10.00 together.
+    // Three parallel links, of which any two have to carry 10.00: with 5.00 on each they cost 3 * 5.00 = 15.00.
     (2, &THREE_LINKS, &ANY_TWO, Want::Ones(3, 2, (15000, 1))),
     (2, &THREE_LINKS, &ANY_TWO, Want::Share(1, 5000)),
     (2, &THREE_LINKS, &[(2, 10000)], Want::Ones(1, 1, (10000, 1))),
-    // Four parallel links: any three have to carry 10.00 together.
+    // Four parallel links, of which any three have to carry 10.00: with 10.00 / 3 on each they cost 4 * 10.00 / 3.
     (2, &PARALLEL, &ANY_THREE, Want::Ones(4, 3, (40000, 3))),
     (2, &PARALLEL, &ANY_THREE, Want::Share(3, 10000)),
 ];
@@ -184,7 +185,7 @@ fn is_wanted(answer: &Result<Best, MasterFault>, want: &Want) -> bool {
     }
 }
 
-/// Whether the row's certificate is the best of the cuts, from the slacks and from what is kept.
+/// Whether the answer for the cuts is the expected one, both from the basis of slacks and from a basis that was kept.
 fn is_of_cuts(
     alloc: Global,
     net: &Network,
@@ -236,10 +237,10 @@ fn best_certificates_are_as_by_hand(rt: HostRuntime) {
     }
 }
 
-/// Unit cuts of one round after the other, and the best certificate of each.
+/// Rounds: the unit cuts of each, and what is expected of their best certificate.
 type Rounds = &'static [(&'static [LineRow], Want)];
 
-/// Nodes and links, and rounds: with more cuts, the same ones, and others.
+/// The number of nodes, the links, and rounds, each with more cuts than the one before, with the same ones or with others.
 const KEPT: [(usize, &[LinkRow<'static>], Rounds); 2] = [
     (
         2,
@@ -262,7 +263,7 @@ const KEPT: [(usize, &[LinkRow<'static>], Rounds); 2] = [
     ),
 ];
 
-/// Whether each round's certificate is as expected, from the basis that the one before has left.
+/// Whether each round's certificate is as expected if it starts from the basis that the round before ended with.
 fn are_rounds(alloc: Global, p: &Problem, rounds: Rounds) -> bool {
     let mut kept = KeptMaster::new();
     for round in rounds {
@@ -273,7 +274,7 @@ fn are_rounds(alloc: Global, p: &Problem, rounds: Rounds) -> bool {
     true
 }
 
-/// Whether each round's certificate is as expected, from the basis that the one before has left, on these links.
+/// Whether the rounds' certificates are as expected on these links.
 fn are_rounds_there(
     alloc: Global,
     nodes: usize,

@@ -6,16 +6,16 @@ use net_core::Problem;
 use std::alloc::Global;
 use worked_networks::{DemandRow, LinkRow, ONE, TEN, network, problem};
 
-/// A number that is just below 2^62.
+/// The greatest number that isn't too wide.
 pub(crate) const NARROW: u128 = (1 << 62) - 1;
 
-/// A triangle of modules of 10.00 for 5.00: the links AB, BC and AC.
+/// A triangle of the links AB, BC and AC, with modules of 10.00 for 5.00.
 pub(crate) const TRIANGLE: [LinkRow; 3] = [(0, 1, 0, &TEN), (1, 2, 0, &TEN), (0, 2, 0, &TEN)];
 
-/// Three parallel links of modules of 1.00 for 1.00.
+/// Three parallel links with modules of 1.00 for 1.00.
 pub(crate) const THREE_LINKS: [LinkRow; 3] = [(0, 1, 0, &ONE), (0, 1, 0, &ONE), (0, 1, 0, &ONE)];
 
-/// The problem of this many nodes, these links, each of which fails alone, and demands.
+/// The problem with this many nodes, these links and demands, and a state for the failure of each link alone.
 pub(crate) fn with_single_failures(
     alloc: Global,
     nodes: usize,

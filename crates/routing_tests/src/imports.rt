@@ -4,13 +4,13 @@ use net_core::{LinkId, Network, NodeId, StateId};
 use std::alloc::Global;
 use worked_networks::{DemandRow, demands, failing, triangle};
 
-/// One demand from A to C.
+/// 12.00 from A to C.
 const ONE_DEMAND: &[DemandRow] = &[(0, 2, 12000)];
 
-/// Demands from A to C, from A to B, and from C to B, of which the last has no need.
+/// 12.00 from A to C, 5.00 from A to B, and a demand from C to B that needs nothing.
 const THREE_DEMANDS: &[DemandRow] = &[(0, 2, 12000), (0, 1, 5000), (2, 1, 0)];
 
-/// Demands of the triangle, states that fail links by their places, a file of flows, and what the import costs or why it is refused.
+/// The demands, the places of the links that fail in each state, a file of flows, and the cost of the imported plan or why it is refused.
 type ImportRow = (
     &'static [DemandRow],
     &'static [&'static [u32]],
@@ -26,6 +26,8 @@ const FIRST: StateId = StateId(1);
 
 const AC: LinkId = LinkId(2);
 
+/// A module has 10.00 for 5.00, so two on a link carry 12.00 and cost 10.00. Flows in both directions share a link's capacity: of 20.00 they
+/// take 16 + 4 = 20, but not 16.5 + 4.5 = 21.
 const IMPORTS: [ImportRow; 17] = [
     (
         ONE_DEMAND,
@@ -131,12 +133,12 @@ const IMPORTS: [ImportRow; 17] = [
     ),
 ];
 
-/// Whether the import costs this much.
+/// Whether the import has this cost, and a routing for each of this many states.
 fn costs(imported: &Imported, cost: u128, states: usize) -> bool {
     imported.cost == cost && imported.routings.len() == states
 }
 
-/// What the file of a row is imported as.
+/// What the import of a row's file answers; `None` if the file can't be read.
 fn import_of(
     alloc: Global,
     net: &Network,

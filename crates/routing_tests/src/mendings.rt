@@ -15,11 +15,11 @@ enum Way {
     Bac,
 }
 
-/// A demand, a path of it, and the number of a flow.
+/// A flow: the place of its demand, its path, and how much it carries, over the routing's denominator.
 type FlowRow = (u32, Way, u128);
 
-/// Demands of the triangle, a state, the capacities of AB, BC and AC, the denominator and the flows of an earlier routing, and those of the
-/// mended one over the same denominator.
+/// Demands of the triangle, a state, the capacities of AB, BC and AC, the denominator and the flows of an earlier routing, and the flows of
+/// the mended one over the same denominator; `None` if there is none.
 #[derive(Clone, Copy)]
 struct Mending {
     demands: &'static [DemandRow],
@@ -30,14 +30,15 @@ struct Mending {
     mended: Option<&'static [FlowRow]>,
 }
 
-/// From A to C.
+/// 6.00 from A to C.
 const ONE_DEMAND: &[DemandRow] = &[(0, 2, 6000)];
 
-/// From A to C and from B to C.
+/// 3.00 from A to C and 1.00 from B to C.
 const TWO_DEMANDS: &[DemandRow] = &[(0, 2, 3000), (1, 2, 1000)];
 
-/// What is missing goes over AB and BC, the only other path of A and C, or over BC, that of B and C. In state 3 the link AC fails. The links
-/// of C have 5.00 for 6.00 in the second row, and 3.999 for 4.00 in the last one, so no routing carries the demands.
+/// In state 3 the link AC fails. What no longer fits goes over AB and BC from A to C, and over BC from B to C, since no other path is left.
+/// In the second row the links at C have 3.00 + 2.00 = 5.00 for 6.00, and in the last one 3.999 for 3.00 + 1.00 = 4.00, so that no routing
+/// carries the demands.
 const MENDINGS: [Mending; 6] = [
     Mending {
         demands: ONE_DEMAND,
@@ -162,7 +163,7 @@ fn is_mended_within<'a>(
     is_mended(alloc, &task, earlier, row)
 }
 
-/// Whether the row's earlier routing is mended as it says, in a problem whose demands are the row's.
+/// Whether the earlier routing is mended as the row says, in a problem with the row's demands.
 fn is_mended_in(alloc: Global, p: &Problem, row: &Mending) -> bool {
     let Ok(nums) = List::from_slice(alloc, &row.caps) else {
         return false;
@@ -180,7 +181,7 @@ fn is_mended_in(alloc: Global, p: &Problem, row: &Mending) -> bool {
     is_mended_within(alloc, p, &Caps { scale: 1, nums }, &earlier, row)
 }
 
-/// Whether the row's earlier routing is mended as it says, in the triangle, each of whose links fails alone.
+/// Whether the earlier routing is mended as the row says, in the triangle, each of whose links fails alone.
 fn is_mended_there(alloc: Global, row: &Mending) -> bool {
     match with_single_failures(alloc, 3, &TRIANGLE, row.demands) {
         Some(p) => is_mended_in(alloc, &p, row),

@@ -19,18 +19,18 @@ enum Want {
     Over(u64),
     /// A cut, whatever its lengths.
     Short,
-    /// A cut of one of these lengths.
+    /// A cut with the first or the second of these lengths.
     Cut(&'static [u32], &'static [u32]),
     /// The number of this link is too wide.
     WideLink(u32),
-    /// The need of this demand is.
+    /// The need of this demand over the scale is too wide.
     WideDemand(u32),
 }
 
-/// A state, the scale, the numbers of the links, and the answer.
+/// A state, the scale, the capacities of the links over the scale, and the expected answer.
 type Row = (u32, u64, &'static [u128], Want);
 
-/// Nodes, links and demands, and rows of their routings.
+/// A network with demands, and rows that ask for routings in it.
 struct Group {
     nodes: usize,
     links: &'static [LinkRow<'static>],
@@ -38,7 +38,8 @@ struct Group {
     rows: &'static [Row],
 }
 
-/// The triangle with 12.00 from A to C and 4.00 from A to B, worked out by hand; in state 3 the link AC fails.
+/// The triangle with 12.00 from A to C and 4.00 from A to B. The links at C have 2.000 + 10.000 = 12.000 in the first row, and 1.999 + 10.000
+/// in the second. In state 3 the link AC fails: AB has to carry 12.00 + 4.00 = 16.00, and BC 12.00.
 const TWO_DEMANDS: [Row; 7] = [
     (0, 1, &[6000, 2000, 10000], Want::Over(1)),
     (
@@ -59,7 +60,8 @@ const TWO_DEMANDS: [Row; 7] = [
     (0, 2, &[NARROW, NARROW + 1, NARROW + 1], Want::WideLink(1)),
 ];
 
-/// The triangle with the first demand alone, 12.00 from A to C, worked out by hand; in state 3 the link AC fails.
+/// The triangle with 12.00 from A to C alone. Where capacity is missing, it is both at A and at C. Over the scale 3 the demand needs
+/// 36000 = 18000 + 18000.
 const ONE_DEMAND: [Row; 5] = [
     (0, 1, &[0, 0, NARROW + 1], Want::WideLink(2)),
     (0, 1, &[0, 0, NARROW], Want::Over(1)),
@@ -68,7 +70,8 @@ const ONE_DEMAND: [Row; 5] = [
     (0, 3, &[18000, 18000, 18000], Want::Over(1)),
 ];
 
-/// Four parallel links and 10.00, of which each of the three that are left in states 1 to 4 carries a third.
+/// Four parallel links with a demand of 10.00. Over the scale 3 it needs 30000 = 3 * 10000, so three links with 10000 each are enough, and
+/// one less on any of them is too little.
 const FOUR_LINKS: [Row; 6] = [
     (0, 1, &[0, 0, 0, 0], Want::Cut(&[1, 1, 1, 1], &[1, 1, 1, 1])),
     (0, 3, &[10000, 10000, 10000, 0], Want::Over(1)),
@@ -88,7 +91,7 @@ const FOUR_LINKS: [Row; 6] = [
     ),
 ];
 
-/// The nodes D and E with a link to each of A, B and C.
+/// Two hubs D and E, each with a link to A, B and C.
 const TWO_HUBS: [LinkRow; 6] = [
     (0, 3, 0, &TEN),
     (1, 3, 0, &TEN),
@@ -98,7 +101,7 @@ const TWO_HUBS: [LinkRow; 6] = [
     (2, 4, 0, &TEN),
 ];
 
-/// The hubs with a unit between each two of A, B and C: half of it goes over each hub, in the only routing.
+/// One unit between each two of A, B and C. With one unit on each link the only routing sends half of each demand over each hub.
 const HALVES: [Row; 3] = [
     (0, 1, &[1, 1, 1, 1, 1, 1], Want::Over(2)),
     (0, 2, &[2, 2, 2, 2, 2, 2], Want::Over(1)),
@@ -114,8 +117,8 @@ const FIVE_NODES: [LinkRow; 5] = [
     (4, 0, 0, &TEN),
 ];
 
-/// The ring with a unit from A to C, which greedily takes AB and BC, and then a unit from A to B, which is blocked. In
-/// each routing all links but BC are full. The numbers are short by one on one link after another.
+/// The ring with one unit from A to C, which a greedy routing sends over AB and BC, and one from A to B, for which AB is full then. With one
+/// unit on each link, every routing fills all links but BC, so that one less on any other link is too little.
 const BLOCKED: [Row; 8] = [
     (
         0,
@@ -175,7 +178,7 @@ const GROUPS: [Group; 5] = [
     },
 ];
 
-/// Whether the column is the slack that is too wide.
+/// Whether the column is the slack whose number should be too wide.
 fn is_slack(column: &RouteColumn, want: &Want) -> bool {
     match (column, want) {
         (RouteColumn::LinkSlack(link), Want::WideLink(e)) => link.0 == *e,
@@ -184,7 +187,7 @@ fn is_slack(column: &RouteColumn, want: &Want) -> bool {
     }
 }
 
-/// Whether the evidence says that the number of this slack is too wide.
+/// Whether the evidence says that the number of the expected slack is too wide.
 fn is_wide(evidence: &Evidence, want: &Want) -> bool {
     let Evidence::Route { kind, .. } = evidence else {
         return false;
@@ -218,7 +221,7 @@ fn meets(answer: &RouteAnswer, want: &Want) -> bool {
     }
 }
 
-/// Whether no state separates a demand, and so this one doesn't.
+/// Whether no state separates a demand, so that this one doesn't either.
 fn are_joined(alloc: Global, p: &Problem, state: u32) -> bool
     requires { state < length p.now.states.listed + 1 }
     ensures { IsTrue result → AreJoined (graph p.now.net p.now.states state) p.now.demands }
@@ -268,7 +271,7 @@ fn is_routed_from<'a>(
     }
 }
 
-/// Whether the answers without and with known columns are as expected. The columns that they end with are known afterwards.
+/// Whether the answers without and with known columns are as expected. The columns of the optimum are known afterwards.
 fn is_met(alloc: Global, p: &Problem, row: &Row, known: &mut List<RouteColumn>) -> bool {
     let at = StateId(row.0);
     if at.0 >= p.states.count() || row.1 == 0 || !are_joined(alloc, p, at.0) {
@@ -283,7 +286,7 @@ fn is_met(alloc: Global, p: &Problem, row: &Row, known: &mut List<RouteColumn>) 
         && is_routed_from(alloc, p, at, &caps, &row.3, known)
 }
 
-/// The first row that isn't as expected. The columns that each row ends with are known to the next, in whatever state.
+/// The first row whose answer isn't the expected one. A row knows the columns of the rows before it, even of other states.
 fn first_miss(alloc: Global, p: &Problem, rows: &[Row]) -> Option<usize> {
     let mut known = List::new(alloc);
     for i in 0..rows.len() {
@@ -294,7 +297,7 @@ fn first_miss(alloc: Global, p: &Problem, rows: &[Row]) -> Option<usize> {
     None
 }
 
-/// The first row of a group that isn't as expected, on the group's links, each of which fails alone.
+/// The first row of a group whose answer isn't the expected one, on the group's links, each of which fails alone.
 fn first_miss_of(alloc: Global, g: &Group) -> Option<usize> {
     match with_single_failures(alloc, g.nodes, g.links, g.demands) {
         Some(p) => first_miss(alloc, &p, g.rows),

@@ -7,33 +7,33 @@ use node_sets::{grown_set, threshold_set};
 use std::alloc::Global;
 use worked_networks::{DemandRow, LinkRow, RING};
 
-/// A state, the scale and the numbers of the links, the lengths of a threshold or, for a set that grows, none, and the lengths of
-/// the cut, or none where no set is found.
+/// A state, the scale and the capacities of the links over it, the lengths for a threshold set or `None` for a set that grows, and the
+/// lengths of the cut that is expected, of which there are none if no set should be found.
 type Row<'r> = (u32, u64, &'r [u128], Option<&'r [u32]>, &'r [u32]);
 
-/// On the triangle with 12.00 from A to C and 4.00 from A to B.
+/// Sets of the triangle with 12.00 from A to C and 4.00 from A to B.
 const ON_TRIANGLE: [Row; 8] = [
-    // The links at C have 11.999 for a demand of 12.000.
+    // The links at C have 1.999 + 10.000 = 11.999 for a demand of 12.000.
     (0, 1, &[6000, 1999, 10000], None, &[0, 1, 1]),
     (0, 2, &[12000, 3999, 20000], None, &[0, 1, 1]),
     (0, 1, &[6000, 2000, 10000], None, &[]),
-    // A has less for each unit of demand than C.
+    // A has 15.000 for 16.000, which is less for each unit of demand than the 11.999 for 12.000 at C.
     (0, 1, &[5000, 1999, 10000], None, &[1, 0, 1]),
-    // A number of 2^62 isn't looked at.
+    // With a number of 2^62 no set is looked for.
     (0, 1, &[1 << 62, 1999, 10000], None, &[]),
     (0, 1, &[6000, 1999, 10000], Some(&[0, 1, 1]), &[0, 1, 1]),
     (0, 1, &[6000, 1999, 10000], Some(&[1, 0, 1]), &[]),
     (0, 1, &[6000, 1999, 10000], Some(&[0, 0, 0]), &[]),
 ];
 
-/// In the ring node 1 has least capacity for each unit of demand. Where the chord fails, the set of nodes 0 and 1 is taken, which the
-/// chord would leave.
+/// Node 1 has the least capacity for each unit of demand: 3 + 3 = 6 for 30. In state 5 the chord fails, so that a set is taken whose boundary
+/// it crosses, that of nodes 0 and 1, with 3 + 6 = 9 for 30 + 8 = 38.
 const ON_RING: [Row; 2] = [
     (0, 1, &[3, 3, 7, 6, 100], None, &[1, 1, 0, 0, 0]),
     (5, 1, &[3, 3, 7, 6, 100], None, &[0, 1, 0, 1, 0]),
 ];
 
-/// Whether a cut was found, of these lengths, or none where there are no lengths.
+/// Whether a cut of these lengths was found, or no cut if there are no lengths.
 fn is_cut(found: &Result<Option<Cut>, NoMemory>, want: &[u32]) -> bool {
     match found {
         Ok(Some(cut)) => cut.lengths().items() == want,
@@ -42,7 +42,7 @@ fn is_cut(found: &Result<Option<Cut>, NoMemory>, want: &[u32]) -> bool {
     }
 }
 
-/// Whether the row's cut is found at these numbers of the links.
+/// Whether the row's cut is found within the task's capacities.
 fn is_found_at(alloc: Global, task: &RouteTask, row: &Row) -> bool
     requires { 0 < task.now.caps.now.scale }
 {
@@ -88,7 +88,7 @@ fn is_found(alloc: Global, p: &Problem, row: &Row) -> bool {
     is_found_in(alloc, p, StateId(row.0), &caps, row)
 }
 
-/// The first row whose cut isn't found, or none.
+/// The first row whose cut isn't found.
 fn first_missed(alloc: Global, p: &Problem, rows: &[Row]) -> Option<usize> {
     for i in 0..rows.len() {
         if !is_found(alloc, p, &rows[i]) {
@@ -98,7 +98,7 @@ fn first_missed(alloc: Global, p: &Problem, rows: &[Row]) -> Option<usize> {
     None
 }
 
-/// The first row whose cut isn't found on these links, each of which fails alone, or none.
+/// The first row whose cut isn't found on these links, each of which fails alone.
 fn first_miss(
     alloc: Global,
     nodes: usize,

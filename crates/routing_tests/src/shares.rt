@@ -12,10 +12,10 @@ use worked_networks::{LinkRow, ONE, PARALLEL, network};
 /// Two parallel links, the first without a module.
 const ONE_BARE: [LinkRow; 2] = [(0, 1, 0, &[]), (0, 1, 0, &ONE)];
 
-/// One link of modules of 1.00 for 1.00.
+/// One link with modules of 1.00 for 1.00.
 const SINGLE: [LinkRow; 1] = [(0, 1, 0, &ONE)];
 
-/// The share of these units over a scale.
+/// The share with these units over a scale; `None` if it isn't one of the network.
 fn share_of(alloc: Global, net: &Network, scale: u64, units: &[u64]) -> Option<Share>
     ensures scale { IfSome result (λ share. 0 < share.scale) }
     ensures units { IfSome result (λ share. length share.units ≡ length net.now.links) }
@@ -41,7 +41,8 @@ fn are_counts(counts: &Counts, want: &[u64]) -> bool {
     rest.is_empty()
 }
 
-/// Nodes and links, and a share: its scale and units, the needs, the counts that cover them, and what they cost.
+/// The number of nodes, the links, the scale and the units of a share, what each link needs for it, and the counts that cover this with their
+/// cost.
 struct Cover {
     nodes: usize,
     links: &'static [LinkRow<'static>],
@@ -52,7 +53,9 @@ struct Cover {
     cost: u128,
 }
 
-/// Modules of 1.00 for 1.00 have the unit pair 1 for 1, and those of 10.00 for 5.00 have 2 for 1.
+/// Modules of 1.00 for 1.00 have the unit pair 1 for 1, and those of 10.00 for 5.00 have 2 for 1. A link needs its units over the scale times
+/// the pair's capacity, rounded up: 10000 / 3 give 3334, which four modules of 1.00 cover, and 6000 * 2 = 12000, which two of 10.00 do. It
+/// never needs more than 2^44 - 1, for all demands together need less than one more.
 const COVERS: [Cover; 6] = [
     Cover {
         nodes: 2,
@@ -154,7 +157,7 @@ fn covers_of_shares(rt: HostRuntime) {
     }
 }
 
-/// Whether routing these counts is short in this state, or in none.
+/// Whether these counts have too little capacity in this state, or in no state if there is none.
 fn are_short(alloc: Global, p: &Problem, counts: &Counts, want: Option<u32>) -> bool
     requires survivable { IsSurvivable (case p.now.net p.now.states p.now.demands) }
     requires counts { AreCounts p.now.net.links counts.now }
@@ -171,7 +174,7 @@ fn are_short(alloc: Global, p: &Problem, counts: &Counts, want: Option<u32>) -> 
     }
 }
 
-/// Whether the covers of the share are short as the choice says.
+/// Whether the cover of the share has too little capacity in the state that the choice names.
 fn is_short(alloc: Global, p: &Problem, share: &Share, of: &Choice) -> bool
     requires survivable { IsSurvivable (case p.now.net p.now.states p.now.demands) }
     requires scale { 0 < share.now.scale }
@@ -183,7 +186,7 @@ fn is_short(alloc: Global, p: &Problem, share: &Share, of: &Choice) -> bool
     }
 }
 
-/// What is chosen beside a loose bound.
+/// What is chosen for a share if the bound is loose.
 fn chosen_for(alloc: Global, p: &Problem, share: &Share) -> Option<Chosen>
     requires survivable { IsSurvivable (case p.now.net p.now.states p.now.demands) }
     requires scale { 0 < share.now.scale }
@@ -205,8 +208,8 @@ fn chosen_for(alloc: Global, p: &Problem, share: &Share) -> Option<Chosen>
     .ok()
 }
 
-/// The last node, links, a need between it and the first, and a share: its scale and units, the state in which its covers are
-/// short, and what is chosen, with its cost.
+/// The last node, the links, a need between the first node and the last, the scale and the units of a share, the first state in which its
+/// cover has too little capacity, and the counts that are chosen with their cost.
 struct Choice {
     last: u32,
     links: &'static [LinkRow<'static>],
@@ -218,7 +221,9 @@ struct Choice {
     cost: u128,
 }
 
-/// Each link fails alone. On parallel links the fallback plan has ten modules on each of the first two, for 20.00.
+/// Each link fails alone. On parallel links the fallback plan has ten modules on each of the first two, for 20.00. A cover is chosen if it
+/// carries the demand and costs less, as 3 * 5 and 4 * 4 modules do. With counts of 5, 5 and 4 there are 5 + 4 = 9 for 10.00 if the first
+/// link fails, and 3 * 7 = 21 modules cost more.
 const CHOICES: [Choice; 5] = [
     Choice {
         last: 1,
@@ -294,7 +299,7 @@ fn is_chosen(alloc: Global, p: &Problem, of: &Choice) -> bool {
     }
 }
 
-/// Whether the choice's share is short, and its counts are chosen for its cost, on the choice's links, each of which fails alone.
+/// Whether the cover's capacity, the counts and the cost are those of the choice, on its links, each of which fails alone.
 fn is_chosen_there(alloc: Global, of: &Choice) -> bool {
     let demands = [(0, of.last, of.need)];
     match with_single_failures(alloc, of.last as usize + 1, of.links, &demands) {
