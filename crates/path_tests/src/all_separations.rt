@@ -4,7 +4,7 @@ use separation_texts::{put_separations, separations};
 use std::alloc::Global;
 use worked_networks::{DemandRow, LinkRow, TEN, network, problem};
 
-/// A triangle of a, b and c, to which link d leads from a fourth node.
+/// A triangle of the links a, b and c, and the link d from it to a fourth node.
 const LOLLIPOP: [LinkRow; 4] = [
     (0, 1, 0, &TEN),
     (1, 2, 0, &TEN),
@@ -12,7 +12,7 @@ const LOLLIPOP: [LinkRow; 4] = [
     (2, 3, 0, &TEN),
 ];
 
-/// How many nodes there are, the links, each of which may fail, the demands, and the lines of all separations.
+/// The number of nodes, the links, each of which fails alone, the demands, and the lines of all separations.
 type SeparationRow = (
     usize,
     &'static [LinkRow<'static>],
@@ -20,7 +20,8 @@ type SeparationRow = (
     &'static [u8],
 );
 
-/// Two demands over a bridge and two beside it, of which one has no need; a demand over a link, and one of a node without links; and a triangle.
+/// Three demands over the bridge d, of which the last needs nothing, and one beside it; a demand over the only link, and one to a node that
+/// has none; and a triangle, which no failure of one link separates.
 const SEPARATIONS: [SeparationRow; 3] = [
     (
         4,
@@ -70,7 +71,7 @@ fn are_right(alloc: Global, row: &SeparationRow) -> bool {
     }
 }
 
-/// The first row whose lines are others.
+/// The first row whose lines aren't the expected ones.
 fn first_wrong(alloc: Global) -> Option<usize> {
     for i in 0..SEPARATIONS.len() {
         if !are_right(alloc, &SEPARATIONS[i]) {

@@ -17,12 +17,14 @@ const INSTALLED: [LinkRow; 3] = [
 /// A triangle whose first link costs half as much for its capacity as the others.
 const MIXED: [LinkRow; 3] = [(0, 1, 0, &TEN), (1, 2, 0, &ONE), (0, 2, 0, &ONE)];
 
-/// States that fail each link of a triangle alone, and one that fails them all.
+/// The links that fail in each state: each link of a triangle alone, and all three.
 const FAILED: [&[u32]; 4] = [&[0], &[1], &[2], &[0, 1, 2]];
 
-/// A state, lengths, and the lengths of their cut with its distance of C and A.
+/// A state, lengths, the lengths of their cut in that state, and the distance of C and A under these.
 type KeptRow = (u32, [u32; 3], [u32; 3], u64);
 
+/// Lengths are divided by their greatest common divisor, and failed links get 0. In state 3 the link AC fails, so that the distance is
+/// that along AB and BC: 1 + 2 = 3, and 0 + 1 = 1.
 const KEPT: [KeptRow; 4] = [
     (0, [2, 4, 6], [1, 2, 3], 3),
     (1, [2, 4, 6], [0, 2, 3], 3),
@@ -30,7 +32,7 @@ const KEPT: [KeptRow; 4] = [
     (3, [0, 7, 7], [0, 1, 0], 1),
 ];
 
-/// A state, lengths, and why there is no cut of them.
+/// A state, lengths, and why they make no cut.
 type RefusedRow = (u32, [u32; 3], CutFault);
 
 const REFUSED: [RefusedRow; 4] = [
@@ -60,7 +62,7 @@ fn is_cut(cut: &Cut, row: &KeptRow) -> bool
         && cut.distance(NodeId(2), NodeId(0)) == Some(row.3)
 }
 
-/// Whether the row's lengths are kept as it says.
+/// Whether the row's lengths make its cut.
 fn are_kept(alloc: Global, p: &Problem, row: &KeptRow) -> bool {
     match cut_of(alloc, p, row.0, &row.1) {
         Some(Ok(cut)) => p.net.nodes().len() == 3 && is_cut(&cut, row),
@@ -109,16 +111,18 @@ fn lengths_are_refused(rt: HostRuntime) {
     }
 }
 
-/// Links, a state, and of its unit cut the right side, where 12.00 are needed from A to C, the raw value and the bound.
+/// Links, a state, and the right side, the raw value and the bound of the state's unit cut for 12.00 from A to C.
 type BoundRow = (&'static [LinkRow<'static>; 3], u32, u128, u128, u128);
 
+/// Without AC the distance of A and C is 2, so that the right side is 2 * 12.00. A raw value is half of what is missing, rounded up to modules of 5.00 for
+/// the bound. The installed 3 * 20.00 are more than 12.00, so nothing has to be paid.
 const BOUNDS: [BoundRow; 3] = [
     (&TRIANGLE, 0, 12000, 6000, 10000),
     (&TRIANGLE, 3, 24000, 12000, 15000),
     (&INSTALLED, 0, 12000, 0, 0),
 ];
 
-/// Whether the cut has the bound of a row, by a multiplier of a half.
+/// Whether the cut has the right side, the raw value and the bound of a row, and the multiplier 1 / 2.
 fn has_bound(net: &Network, line: &CutLine, row: &BoundRow) -> bool
     requires lengths { HaveBound net.now.links line.now.lengths }
     requires right { line.now.right < 2 ^ 84 }
@@ -133,7 +137,7 @@ fn has_bound(net: &Network, line: &CutLine, row: &BoundRow) -> bool
         && own_bound(net, line) == *bound
 }
 
-/// What the cut asks for of the problem's demands.
+/// The cut with its right side for the problem's demands.
 fn line_of(p: &Problem, cut: &Cut) -> Option<CutLine>
     requires { cut.now.table.nodes ≡ length p.now.net.nodes }
     ensures lengths { IfSome result (λ line. line.lengths ≡ cut.now.lengths) }
@@ -149,7 +153,7 @@ fn line_of(p: &Problem, cut: &Cut) -> Option<CutLine>
     }
 }
 
-/// The unit cut of a state.
+/// The unit cut of a state: every link that survives in it has length 1.
 fn unit_cut(alloc: Global, p: &Problem, state: u32) -> Option<Cut>
     ensures nodes { IfSome result (λ cut. cut.table.nodes ≡ length p.now.net.nodes) }
     ensures bound { IfSome result (λ cut. HaveBound p.now.net.links cut.lengths) }
@@ -158,14 +162,14 @@ fn unit_cut(alloc: Global, p: &Problem, state: u32) -> Option<Cut>
     Cut::new(alloc, &p.net, &p.states, StateId(state), units).ok()
 }
 
-/// Whether the unit cut of the row's state has its bound.
+/// Whether the unit cut of the row's state has the row's values.
 fn is_bound(alloc: Global, p: &Problem, row: &BoundRow) -> Option<bool> {
     let cut = unit_cut(alloc, p, row.1)?;
     let line = line_of(p, &cut)?;
     Some(has_bound(&p.net, &line, row))
 }
 
-/// Whether the unit cut of the row's state has its bound on the row's links.
+/// Whether the unit cut of the row's state has the row's values, on the row's links.
 fn is_bound_there(alloc: Global, row: &BoundRow) -> Option<bool> {
     let p = make_problem(alloc, 3, row.0.as_slice(), &FAILED, &[(0, 2, 12000)])?;
     is_bound(alloc, &p, row)
@@ -181,10 +185,10 @@ fn bounds_of_the_unit_cut(rt: HostRuntime) {
     }
 }
 
-/// The numbers of the links, their scale, and whether they are too small.
+/// The capacities of the links over a scale, the scale, and whether they violate the cut.
 type SmallRow = ([u128; 3], u64, bool);
 
-/// In state 3 AB and BC have to carry 12.00 each.
+/// In state 3 the link AC fails, so that AB and BC have to carry 12.00 each, which the cut asks of both together: 24000 times the scale.
 const SMALL: [SmallRow; 5] = [
     ([10000, 10000, 0], 1, true),
     ([11999, 12000, 90000], 1, true),
@@ -221,7 +225,7 @@ fn is_violated_so(alloc: Global, line: &CutLine, row: &SmallRow) -> bool {
     }
 }
 
-/// Whether the row's numbers violate the cut of AB and BC exactly where the row says so.
+/// Whether the row's capacities violate the cut of AB and BC, or don't, as the row says.
 fn is_small(alloc: Global, row: &SmallRow) -> bool {
     let Ok(lengths) = List::from_slice(alloc, &[1, 1, 0]) else {
         return false;
@@ -241,9 +245,11 @@ fn capacities_that_are_too_small(rt: HostRuntime) {
     }
 }
 
-/// Whether the links are those of different prices, a state, and the lengths of its opening cuts.
+/// Whether the links have different prices, a state, and the lengths of its opening cuts.
 type OpeningRow = (bool, u32, [Option<[u32; 3]>; 2]);
 
+/// The first cut has lengths of 1. The second has the price lengths, which are 1, 2 and 2 if the first link costs half as much as the others;
+/// it is left out if it is equal to the first. There is no cut in state 4, where all links fail.
 const OPENINGS: [OpeningRow; 6] = [
     (false, 0, [Some([1, 1, 1]), None]),
     (false, 3, [Some([1, 1, 0]), None]),
@@ -253,7 +259,7 @@ const OPENINGS: [OpeningRow; 6] = [
     (true, 2, [Some([1, 0, 1]), Some([1, 0, 2])]),
 ];
 
-/// Whether the cut, or none, is of these lengths, or none.
+/// Whether there is a cut of these lengths, or no cut if no lengths are expected.
 fn is_of(cut: Option<&Cut>, want: &Option<[u32; 3]>) -> bool {
     match (cut, want) {
         (Some(cut), Some(want)) => cut.lengths().items() == want.as_slice(),
@@ -262,7 +268,7 @@ fn is_of(cut: Option<&Cut>, want: &Option<[u32; 3]>) -> bool {
     }
 }
 
-/// Whether there are no cuts but those of these lengths.
+/// Whether the cuts have these lengths, and there are no others.
 fn are_of(cuts: &[Cut], want: &[Option<[u32; 3]>; 2]) -> bool {
     let [first, second] = want;
     cuts.len() < 3 && is_of(cuts.get(0), first) && is_of(cuts.get(1), second)

@@ -23,10 +23,10 @@ pub(crate) const FREE: [Module; 1] = [Module {
     cost: 0,
 }];
 
-/// A triangle of modules of 10.00 for 5.00: the links AB, BC and AC.
+/// A triangle of the links AB, BC and AC, with modules of 10.00 for 5.00.
 pub(crate) const TRIANGLE: [LinkRow; 3] = [(0, 1, 0, &TEN), (1, 2, 0, &TEN), (0, 2, 0, &TEN)];
 
-/// The links of a network with these setups, one after another; a link beyond them keeps its own.
+/// The links of a network, the first ones with these setup costs; the others keep theirs.
 fn with_setups(net: &Network, setups: &[u64]) -> Option<List<Link>> {
     let mut links = net.links().copy().ok()?;
     let items = links.items_mut();
@@ -38,7 +38,7 @@ fn with_setups(net: &Network, setups: &[u64]) -> Option<List<Link>> {
     Some(links)
 }
 
-/// The network of a number of nodes and these links with their setups, which are charged.
+/// A network of this many nodes and these links, with setup costs that are charged.
 pub(crate) fn charged(
     alloc: Global,
     nodes: usize,
@@ -55,7 +55,7 @@ pub(crate) fn charged(
     Network::check(plain.nodes().copy().ok()?, links, notes, Places::Three).ok()
 }
 
-/// The problem of a network, its states and these demands.
+/// The problem of a network with these states and demands.
 fn with_demands(
     alloc: Global,
     net: Network,
@@ -70,7 +70,7 @@ fn with_demands(
     })
 }
 
-/// The problem of this many nodes, these links, states that fail the listed links, and demands.
+/// The problem with this many nodes, these links, a state for each list of failed links, and these demands.
 pub(crate) fn make_problem(
     alloc: Global,
     nodes: usize,
@@ -83,7 +83,7 @@ pub(crate) fn make_problem(
     with_demands(alloc, net, states, rows)
 }
 
-/// Whether they are modules of a link.
+/// Whether a link may have these modules.
 pub(crate) fn are_modules(modules: &[Module]) -> bool
     ensures { IsTrue result ↔ All IsModule modules.now }
 {

@@ -4,16 +4,16 @@ use net_core::{Caps, List, Problem, StateId};
 use std::alloc::Global;
 use worked_networks::DemandRow;
 
-/// Demands, a state, the scale and the numbers of AB, BC and AC, and what is left of the two demands; worked out by hand.
+/// Two demands, a state, the scale, the capacities of AB, BC and AC over it, and how much of each demand isn't carried.
 type Row = ([DemandRow; 2], u32, u64, [u128; 3], [u128; 2]);
 
 /// 12.00 from A to C and 4.00 from A to B; in state 3 the link AC fails.
 const GREATER_FIRST: [DemandRow; 2] = [(0, 2, 12000), (0, 1, 4000)];
 
-/// 4.00 from A to B and 12.00 from A to C, which fills AB first.
+/// 4.00 from A to B and 12.00 from A to C, which is routed first since it is greater.
 const GREATER_LAST: [DemandRow; 2] = [(0, 1, 4000), (0, 2, 12000)];
 
-/// 6.00 from A to B and from A to C: the first goes first, and each takes its own link before the other two.
+/// 6.00 from A to B and 6.00 from A to C: of equal demands the first is routed first. Each takes its direct link before the path of two.
 const EQUAL: [DemandRow; 2] = [(0, 1, 6000), (0, 2, 6000)];
 
 const ROWS: [Row; 13] = [
@@ -38,12 +38,12 @@ const ROWS: [Row; 13] = [
     (EQUAL, 0, 1, [6000, 9000, 6000], [0, 0]),
 ];
 
-/// Whether the row is what is left, and the routing is of whole units.
+/// Whether the row's amounts are left, and the routing has the denominator 1.
 fn is_rest(left: &Left, row: &Row) -> bool {
     left.routing.den == 1 && left.rest.items() == row.4.as_slice()
 }
 
-/// Whether the row is what is left of the problem's demands.
+/// Whether the row's amounts are left of the problem's demands.
 fn is_left(alloc: Global, p: &Problem, row: &Row) -> bool {
     let Ok(nums) = List::from_slice(alloc, &row.3) else {
         return false;
@@ -58,7 +58,7 @@ fn is_left(alloc: Global, p: &Problem, row: &Row) -> bool {
     }
 }
 
-/// Whether the row is what is left of its demands on the triangle.
+/// Whether the row's amounts are left of its demands on the triangle.
 fn is_left_there(alloc: Global, row: &Row) -> bool {
     match make_problem(alloc, 3, &TRIANGLE, &[&[0], &[1], &[2]], &row.0) {
         Some(p) => is_left(alloc, &p, row),

@@ -29,10 +29,11 @@ fn covering(alloc: Global, link: &Link, need: u64) -> Option<Covering> {
     cover(alloc, link, need).ok()
 }
 
-/// The setup of a link, its modules, a need, the counts that cover it, and their cost.
+/// The setup cost of a link, its modules, a need, the counts that cover it, and their cost.
 type CoverRow = (u64, &'static [Module], u64, &'static [u64], u128);
 
-/// Up to 100,000 steps of the capacities' common divisor kinds are mixed, beyond that one kind is taken.
+/// A need of up to 100,000 steps of the capacities' greatest common divisor gets the cheapest of all counts, and a greater one the cheapest of
+/// one kind. 700 take a module of 155 and one of 622 for 100 + 250 = 350, and 99.001 take one of 0.001 and 99 of 1 for 0.001 + 49.5.
 const COVERS: [CoverRow; 12] = [
     (0, &TWO_KINDS, 0, &[0, 0], 0),
     (0, &TWO_KINDS, 1, &[1, 0], 100000),
@@ -48,7 +49,8 @@ const COVERS: [CoverRow; 12] = [
     (0, &SMALL_STEPS, 150100, &[0, 151], 75500),
 ];
 
-/// A positive need pays the setup once, whatever is chosen for it. None pays nothing.
+/// The setup cost is paid once if something is needed, as in 3 + 2 * 5 = 13 for 12.00 on modules of 10.00. A link that needs nothing costs
+/// nothing.
 const CHARGED_COVERS: [CoverRow; 10] = [
     (3000, &TEN, 0, &[0], 0),
     (3000, &TEN, 1, &[1], 8000),
@@ -72,7 +74,7 @@ fn is_cover(alloc: Global, net: &Network, row: &CoverRow) -> bool {
     }
 }
 
-/// Whether the row's need is covered as it says, on a link of the row's setup and modules.
+/// Whether the row's need is covered as it says, on a link with the row's setup cost and modules.
 fn is_cover_there(alloc: Global, row: &CoverRow) -> bool {
     match charged(alloc, 2, &[(0, 1, 0, row.1)], &[row.0]) {
         Some(net) => is_cover(alloc, &net, row),
@@ -80,7 +82,7 @@ fn is_cover_there(alloc: Global, row: &CoverRow) -> bool {
     }
 }
 
-/// The first row whose need is covered otherwise.
+/// The first row whose need isn't covered as it says.
 fn first_other_cover(alloc: Global, rows: &[CoverRow]) -> Option<usize> {
     for i in 0..rows.len() {
         if !is_cover_there(alloc, &rows[i]) {
@@ -122,8 +124,8 @@ const SIXTEEN_KINDS: [(u64, u64); 16] = [
     (17, 44),
 ];
 
-/// The least cost of all counts of these kinds that reach a need, for the needs from 0 on. A program that tries all counts
-/// found them.
+/// The least cost of counts of these kinds that reach a need, for each need from 0 to 40. They were found by another program, which tries all
+/// counts.
 const LEAST_COSTS: [u128; 41] = [
     0, 7, 7, 9, 13, 14, 18, 19, 23, 25, 28, 29, 33, 34, 38, 39, 41, 44, 48, 50, 53, 55, 58, 60, 63,
     66, 68, 70, 73, 75, 78, 80, 82, 85, 88, 91, 94, 96, 99, 101, 104,
@@ -141,13 +143,13 @@ fn sixteen_kinds(alloc: Global) -> Option<List<Module>> {
     Some(modules)
 }
 
-/// A link of these kinds.
+/// A network with one link that has modules of these kinds.
 fn link_of_kinds(alloc: Global) -> Option<Network> {
     let kinds = sixteen_kinds(alloc)?;
     network(alloc, 2, &[(0, 1, 0, kinds.items())]).ok()
 }
 
-/// The first need whose cover has another cost than the cheapest of all counts, or none.
+/// The first need whose cover doesn't have the least cost.
 fn first_dearer(alloc: Global, net: &Network) -> Option<usize> {
     let [link] = net.links().items() else {
         return Some(0);
@@ -161,7 +163,7 @@ fn first_dearer(alloc: Global, net: &Network) -> Option<usize> {
     None
 }
 
-/// The first need whose cover on a link of the kinds has another cost than the cheapest of all counts, or none.
+/// The first need whose cover doesn't have the least cost, on a link with these kinds.
 fn first_dearer_of_kinds(alloc: Global) -> Option<usize> {
     match link_of_kinds(alloc) {
         Some(net) => first_dearer(alloc, &net),
@@ -206,7 +208,7 @@ const WITH_TWELVE: [LinkRow; 3] = [
     (0, 2, 12000, &TEN),
 ];
 
-/// A ring of four nodes and one chord, of modules of 1.00 for 1.00.
+/// A ring of four nodes and one chord, with modules of 1.00 for 1.00.
 const RING_OF_ONES: [LinkRow; 5] = [
     (0, 1, 0, &ONE),
     (1, 3, 0, &ONE),
@@ -215,7 +217,7 @@ const RING_OF_ONES: [LinkRow; 5] = [
     (0, 3, 0, &ONE),
 ];
 
-/// A ring of four nodes and one chord, of two kinds of module.
+/// A ring of four nodes and one chord, with modules of two kinds.
 const RING_OF_TWO_KINDS: [LinkRow; 5] = [
     (0, 1, 0, &TWO_KINDS),
     (1, 3, 0, &TWO_KINDS),
@@ -224,7 +226,7 @@ const RING_OF_TWO_KINDS: [LinkRow; 5] = [
     (0, 3, 0, &TWO_KINDS),
 ];
 
-/// Nodes, links with their setups, and demands, and what the fallback plan must have: counts, cost and capacities.
+/// The number of nodes, the links with their setup costs, the demands, and the counts, the cost and the capacities of the fallback plan.
 #[derive(Clone, Copy)]
 struct Case {
     nodes: usize,
@@ -240,8 +242,8 @@ const TO_LAST: [DemandRow; 1] = [(0, 2, 12000)];
 
 const THREE_DEMANDS: [DemandRow; 3] = [(0, 1, 60000), (0, 3, 80000), (1, 2, 40000)];
 
-/// Each link fails alone. With modules of 1.00 the counts are the greatest loads. A link without setup costs what its modules do, and
-/// one whose pre-installed capacity is enough costs nothing.
+/// Each link fails alone. A link of the triangle carries 12.00 in some state and needs two modules, which cost 3 * 2 * 5.00 = 30.00 in all, or
+/// one if 2.00 are installed, or none if 12.00 are. With modules of 1.00 the counts are the greatest loads.
 const FALLBACKS: [Case; 6] = [
     Case {
         nodes: 3,
@@ -299,7 +301,8 @@ const FALLBACKS: [Case; 6] = [
     },
 ];
 
-/// Each link fails alone. Setups are paid once where a module is taken.
+/// Each link fails alone. A link that takes modules pays its setup cost once: 30.00 for modules and 3 * 3.00 or 1.00 + 0 + 7.00 for setups. A
+/// link whose installed capacity is enough pays nothing.
 const CHARGED_FALLBACKS: [Case; 5] = [
     Case {
         nodes: 3,
@@ -348,7 +351,7 @@ const CHARGED_FALLBACKS: [Case; 5] = [
     },
 ];
 
-/// Whether the counts have the case's cost and capacities.
+/// Whether the counts are the case's, with its cost and capacities.
 fn come_to(alloc: Global, net: &Network, counts: &Counts, case: &Case) -> bool
     requires { AreCounts net.now.links counts.now }
 {
@@ -363,7 +366,7 @@ fn come_to(alloc: Global, net: &Network, counts: &Counts, case: &Case) -> bool
     }
 }
 
-/// Whether the fallback plan is the case's.
+/// Whether the fallback plan is the expected one.
 fn is_fallback(alloc: Global, p: &Problem, case: &Case) -> bool {
     if !is_survivable(alloc, p) {
         return false;
@@ -374,7 +377,7 @@ fn is_fallback(alloc: Global, p: &Problem, case: &Case) -> bool {
     }
 }
 
-/// The problem of a case, where each link fails alone.
+/// The problem of a case, in which each link fails alone.
 fn problem_of(alloc: Global, case: &Case) -> Option<Problem> {
     problem(
         alloc,

@@ -18,7 +18,7 @@ const LINKS: [LinkRow; 5] = [
     (2, 3, 0, &[]),
 ];
 
-/// The links that the listed states fail.
+/// The links that fail in each listed state.
 const FAILED: [&[u32]; 3] = [&[0], &[0, 1], &[2, 3]];
 
 /// A problem without demands, and a length for each link.
@@ -28,7 +28,7 @@ struct Measured {
     lengths: Lengths,
 }
 
-/// The links with these lengths.
+/// A problem of the links, with these lengths.
 fn make_measured(alloc: Global, lengths: &[u32]) -> Option<Measured> {
     let p = make_problem(alloc, 4, &LINKS, &FAILED, &[])?;
     match List::from_slice(alloc, lengths) {
@@ -37,7 +37,7 @@ fn make_measured(alloc: Global, lengths: &[u32]) -> Option<Measured> {
     }
 }
 
-/// Whether it is a state of the problem, these are nodes, and each link has a length.
+/// Whether the problem has this state and these nodes, and each link has a length.
 fn are_given(m: &Measured, state: u32, a: u32, b: u32) -> bool
     ensures state { IsTrue result → state < length m.now.p.states.listed + 1 }
     ensures lengths { IsTrue result → length m.now.lengths ≡ length m.now.p.net.links }
@@ -51,10 +51,11 @@ fn are_given(m: &Measured, state: u32, a: u32, b: u32) -> bool
         && (b as usize) < nodes
 }
 
-/// A state, a node, and its distances of all nodes.
+/// A state, a node, and the distances of all nodes from it; `None` for a node that no path leads to.
 type DistanceRow = (u32, u32, [Option<u64>; 4]);
 
-/// Distances under the lengths 2, 5, 0, 4 and 1, worked out by hand.
+/// Distances under the lengths 2, 5, 0, 4 and 1. Without failures B and C are at 2 from A, by the first AB and BC. In states 1 and 2 they are
+/// at 4, by AC and BC, which are shorter than the second AB. In state 3 only both AB are left. CD joins nothing, since it has no module.
 const DISTANCES: [DistanceRow; 16] = [
     (0, 0, [Some(0), Some(2), Some(2), None]),
     (0, 1, [Some(2), Some(0), Some(0), None]),
@@ -74,7 +75,7 @@ const DISTANCES: [DistanceRow; 16] = [
     (3, 3, [None, None, None, Some(0)]),
 ];
 
-/// Whether the table has these distances of a node.
+/// Whether the table has these distances from a node.
 fn has_row(table: &DistanceTable, from: u32, want: &[Option<u64>; 4]) -> bool {
     for to in 0..4u32 {
         if from >= table.nodes()
@@ -87,12 +88,12 @@ fn has_row(table: &DistanceTable, from: u32, want: &[Option<u64>; 4]) -> bool {
     true
 }
 
-/// Whether both a search and the table have these distances of a node.
+/// Whether both a search and the table have these distances from a node.
 fn are_both(one: &[Option<u64>], all: &DistanceTable, from: u32, want: &[Option<u64>; 4]) -> bool {
     one == want.as_slice() && has_row(all, from, want)
 }
 
-/// Whether a search from the node and the table of all nodes answer as the row says.
+/// Whether a search from the node and the table of all nodes give the row's distances.
 fn are_distances(alloc: Global, m: &Measured, row: &DistanceRow) -> Option<bool> {
     let (state, from, want) = row;
     if !are_given(m, *state, *from, *from) {
@@ -104,7 +105,7 @@ fn are_distances(alloc: Global, m: &Measured, row: &DistanceRow) -> Option<bool>
     Some(are_both(one.items(), &all, *from, want))
 }
 
-/// The first row that isn't as the search or the table answers, or none.
+/// The first row that differs from what the search or the table gives.
 fn first_other_distance(alloc: Global, m: &Measured) -> Option<usize> {
     for i in 0..DISTANCES.len() {
         if !are_distances(alloc, m, &DISTANCES[i]).unwrap_or(false) {
@@ -126,10 +127,11 @@ fn distances_are_as_by_hand(rt: HostRuntime) {
     assert_eq!(rt; first_wrong_distance(rt.alloc()), None);
 }
 
-/// A state, two nodes, and the links of a path between them. None says that they are apart.
+/// A state, two nodes, and the links of the least path between them; `None` if no path leads.
 type PathRow = (u32, u32, u32, Option<&'static [u32]>);
 
-/// Least paths under the lengths 2, 2, 2, 4 and 1, by which two paths, or three, are the shortest.
+/// Least paths under the lengths 2, 2, 2, 4 and 1. From A to C three paths have length 4: those over each AB and BC, and AC. Of equally short
+/// paths the least has the lowest numbers of links, compared from the first link on.
 const LEAST: [PathRow; 12] = [
     (0, 0, 1, Some(&[0])),
     (0, 0, 2, Some(&[0, 2])),
@@ -145,7 +147,7 @@ const LEAST: [PathRow; 12] = [
     (3, 2, 0, None),
 ];
 
-/// Whether no link is of length 0.
+/// Whether each link has a length of 1 or more.
 fn are_long(m: &Measured, state: u32) -> bool
     requires { length m.now.lengths ≡ length m.now.p.net.links }
     ensures { IsTrue result → (e : ℕ) → Survives (graph m.now.p.net m.now.p.states state) e → 0 < slice_index m.now.lengths e }
@@ -153,12 +155,12 @@ fn are_long(m: &Measured, state: u32) -> bool
     m.lengths.items().iter().all(|n| *n > 0)
 }
 
-/// Whether the path is of these links.
+/// Whether the path has these links.
 fn is_of(path: &Path, links: &[u32]) -> bool {
     path.len() == links.len() && path.items().iter().zip(links).all(|(e, k)| e.0 == *k)
 }
 
-/// Whether the answer is that of a row.
+/// Whether the answer is the expected one.
 fn is_answer(found: &Result<Path, PathFault>, expected: &Option<&[u32]>) -> bool {
     match (found, expected) {
         (Ok(path), Some(links)) => is_of(path, links),
@@ -195,7 +197,7 @@ fn is_in_table(alloc: Global, m: &Measured, row: &PathRow) -> bool {
     }
 }
 
-/// The first row that isn't as the search or the table answers, or none.
+/// The first row that differs from what the search or the table gives.
 fn first_other_path(alloc: Global, m: &Measured) -> Option<usize> {
     for i in 0..LEAST.len() {
         let row = &LEAST[i];
@@ -218,10 +220,10 @@ fn least_paths_are_as_by_hand(rt: HostRuntime) {
     assert_eq!(rt; first_wrong_path(rt.alloc()), None);
 }
 
-/// A price that no sum of smaller ones reaches, and that a 64-bit sum of five can't hold.
+/// The greatest price that there may be.
 const GREAT: u64 = (1 << 62) - 1;
 
-/// Prices of AB twice, BC and AC, and the links and the total of the cheapest path from A to C.
+/// The prices of both AB, of BC and of AC, and the links and the total of the cheapest path from A to C.
 type PriceRow = ([u64; 4], &'static [u32], u128);
 
 const CHEAPEST: [PriceRow; 4] = [

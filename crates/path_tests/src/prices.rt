@@ -19,6 +19,7 @@ const ONE_AND_TEN: [Module; 2] = [
 /// Modules, and the capacity and cost of their unit pair.
 type PairRow = (&'static [Module], Option<(u64, u64)>);
 
+/// The pair is that of the module which is cheapest for its capacity, in lowest terms: 622 for 250 is 311 for 125, and 10 for 5 is 2 for 1.
 const PAIRS: [PairRow; 4] = [
     (&TWO_KINDS, Some((311, 125))),
     (&ONE_AND_TEN, Some((2, 1))),
@@ -48,6 +49,8 @@ fn unit_pairs(rt: HostRuntime) {
 /// Three parallel links, and their price lengths.
 type LengthRow = ([LinkRow<'static>; 3], [u32; 3]);
 
+/// Prices of capacity in sixteenths of the greatest one, rounded down. Beside 5 / 10 a price of 250 / 622 gives 12.86 sixteenths, and beside 1
+/// it gives 6.43.
 const LENGTHS: [LengthRow; 3] = [
     (
         [(0, 1, 0, &TEN), (0, 1, 0, &TWO_KINDS), (0, 1, 0, &[])],
@@ -85,9 +88,11 @@ fn sixteenths_of_the_dearest_link(rt: HostRuntime) {
     }
 }
 
-/// The modules of a link, a raw value, and the bound of it, in multiples of a divisor of the costs.
+/// The modules of a link, a raw value as a numerator and a denominator, and its bound.
 type BoundRow = (&'static [Module], (u128, u128), u128);
 
+/// The costs of two kinds, 100.000 and 250.000, have the greatest common divisor 50.000, so that the bound is the raw value rounded up to a
+/// multiple of it. With free modules the bound is 0.
 const BOUNDS: [BoundRow; 8] = [
     (&TWO_KINDS, (0, 1), 0),
     (&TWO_KINDS, (1, 7), 50000),
@@ -118,10 +123,11 @@ fn bounds_are_multiples(rt: HostRuntime) {
     }
 }
 
-/// Links with their setups, the divisor of all that they charge, and the bound of a raw value of 600001 / 2.
+/// The setup costs and modules of links, the greatest common divisor of all these costs, and the bound that a raw value of 600001 / 2 has,
+/// which is 300000.5 rounded up to a multiple of it.
 type SetupRow = (&'static [(u64, &'static [Module])], u64, u128);
 
-/// Setups that differ, a setup of 0 beside others, links without modules, and free modules.
+/// Different setup costs, one of 0 beside others, links without modules, whose setup cost doesn't count, and free modules.
 const SETUPS: [SetupRow; 8] = [
     (&[(30000, &TWO_KINDS), (20000, &TWO_KINDS)], 10000, 310000),
     (&[(30000, &TEN), (7000, &TEN)], 1000, 301000),
@@ -145,7 +151,7 @@ fn link(alloc: Global, setup: u64, modules: &[Module]) -> Option<Link> {
     })
 }
 
-/// The links of these setups and modules.
+/// The links with these setup costs and modules.
 fn links_of(alloc: Global, rows: &[(u64, &'static [Module])]) -> Option<List<Link>> {
     let mut links = List::new(alloc);
     for (setup, modules) in rows {

@@ -10,8 +10,8 @@ const BARE: [LinkRow; 1] = [(0, 1, 0, &[])];
 /// A chain of three nodes.
 const CHAIN: [LinkRow; 2] = [(0, 1, 0, &TEN), (1, 2, 0, &TEN)];
 
-/// How many nodes there are, their links, the links that each state fails, the need of a demand from the first node to the
-/// last, and the state that separates it.
+/// The number of nodes, the links, the links that fail in each state, the need of a demand from the first node to the last, and the first state
+/// that separates it.
 #[derive(Clone, Copy)]
 struct Case {
     name: &'static str,
@@ -65,7 +65,7 @@ const CASES: [Case; 5] = [
     },
 ];
 
-/// Whether the first separation is of this state and the first demand, or there is none.
+/// Whether the first separation is in this state, of the first demand, or there is none if no state is expected.
 fn is_first(alloc: Global, p: &Problem, want: Option<u32>) -> bool {
     match (first_separated(alloc, &p.net, &p.states, &p.demands), want) {
         (Ok(Some(found)), Some(state)) => found.state.0 == state && found.demand == 0,
@@ -97,10 +97,10 @@ fn first_separations_are_found(rt: HostRuntime) {
     }
 }
 
-/// A state, a link of the chain, and whether it survives, where state 1 fails the second link.
+/// A state, a link of the chain, and whether it survives. State 1 fails the second link.
 const SURVIVALS: [(u32, u32, bool); 4] = [(0, 0, true), (0, 1, true), (1, 0, true), (1, 1, false)];
 
-/// Whether all links survive as the table says.
+/// Whether the links survive or fail as the table says.
 fn survive_as_told(p: &Problem) -> bool {
     for (state, link, want) in &SURVIVALS {
         if *state >= p.states.count()
@@ -113,7 +113,7 @@ fn survive_as_told(p: &Problem) -> bool {
     true
 }
 
-/// Whether all links of the chain survive as the table says.
+/// Whether the links of the chain survive or fail as the table says.
 fn survive_on_chain(alloc: Global) -> bool {
     match make_problem(alloc, 3, &CHAIN, &[&[1]], &[]) {
         Some(p) => survive_as_told(&p),

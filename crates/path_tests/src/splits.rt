@@ -20,13 +20,13 @@ const EIGHT: [LinkRow; 6] = [
 /// A network whose arcs are split.
 #[derive(Clone, Copy)]
 enum Shape {
-    /// Three nodes, each two of them joined.
+    /// A triangle.
     Three,
     /// Two nodes with parallel links.
     Pair,
     /// A ring of four nodes with a chord.
     Square,
-    /// Two triangles.
+    /// Two triangles that share a node.
     Both,
 }
 
@@ -42,10 +42,10 @@ fn network_of(alloc: Global, shape: Shape) -> Option<Network> {
 /// An arc: its link, the node that it leaves, and its flow.
 type ArcRow = (u32, u32, u64);
 
-/// Two ends and a need between them.
+/// The two ends of a demand and its need.
 type NeedRow = (u32, u32, u64);
 
-/// A network, a need, balanced arcs, and the most that paths may send over each link: exactly that, where paths sum to it.
+/// A network, a need, balanced arcs, and the most that all paths together may carry over each link.
 type SplitRow = (Shape, NeedRow, &'static [ArcRow], &'static [u64]);
 
 const SPLITS: [SplitRow; 12] = [
@@ -167,7 +167,7 @@ fn names(path: &[LinkId], link: usize) -> bool {
     path.iter().any(|e| e.0 as usize == link)
 }
 
-/// Whether path flows over the link sum to at most a number.
+/// Whether the path flows over a link sum to this number at most.
 fn are_within(flows: &[PathFlow], link: usize, most: u64) -> bool {
     let mut left = most;
     for flow in flows {
@@ -181,7 +181,7 @@ fn are_within(flows: &[PathFlow], link: usize, most: u64) -> bool {
     true
 }
 
-/// Whether path flows sum to the need.
+/// Whether the path flows sum to the need.
 fn are_all(flows: &[PathFlow], need: u64) -> bool {
     let mut left = need;
     for flow in flows {
@@ -193,7 +193,7 @@ fn are_all(flows: &[PathFlow], need: u64) -> bool {
     left == 0
 }
 
-/// Whether path flows are at most as many as the arcs, and sum to the need, and over each link to at most its number.
+/// Whether there are no more path flows than arcs, and they sum to the need, and over no link to more than the row allows.
 fn are_flows(flows: &[PathFlow], row: &SplitRow) -> bool {
     let mut within = true;
     for e in 0..row.3.len() {
@@ -202,7 +202,7 @@ fn are_flows(flows: &[PathFlow], row: &SplitRow) -> bool {
     within && are_all(flows, row.1.2) && flows.len() <= row.2.len()
 }
 
-/// Whether the arcs of a row are split on a network as it says.
+/// Whether the arcs of a row are split on a network into flows that the row allows.
 fn are_split_on(alloc: Global, net: &Network, row: &SplitRow) -> bool {
     let Some(arcs) = arcs_of(alloc, row.2) else {
         return false;
@@ -220,7 +220,7 @@ fn are_split(alloc: Global, row: &SplitRow) -> bool {
     }
 }
 
-/// Whether the arcs of a row are refused on a network as it says.
+/// Whether the arcs of a row are refused on a network, with the row's node.
 fn are_refused_on(alloc: Global, net: &Network, row: &UnevenRow) -> bool {
     let Some(arcs) = arcs_of(alloc, row.1) else {
         return false;
@@ -238,7 +238,7 @@ fn are_refused(alloc: Global, row: &UnevenRow) -> bool {
     }
 }
 
-/// The first row whose arcs don't split.
+/// The first row whose arcs aren't split as they should be.
 fn first_unsplit(alloc: Global, rows: &[SplitRow]) -> Option<usize> {
     for i in 0..rows.len() {
         if !are_split(alloc, &rows[i]) {
@@ -248,7 +248,7 @@ fn first_unsplit(alloc: Global, rows: &[SplitRow]) -> Option<usize> {
     None
 }
 
-/// The first row whose arcs aren't refused.
+/// The first row whose arcs aren't refused with its node.
 fn first_unrefused(alloc: Global, rows: &[UnevenRow]) -> Option<usize> {
     for i in 0..rows.len() {
         if !are_refused(alloc, &rows[i]) {
