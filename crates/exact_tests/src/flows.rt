@@ -10,12 +10,12 @@ use simplex_core::{Optimum, SimplexFault};
 use std::alloc::Global;
 use worked_networks::{DemandRow, LinkRow, TEN, network, problem};
 
-/// A state, the scale, the numbers of the links, and the greatest flow as a numerator and a denominator.
+/// A state, the scale, the capacities of the links over it, and the greatest flow of all demands as a numerator and a denominator.
 type Row = (u32, u64, &'static [u128], (u128, u128));
 
 const NARROW: u128 = (1 << 62) - 1;
 
-/// Nodes, links and demands, and rows of their flows.
+/// A network with demands, and rows of greatest flows in it.
 struct Group {
     nodes: usize,
     links: &'static [LinkRow<'static>],
@@ -23,8 +23,9 @@ struct Group {
     rows: &'static [Row],
 }
 
-/// The triangle with 12.00 from A to C, nothing from B to C and 4.00 from A to B, worked out by hand; in state 3 the
-/// link AC fails.
+/// The triangle with 12.00 from A to C, nothing from B to C and 4.00 from A to B: 16.00 in all. In state 3 the link AC fails. Where less is
+/// carried, capacity is missing: in the second row the links at C have 1.999 + 10.000 for 12.000, in the third one 2.000 + 6.000, and in
+/// state 3 AB has 15.999 for 16.000.
 const ON_TRIANGLE: [Row; 8] = [
     (0, 1, &[6000, 2000, 10000], (16000, 1)),
     (0, 1, &[6000, 1999, 10000], (15999, 1)),
@@ -36,7 +37,7 @@ const ON_TRIANGLE: [Row; 8] = [
     (0, 1 << 48, &[NARROW, NARROW, NARROW], (16000 << 48, 1)),
 ];
 
-/// The nodes D and E with a link to each of A, B and C.
+/// Two hubs D and E, each with a link to A, B and C.
 const TWO_HUBS: [LinkRow; 6] = [
     (0, 3, 0, &TEN),
     (1, 3, 0, &TEN),
@@ -46,8 +47,8 @@ const TWO_HUBS: [LinkRow; 6] = [
     (2, 4, 0, &TEN),
 ];
 
-/// A thousandth between each two of A, B and C, worked out by hand: half of it goes over each hub. In state 1 the link
-/// AD fails, so that no more than a thousandth leaves A.
+/// One unit between each two of A, B and C, 3 in all. With one unit on each link half of each demand goes over each hub, and the links of one
+/// hub carry 3 / 2. In state 1 the link AD fails, so that no more than one unit leaves A, and one goes from B to C.
 const ON_TWO_HUBS: [Row; 4] = [
     (0, 1, &[1, 1, 1, 1, 1, 1], (3, 1)),
     (0, 2, &[2, 2, 2, 2, 2, 1], (5, 1)),
@@ -55,8 +56,8 @@ const ON_TWO_HUBS: [Row; 4] = [
     (1, 1, &[1, 1, 1, 1, 1, 1], (2, 1)),
 ];
 
-/// Five nodes, and needs from A to D and twice from B to C. The values of this table and those below are another
-/// solver's, of the flows on the links.
+/// Five nodes, with demands from A to D and twice from B to C. The greatest flows of these and of the six nodes were found by another solver,
+/// by the flows on the links.
 const FIVE_NODES: [LinkRow; 7] = [
     (0, 1, 0, &TEN),
     (0, 2, 0, &TEN),
@@ -67,7 +68,7 @@ const FIVE_NODES: [LinkRow; 7] = [
     (2, 4, 0, &TEN),
 ];
 
-/// The rows of a key's demand have denominators above 1, and a key leaves that has other paths of its demand.
+/// Capacities at which rows of a key's demand have denominators above 1, and a key leaves while other paths of its demand are in the basis.
 const ON_FIVE_NODES: [Row; 5] = [
     (0, 1, &[3, 3, 2, 2, 1, 2, 3], (6, 1)),
     (0, 1, &[3, 3, 2, 2, 1, 3, 7], (6, 1)),
@@ -76,7 +77,7 @@ const ON_FIVE_NODES: [Row; 5] = [
     (3, 1, &[2, 6, 2, 7, 1, 6, 3], (6, 1)),
 ];
 
-/// Six nodes with random links.
+/// Six nodes with links that were drawn at random.
 const SIX_NODES: [LinkRow; 8] = [
     (0, 3, 0, &TEN),
     (0, 4, 0, &TEN),
@@ -88,7 +89,7 @@ const SIX_NODES: [LinkRow; 8] = [
     (4, 5, 0, &TEN),
 ];
 
-/// Random states and numbers, under which keys tie with each other and with rows.
+/// States and capacities that were drawn at random, at which keys tie with each other and with rows.
 const ON_SIX_NODES: [Row; 6] = [
     (7, 1, &[3, 3, 3, 1, 6, 1, 1, 3], (7, 1)),
     (0, 1, &[4, 6, 6, 7, 6, 6, 2, 3], (16, 1)),
@@ -98,7 +99,7 @@ const ON_SIX_NODES: [Row; 6] = [
     (2, 1, &[4, 1, 3, 4, 7, 1, 7, 6], (7, 1)),
 ];
 
-/// Of the six nodes the needs are random, and one of them is 0.
+/// The needs of the six nodes were drawn at random, and one of them is 0.
 const GROUPS: [Group; 4] = [
     Group {
         nodes: 3,
@@ -126,7 +127,7 @@ const GROUPS: [Group; 4] = [
     },
 ];
 
-/// Whether all bounds are below 2^62.
+/// Whether the bounds of all rows are below 2^62.
 fn are_narrow(task: &RouteTask) -> bool
     ensures { IsTrue result → (k : ℕ) → k < route_rows (graph_of task.now.graph) task.now.demands.now
         → IsNarrow (route_bound (graph_of task.now.graph) task.now.demands.now task.now.caps.now k) }
@@ -139,7 +140,7 @@ fn are_narrow(task: &RouteTask) -> bool
     true
 }
 
-/// What `solve_task` answers, where the state and the numbers fit and the bounds are narrow.
+/// What `solve_task` answers; `None` if the state or the capacities don't fit the problem, or a bound is too wide.
 pub(crate) fn answer<'a>(
     alloc: Global,
     p: &'a Problem,
@@ -164,7 +165,7 @@ pub(crate) fn answer<'a>(
     Some(solve_task(alloc, &task, &[]))
 }
 
-/// The sum of the values of the columns that are paths of a demand.
+/// How much of a demand all its paths carry, over the denominator.
 fn sent(best: &Optimum<RouteColumn>, demand: usize) -> u128 {
     let mut sum: u128 = 0;
     for (name, value) in best.basis.items().iter().zip(best.values.items()) {
@@ -182,7 +183,7 @@ fn runs_over(path: &[LinkId], link: usize) -> bool {
     path.iter().any(|e| e.0 as usize == link)
 }
 
-/// The sum of the values of the paths over a link.
+/// How much all paths over a link carry, over the denominator.
 fn load(best: &Optimum<RouteColumn>, link: usize) -> u128 {
     let mut sum: u128 = 0;
     for (name, value) in best.basis.items().iter().zip(best.values.items()) {
@@ -193,7 +194,7 @@ fn load(best: &Optimum<RouteColumn>, link: usize) -> u128 {
     sum
 }
 
-/// Whether no link carries more than its number, and a link that fails nothing.
+/// Whether no link carries more than its capacity, and a link that fails carries nothing.
 fn keeps_links(state: u32, caps: &Caps, best: &Optimum<RouteColumn>) -> bool {
     let nums = caps.nums.items();
     for e in 0..nums.len() {
@@ -205,7 +206,7 @@ fn keeps_links(state: u32, caps: &Caps, best: &Optimum<RouteColumn>) -> bool {
     true
 }
 
-/// What all demands send, where none sends more than its need.
+/// How much of all demands is carried, over the denominator; `None` if more than a need is.
 fn sent_in_all(p: &Problem, scale: u64, best: &Optimum<RouteColumn>) -> Option<u128> {
     let demands = p.demands.items();
     let mut sum: u128 = 0;
@@ -220,7 +221,7 @@ fn sent_in_all(p: &Problem, scale: u64, best: &Optimum<RouteColumn>) -> Option<u
     Some(sum)
 }
 
-/// Whether the optimum is a flow of the row's value, within the numbers of the links and the needs.
+/// Whether the optimum is a flow of the row's value, within the capacities and the needs.
 fn is_flow(p: &Problem, caps: &Caps, best: &Optimum<RouteColumn>, row: &Row) -> bool {
     let (whole, part) = row.3;
     match sent_in_all(p, caps.scale, best) {
@@ -232,7 +233,7 @@ fn is_flow(p: &Problem, caps: &Caps, best: &Optimum<RouteColumn>, row: &Row) -> 
     }
 }
 
-/// Whether the row's greatest flow is as expected.
+/// Whether the greatest flow is the row's.
 fn is_met(alloc: Global, p: &Problem, row: &Row) -> bool {
     let Ok(nums) = List::from_slice(alloc, row.2) else {
         return false;
@@ -244,7 +245,7 @@ fn is_met(alloc: Global, p: &Problem, row: &Row) -> bool {
     }
 }
 
-/// The first row that isn't as expected.
+/// The first row whose greatest flow isn't the expected one.
 fn first_miss(alloc: Global, p: &Problem, rows: &[Row]) -> Option<usize> {
     for i in 0..rows.len() {
         if !is_met(alloc, p, &rows[i]) {
@@ -254,7 +255,7 @@ fn first_miss(alloc: Global, p: &Problem, rows: &[Row]) -> Option<usize> {
     None
 }
 
-/// The problem of a group.
+/// The problem of a group, in which each link fails alone.
 fn problem_of(alloc: Global, group: &Group) -> Option<Problem> {
     problem(
         alloc,
@@ -264,7 +265,7 @@ fn problem_of(alloc: Global, group: &Group) -> Option<Problem> {
     .ok()
 }
 
-/// The first row of a group that isn't as expected.
+/// The first row of a group whose greatest flow isn't the expected one.
 fn first_miss_of(alloc: Global, group: &Group) -> Option<usize> {
     match problem_of(alloc, group) {
         Some(p) => first_miss(alloc, &p, group.rows),

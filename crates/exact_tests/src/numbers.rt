@@ -14,7 +14,7 @@ pub(crate) fn is_narrow(n: i64) -> bool
     n.unsigned_abs() < 1 << 62
 }
 
-/// Two numbers and their greatest common divisor.
+/// Two numbers and their greatest common divisor, which is the other one if one of them is 0.
 const DIVISORS: [(u128, u128, u128); 6] = [
     (0, 0, 0),
     (0, 5, 5),
@@ -75,7 +75,7 @@ fn quotients_of_products(rt: HostRuntime) {
     }
 }
 
-/// Whether a sum past 128 bits is told from one within them, and comes back by what is taken off again.
+/// Whether a sum of more than 2^124 isn't given, and a sum from which that is taken off again is right.
 fn is_past_and_back() -> bool {
     let top = (1 << 62) - 1;
     let mut sum = Sum::new();
@@ -88,7 +88,7 @@ fn is_past_and_back() -> bool {
     past.is_none() && sum.within() == Some(-3 << 70) && sum.is_negative()
 }
 
-/// Whether the size of a sum of wide products is the sum.
+/// Whether the size of the sum of -3 and 4 times 2^70 is 2^70.
 fn has_size() -> bool {
     let mut sum = Sum::new();
     sum.add_wide(&-3, &(1 << 70));

@@ -3,7 +3,8 @@ use net_core::WideKind;
 use simplex_core::{Optimum, SimplexFault};
 use std::alloc::Global;
 
-/// A program of bounds and columns, and its optimum. Of the basis and the values the first ones are given, or none.
+/// A program of bounds and columns, and its optimum. Only the first columns of the basis and the first values are compared, as many as the
+/// lists have.
 #[derive(Clone, Copy)]
 struct Case {
     bounds: Three,
@@ -15,11 +16,11 @@ struct Case {
     duals: [i64; 3],
 }
 
-/// Two columns, each of which takes twice as much of one row as of the other.
+/// Two columns that gain 1 each and take twice as much of one row as of the other.
 const BOTH: [Given; 2] = [(1, (2, 1, 0)), (1, (1, 2, 0))];
 
 const OPTIMA: [Case; 5] = [
-    // Both columns.
+    // With 4 / 3 of both columns 2 * 4 / 3 + 4 / 3 = 4 are taken of both rows.
     Case {
         bounds: (4, 4, 0),
         columns: &BOTH,
@@ -29,7 +30,7 @@ const OPTIMA: [Case; 5] = [
         duals_den: 3,
         duals: [1, 1, 0],
     },
-    // Bounds of 0.
+    // With bounds of 0 nothing can be taken.
     Case {
         bounds: (0, 0, 0),
         columns: &BOTH,
@@ -39,7 +40,7 @@ const OPTIMA: [Case; 5] = [
         duals_den: 1,
         duals: [0, 1, 0],
     },
-    // No columns.
+    // Without columns the basis of slacks is the optimum.
     Case {
         bounds: (4, 4, 0),
         columns: &[],
@@ -49,7 +50,7 @@ const OPTIMA: [Case; 5] = [
         duals_den: 1,
         duals: [0, 0, 0],
     },
-    // A second turn that takes 2^70 from a row and divides it by 2^30: no evidence, since it is narrow then.
+    // The second turn takes 2^70 from a row and divides it by 2^30: its numbers are narrow again, so the optimum is found.
     Case {
         bounds: (3, 1 << 41, 0),
         columns: &[(1, (3, 1 << 40, 0)), (1 << 31, (1 << 30, 0, 0))],
@@ -59,7 +60,7 @@ const OPTIMA: [Case; 5] = [
         duals_den: 1,
         duals: [2, 0, 0],
     },
-    // Bases that come round again where the first of the rows of least ratio leaves.
+    // If the first of the rows of least ratio always left, the bases would come round again without end.
     Case {
         bounds: (5, 5, 1),
         columns: &[
@@ -76,7 +77,7 @@ const OPTIMA: [Case; 5] = [
     },
 ];
 
-/// Whether the optimum is the case's.
+/// Whether the optimum is the expected one.
 fn is_best(best: &Optimum<Label>, case: &Case) -> bool {
     best.basis.items().starts_with(case.basis)
         && best.den == case.den
@@ -99,7 +100,7 @@ fn optima(rt: HostRuntime) {
     }
 }
 
-/// Whether the kind is one of those that any packing program may have.
+/// Whether the kind is one that any packing program may have.
 fn is_of_a_basis(kind: &WideKind<Label>) -> bool {
     match kind {
         WideKind::Row(_) | WideKind::Product(_, _) | WideKind::Sum(_) | WideKind::Common => true,
@@ -107,7 +108,7 @@ fn is_of_a_basis(kind: &WideKind<Label>) -> bool {
     }
 }
 
-/// Whether the basis is of the second column and either the first column or the first slack.
+/// Whether the second row has the second column, and the first row the first column or the row's slack.
 fn is_beside_the_second(basis: &[Label]) -> bool {
     match basis {
         [first, second, _] => {
@@ -117,7 +118,7 @@ fn is_beside_the_second(basis: &[Label]) -> bool {
     }
 }
 
-/// Whether the answer is the optimum of gain 2^50 + 2^10, or a wide number on such a basis.
+/// Whether the answer is the optimum, which gains 2^50 + 2^10, or says that a number of such a basis is too wide.
 fn is_optimum_or_evidence(alloc: Global) -> bool {
     let columns = [(1 << 40, (1 << 40, 0, 0)), (2, (1, 1 << 40, 0))];
     match solved(alloc, (1 << 50, 1 << 50, 0), &columns) {

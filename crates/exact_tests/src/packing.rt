@@ -17,13 +17,13 @@ pub(crate) enum Label {
     Listed(usize),
 }
 
-/// A number of each of three rows.
+/// A number for each of three rows.
 pub(crate) type Three = (i64, i64, i64);
 
-/// A gain, and what a unit takes of each row.
+/// A column: what a unit of it gains, and takes of each row.
 pub(crate) type Given = (i64, Three);
 
-/// A number of each of three rows, as a packing program may have it as a bound or an entry.
+/// A number for each of three rows, which a packing program may have as a bound or an entry.
 #[derive(Clone, Copy)]
 struct Fitting {
     first: i64,
@@ -34,7 +34,7 @@ struct Fitting {
     ghost fits_third: { IsPackingNumber third },
 }
 
-/// A column with its entries in the three rows.
+/// A column with its entries in the three rows, of which some are positive.
 #[derive(Clone, Copy)]
 struct Shape {
     gain: i64,
@@ -43,7 +43,7 @@ struct Shape {
     ghost some: { pos 0 <ℤ ((takes.first +ℤ takes.second) +ℤ takes.third) },
 }
 
-/// A program of three rows over columns in a list. A row that isn't used has the bound 0.
+/// A program of three rows and a list of columns. A row that isn't used has the bound 0.
 #[derive(Drop)]
 struct Program {
     alloc: Global,
@@ -154,7 +154,7 @@ fn checked_three(three: Three) -> Option<Fitting> {
     }
 }
 
-/// Whether none of the numbers is negative, and some are positive.
+/// Whether no number is negative, and some number is positive.
 fn are_some(first: i64, second: i64, third: i64) -> bool
     ensures { IsTrue result → pos 0 <ℤ ((first +ℤ second) +ℤ third) }
 {
@@ -179,7 +179,7 @@ fn shapes_of(alloc: Global, given: &[Given]) -> Option<List<Shape>> {
     Some(shapes)
 }
 
-/// What `solve` answers for a program of these bounds and columns, where it may have them.
+/// What `solve` answers for a program of these bounds and columns; `None` if a packing program may not have them.
 pub(crate) fn solved(
     alloc: Global,
     bounds: Three,

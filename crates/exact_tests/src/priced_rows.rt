@@ -6,10 +6,10 @@ use row_prices::{PathRow, priced_numbers};
 use std::alloc::Global;
 use worked_networks::{DemandRow, LinkRow, TEN, network, problem};
 
-/// A column and its row: a demand and its path, or a link and no path for the link's slack; the row's numbers and their denominator.
+/// A column and its row: a demand and a path of it, or a link and no path, which is the link's slack; the row's numbers and their denominator.
 type Kept = (u32, &'static [u32], [i64; 3], i64);
 
-/// Demands on the triangle, a key for each, and rows; a row's place, and the lengths that it gives.
+/// Demands of the triangle, a key path for each, and rows; the place of a row, and the lengths that it gives, if any.
 #[derive(Clone, Copy)]
 struct Case {
     demands: &'static [DemandRow],
@@ -22,53 +22,56 @@ struct Case {
 /// The links AB, BC and AC.
 const TRIANGLE: [LinkRow; 3] = [(0, 1, 0, &TEN), (1, 2, 0, &TEN), (0, 2, 0, &TEN)];
 
-/// From A to C, and from A to B.
+/// 12.00 from A to C.
 const ONE_DEMAND: [DemandRow; 1] = [(0, 2, 12000)];
 
+/// 12.00 from A to C and 4.00 from A to B.
 const TWO_DEMANDS: [DemandRow; 2] = [(0, 2, 12000), (0, 1, 4000)];
 
-/// The key AC with the path over B, and the slacks of BC and AC.
+/// Beside the key AC: the path over B, and the slacks of BC and AC.
 const OVER_B: [Kept; 3] = [
     (0, &[0, 1], [1, 0, 0], 1),
     (1, &[], [-1, 1, 0], 1),
     (2, &[], [1, 0, 1], 1),
 ];
 
-/// The key over B with the path AC, and the slacks of BC and AB.
+/// Beside the key over B: the path AC, and the slacks of BC and AB.
 const OVER_AC: [Kept; 3] = [
     (0, &[2], [0, 0, 1], 1),
     (1, &[], [0, 1, 1], 1),
     (0, &[], [1, 0, 1], 1),
 ];
 
-/// The keys AC and AB with the paths around the triangle, and the slack of AC.
+/// Beside the keys AC and AB: the other path of each demand, and the slack of AC.
 const AROUND: [Kept; 3] = [
     (0, &[0, 1], [1, 1, 0], 2),
     (1, &[2, 1], [-1, 1, 0], 2),
     (2, &[], [1, 0, 1], 1),
 ];
 
-/// All slacks.
+/// The slacks of all links.
 const SLACKS: [Kept; 3] = [
     (0, &[], [1, 0, 0], 1),
     (1, &[], [0, 1, 0], 1),
     (2, &[], [0, 0, 1], 1),
 ];
 
-/// The first rows again, the second of them with a wrong number, and the third over twice its denominator.
+/// The rows of `OVER_B`, with a wrong number in the second one.
 const WRONG: [Kept; 3] = [
     (0, &[0, 1], [1, 0, 0], 1),
     (1, &[], [0, 1, 0], 1),
     (2, &[], [1, 0, 1], 1),
 ];
 
+/// The rows of `OVER_B`, with the third one over twice its denominator.
 const DOUBLED: [Kept; 3] = [
     (0, &[0, 1], [1, 0, 0], 1),
     (1, &[], [-1, 1, 0], 1),
     (2, &[], [2, 0, 2], 2),
 ];
 
-/// Worked out by hand, where the key AC is among the rows.
+/// The rows of `OVER_B`, with their own key and with others. The row at place 2 gives AB and AC the length 1, so that both paths from A to C
+/// have length 1.
 const OF_KEY_AC: [Case; 7] = [
     Case {
         demands: &ONE_DEMAND,
@@ -77,7 +80,7 @@ const OF_KEY_AC: [Case; 7] = [
         at: 2,
         lengths: Some([1, 0, 1]),
     },
-    // The key has the length 0, a number is below 0, and there is no such row.
+    // Row 0 gives the key the length 0, row 1 has a number below 0, and there is no row 3.
     Case {
         demands: &ONE_DEMAND,
         keys: &[&[2]],
@@ -99,7 +102,7 @@ const OF_KEY_AC: [Case; 7] = [
         at: 3,
         lengths: None,
     },
-    // The keys are those of other rows, or no path of the demand, or missing.
+    // The key is that of other rows, or no path of the demand, or missing.
     Case {
         demands: &ONE_DEMAND,
         keys: &[&[0, 1]],
@@ -123,7 +126,7 @@ const OF_KEY_AC: [Case; 7] = [
     },
 ];
 
-/// Cases of other keys, and of rows that aren't those of a basis.
+/// Other keys, and rows that aren't those of a basis or not in lowest terms.
 const OF_OTHERS: [Case; 7] = [
     Case {
         demands: &ONE_DEMAND,
@@ -153,7 +156,7 @@ const OF_OTHERS: [Case; 7] = [
         at: 2,
         lengths: Some([1, 0, 1]),
     },
-    // The path over B is shorter than the key.
+    // With a length on AC alone the path over B is shorter than the key.
     Case {
         demands: &ONE_DEMAND,
         keys: &[&[2]],
@@ -218,7 +221,7 @@ fn rows_of(alloc: Global, case: &Case) -> Result<List<PathRow>, NoMemory> {
     Ok(rows)
 }
 
-/// Whether a case's row gives what is expected, on a network of three links.
+/// Whether a case's row gives the expected lengths, in a problem of three links.
 fn is_met_on<'a>(alloc: Global, p: &'a Problem, caps: &'a Caps, case: &Case) -> bool {
     let (Ok(keys), Ok(rows)) = (keys_of(alloc, case), rows_of(alloc, case)) else {
         return false;
@@ -245,7 +248,7 @@ fn is_met_on<'a>(alloc: Global, p: &'a Problem, caps: &'a Caps, case: &Case) -> 
     }
 }
 
-/// Whether a case's row gives what is expected.
+/// Whether a case's row gives the expected lengths.
 fn is_met(alloc: Global, case: &Case) -> bool {
     let Ok(net) = network(alloc, 3, &TRIANGLE) else {
         return false;
@@ -260,7 +263,7 @@ fn is_met(alloc: Global, case: &Case) -> bool {
     is_met_on(alloc, &p, &caps, case)
 }
 
-/// Whether each case's row gives what is expected.
+/// Whether each case's row gives the expected lengths.
 fn are_met(alloc: Global, cases: &[Case]) -> bool {
     for case in cases {
         if !is_met(alloc, case) {
@@ -280,7 +283,7 @@ fn priced_rows_of_other_keys(rt: HostRuntime) {
     assert!(rt; are_met(rt.alloc(), &OF_OTHERS));
 }
 
-/// A row that asks for 12.00 of AB and AC, one that asks for 4.00 of AB and BC, and one that asks for 16.00 of AB and AC.
+/// A row that asks for 12.00 on AB and AC together, one that asks for 4.00 on AB and BC, and one that asks for 12.00 + 4.00 on AB and AC.
 const ASKED: [Case; 3] = [
     Case {
         demands: &ONE_DEMAND,
@@ -305,7 +308,7 @@ const ASKED: [Case; 3] = [
     },
 ];
 
-/// Which of these it is, capacities and their scale, and whether these are less than what is asked for.
+/// Which of these rows is meant, capacities over a scale, the scale, and whether they are less than the row asks for.
 const CAPACITIES: [(usize, [u128; 3], u64, bool); 7] = [
     (0, [4000, 8000, 7999], 1, true),
     (0, [4000, 8000, 8000], 1, false),
@@ -316,7 +319,7 @@ const CAPACITIES: [(usize, [u128; 3], u64, bool); 7] = [
     (2, [8000, 0, 8000], 1, false),
 ];
 
-/// Whether a case's row gives its lengths as a cut without failures, where that is expected, and else no cut.
+/// Whether a case's row makes a cut without failures if the capacities are less than it asks for, with the row's lengths, and else no cut.
 fn is_cut_on<'a>(
     alloc: Global,
     p: &'a Problem,
@@ -351,8 +354,7 @@ fn is_cut_on<'a>(
     }
 }
 
-/// Whether a case's row gives its lengths as a cut on the triangle without failures, at these capacities over a scale, where that is
-/// expected, and else no cut.
+/// Whether a case's row makes a cut of the triangle without failures if these capacities are less than it asks for, and else no cut.
 fn is_cut(alloc: Global, case: &Case, nums: &[u128], scale: u64, is_less: bool) -> bool {
     let Ok(net) = network(alloc, 3, &TRIANGLE) else {
         return false;

@@ -5,7 +5,7 @@ use crate::numbers::is_narrow;
 use checked_fraction::{Row, WideNumber, combine, lower, rescale};
 use std::alloc::Global;
 
-/// Two numerators, and their denominator.
+/// Two numerators and their denominator.
 type Over = ([i128; 2], i64);
 
 /// The place and value of a number that is too wide.
@@ -18,7 +18,7 @@ fn are_small(raw: &[i128; 2]) -> bool
     first.unsigned_abs() <= 1 << 124 && second.unsigned_abs() <= 1 << 124
 }
 
-/// What `lower` answers for the numbers, where they aren't too great for it.
+/// What `lower` answers for the numbers; `None` if they are too great for it.
 fn lower_to(row: &mut Row, of: &Over) -> Option<Result<(), WideNumber>>
     requires { length row.old.nums ≡ 2 }
     ensures { length row.new.nums ≡ 2 }
@@ -59,7 +59,7 @@ fn is_answer(answer: &Result<(), WideNumber>, want: &Wide) -> bool {
     }
 }
 
-/// Whether the unit row of three has its number in the middle.
+/// Whether the unit row of three numbers has a 1 in the middle.
 fn is_unit(alloc: Global) -> Option<bool> {
     let row = Row::unit(alloc, 3, 1).ok()?;
     Some(row.nums() == [0, 1, 0].as_slice() && row.den() == 1)
@@ -70,11 +70,11 @@ fn unit_rows(rt: HostRuntime) {
     assert!(rt; is_unit(rt.alloc()).unwrap_or(false));
 }
 
-/// What a number of a row may be: below 2^62 in absolute value.
+/// The numbers of a row are below this in absolute value.
 const LIMIT: i128 = 1 << 62;
 
-/// A row, the factor of the pivot row that is taken off it, the pivot row and its number over which that happens, what is too
-/// wide, and the row after the call.
+/// A row, a factor, the pivot row and its pivot number, the number that is too wide, if any, and the row after the call. The call takes the
+/// pivot row off the row, times the factor over the pivot number.
 type CombineRow = (Over, i64, Over, i64, Wide, Over);
 
 const COMBINED: [CombineRow; 5] = [
@@ -134,7 +134,7 @@ fn rows_are_combined_up_to_the_limit(rt: HostRuntime) {
     }
 }
 
-/// Whether two and four over one, divided by six, are one and two over three.
+/// Whether 2 and 4 over 1, divided by 6, are 1 and 2 over 3.
 fn is_rescaled(alloc: Global) -> Option<bool> {
     let mut row = row_of(alloc, &([2, 4], 1))?;
     rescale(&mut row, 6);
@@ -146,7 +146,7 @@ fn rows_are_divided(rt: HostRuntime) {
     assert!(rt; is_rescaled(rt.alloc()).unwrap_or(false));
 }
 
-/// A row, numbers that are put into it in lowest terms, what is too wide, and the row after the call.
+/// A row, numbers that are put into it in lowest terms, the number that is too wide, if any, and the row after the call.
 type LowerRow = (Over, Over, Wide, Over);
 
 const LOWERED: [LowerRow; 2] = [

@@ -18,7 +18,7 @@ fn chain(alloc: Global) -> Option<Network> {
     Network::check(nodes, links, notes, Places::Three).ok()
 }
 
-/// The capacities without modules.
+/// The pre-installed capacities of the links.
 fn installed(alloc: Global, net: &Network) -> Option<List<u128>> {
     let mut nums = List::new(alloc);
     for l in net.links().items() {
@@ -27,8 +27,8 @@ fn installed(alloc: Global, net: &Network) -> Option<List<u128>> {
     Some(nums)
 }
 
-/// How many of the places of the demands' slacks have columns of other demands. Such a place has none but columns of its demand until
-/// the demand's key is exchanged for a column in another place.
+/// How many places of demands have a column that isn't one of their demand. A place has only columns of its demand until the demand's key is
+/// exchanged for a column in another place.
 fn exchanged(basis: &[RouteColumn], links: usize) -> usize {
     basis
         .iter()
@@ -38,7 +38,7 @@ fn exchanged(basis: &[RouteColumn], links: usize) -> usize {
         .count()
 }
 
-/// Whether the fault is a common denominator that is too wide, on a basis of five exchanged keys.
+/// Whether the fault is a common denominator that is too wide, on a basis with five exchanged keys.
 fn is_exchanged(fault: &SimplexFault<RouteColumn>, links: usize) -> bool {
     match fault {
         SimplexFault::Wide { basis, kind } => {
@@ -48,7 +48,7 @@ fn is_exchanged(fault: &SimplexFault<RouteColumn>, links: usize) -> bool {
     }
 }
 
-/// Whether it is so in the problem of the chain.
+/// Whether routing in a problem of the chain ends with that fault, if no modules are installed.
 fn is_too_wide(alloc: Global, p: &Problem) -> bool {
     let Some(nums) = installed(alloc, &p.net) else {
         return false;
@@ -72,7 +72,7 @@ fn is_too_wide_on_chain(alloc: Global) -> bool {
     }
 }
 
-/// Each two demands fill their stages, which takes many paths, so that the determinants of bases grow large.
+/// Each pair of demands fills its stages of the chain, which takes many paths, so that the determinants of bases grow large.
 #[test]
 fn a_common_denominator_is_too_wide_after_exchanges_of_keys(rt: HostRuntime) {
     assert!(rt; is_too_wide_on_chain(rt.alloc()));
