@@ -10,22 +10,22 @@ use text_kit::write::put_decimal;
 use text_kit::{FaultWord, Refusal};
 use worked_networks::{demands, failing, triangle};
 
-/// What a file is read as.
+/// What a file is read as, and what is counted in it.
 #[derive(Clone, Copy)]
 pub(crate) enum Format {
-    /// A network, counted by its demands.
+    /// A network: the number of its demands.
     Network,
-    /// A network, counted by the digits after the point of its amounts.
+    /// A network: how many digits its amounts have after the point.
     Digits,
-    /// A model, which counts as 1 where all demands may be routed anew, and as 2 more where setups are charged.
+    /// A model: 1 if all demands may be routed anew at a failure, and 2 more if setups are charged.
     Model,
-    /// The failure states of the triangle.
+    /// A failure list of the triangle: the number of states.
     Failures,
-    /// The commands of a session of a network with three places.
+    /// A script for a network with three places: the number of commands.
     Script,
-    /// The commands of a session of a network with six places.
+    /// A script for a network with six places: the number of commands.
     FineScript,
-    /// The flows on the triangle of two demands in the states `none` and `f`, counted in the first.
+    /// Flows of two demands on the triangle in the states `none` and `f`: how many there are in the first.
     Flows,
 }
 
@@ -76,14 +76,14 @@ fn flows(alloc: Global, text: &[u8]) -> Result<usize, FlowsRefusal> {
     flows_on(alloc, &net, text)
 }
 
-/// Puts a fault as it is written: its place and its word.
+/// Appends a fault: its place and its word.
 fn put_fault<K: FaultWord>(text: &mut Bytes, at: u64, kind: &K) -> Option<()> {
     put_decimal(text, at as u128).ok()?;
     text.push(b' ').ok()?;
     kind.put_word(text).ok()
 }
 
-/// Puts `read` and how much a file has, or its first fault.
+/// Appends `read` and the number that is counted in a file, or the file's first fault.
 fn put_outcome<K: FaultWord + Debug + Drop>(
     text: &mut Bytes,
     answer: Result<usize, Refusal<K>>,
@@ -98,7 +98,7 @@ fn put_outcome<K: FaultWord + Debug + Drop>(
     }
 }
 
-/// What reading a file of a format gives.
+/// The result of reading a file in a format, as the rows of tables say it.
 fn outcome(alloc: Global, format: Format, file: &[u8]) -> Option<Bytes> {
     let mut text = Bytes::new(alloc);
     match format {
@@ -123,7 +123,7 @@ fn split(bytes: &[u8], mark: u8) -> Option<(&[u8], &[u8])> {
     None
 }
 
-/// Puts a name of three letters, another one for each number.
+/// Appends a name of three letters, a different one for each number up to 17,575.
 fn put_name(text: &mut Bytes, i: u32) -> Option<()> {
     let a = b'a' + (i / 676 % 26) as u8;
     let b = b'a' + (i / 26 % 26) as u8;
@@ -131,7 +131,7 @@ fn put_name(text: &mut Bytes, i: u32) -> Option<()> {
     text.append(&[a, b, c]).ok()
 }
 
-/// Puts the bytes of a piece, with the end of a line for `~` and the name of this number for `%`.
+/// Appends the bytes of a piece, with a line break for `~` and the name of this number for `%`.
 fn put_piece(text: &mut Bytes, piece: &[u8], i: u32) -> Option<()> {
     for byte in piece {
         match *byte {
@@ -143,7 +143,7 @@ fn put_piece(text: &mut Bytes, piece: &[u8], i: u32) -> Option<()> {
     Some(())
 }
 
-/// Puts a piece as many times as the number before it says.
+/// Appends a piece as many times as the number before it says.
 fn put_many(text: &mut Bytes, many: &[u8]) -> Option<()> {
     let (count, piece) = split(many, b' ')?;
     let count = u32::try_from(whole(count).ok()?).ok()?;
@@ -153,7 +153,7 @@ fn put_many(text: &mut Bytes, many: &[u8]) -> Option<()> {
     Some(())
 }
 
-/// Puts a body, in which `[3 a]` means `aaa`. It has at most one such part.
+/// Appends a body, in which `[3 a]` means `aaa`. It has at most one such part.
 fn put_body(text: &mut Bytes, body: &[u8]) -> Option<()> {
     let Some((front, rest)) = split(body, b'[') else {
         return put_piece(text, body, 0);
@@ -171,15 +171,15 @@ fn file(alloc: Global, header: &[u8], body: &[u8]) -> Option<Bytes> {
     Some(text)
 }
 
-/// Whether reading the file of a row gives what is before the row's bar.
+/// Whether the file of a row is read with the result before the row's bar.
 fn is_row(alloc: Global, format: Format, header: &[u8], row: &[u8]) -> Option<bool> {
     let (expected, body) = split(row, b'|')?;
     let file = file(alloc, header, body)?;
     Some(outcome(alloc, format, file.items())?.items() == expected)
 }
 
-/// The number of the first row of a table whose file gives something else than what is before its bar, or that isn't a whole row.
-/// The files begin with the header.
+/// The number of the first row of a table that isn't complete, or whose file isn't read with the result before its bar. The files begin with
+/// the header.
 ///
 /// ```text
 /// 51 section|NODE()              the fault `section` at place 51

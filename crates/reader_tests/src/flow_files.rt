@@ -2,11 +2,11 @@ use crate::files::{Format, first_difference};
 
 const HEADER: &[u8] = b"?planner flows; version: 1\n";
 
-/// A file of another kind, with its first line.
+/// A file with the header of another version.
 const OTHER_HEADER: &[u8] = b"0 header|?planner flows; version: 2~
 ";
 
-/// Names, counts, amounts, parts and flows at their limits. Each row is written by bench/flow_files/rows.py.
+/// Names, counts, amounts, parts and flows at their limits and beyond them. The rows are written by bench/flow_files/rows.py.
 const LIMITS: &[u8] = b"37 unknown-name|MODULES ( [255 x] ( 0 ) )
 37 limit-name|MODULES ( [256 x] ( 0 ) )
 42 number-not|MODULES ( AB ( 01 ) )
@@ -40,7 +40,7 @@ read 65536|MODULES ( AB ( 0 ) BC ( 0 ) AC ( 2 ) ) FLOWS ( none ( [65536 A AC A 1
 589905 unknown-name|MODULES ( AB ( 0 ) BC ( 0 ) AC ( 2 ) ) FLOWS ( none ( [65536 A AC A 1 ]X AC A 1 ) f ( ) )
 ";
 
-/// A whole file, then that file with each token left out, doubled and replaced, and cut off before it, from the same script.
+/// A whole file, and that file with each token left out, doubled or replaced, and cut off before each token, written by that script.
 const DAMAGED: &[u8] =
     b"read 4|MODULES ( AB ( 2 ) BC ( 2 ) AC ( 2 ) ) FLOWS ( none ( A AC A 12 A AB A 3 A BC B 3 A AC C 3 ) f ( A AC A 12 ) )
 27 section|( AB ( 2 ) BC ( 2 ) AC ( 2 ) ) FLOWS ( none ( A AC A 12 A AB A 3 A BC B 3 A AC C 3 ) f ( A AC A 12 ) )

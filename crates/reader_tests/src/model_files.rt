@@ -8,7 +8,7 @@ const MODEL: &[u8] = b"?SNDlib native format; type: model; version: 1.0\n";
 
 const FAILURES: &[u8] = b"?planner failures; version: 1\n";
 
-/// Models, and their first faults.
+/// Models that are read, and models with their first faults.
 const MODELS: &[u8] =
     b"read 0|DEMAND_MODEL = UNDIRECTED~LINK_MODEL = UNDIRECTED~LINK_CAPACITY_MODEL = MODULAR_CAPACITIES~FIXED_CHARGE_MODEL = NO~ROUTING_MODEL = CONTINUOUS~ADMISSIBLE_PATH_MODEL = ALL_PATHS~HOP_LIMIT_MODEL = NO~SURVIVABILITY_MODEL = NO_SURVIVABILITY~
 read 1|# as failures come~SURVIVABILITY_MODEL = UNRESTRICTED_FLOW_RECONFIGURATION~HOP_LIMIT_MODEL = NO~ADMISSIBLE_PATH_MODEL = ALL_PATHS~ROUTING_MODEL = CONTINUOUS~FIXED_CHARGE_MODEL = NO~LINK_CAPACITY_MODEL = MODULAR_CAPACITIES~LINK_MODEL = UNDIRECTED~DEMAND_MODEL = UNDIRECTED
@@ -30,7 +30,7 @@ read 3|SURVIVABILITY_MODEL = UNRESTRICTED_FLOW_RECONFIGURATION FIXED_CHARGE_MODE
 49 missing-DEMAND_MODEL|
 ";
 
-/// A file of another kind, with its first line.
+/// A file with the header of another format.
 const OTHER_HEADER: &[u8] = b"0 header|?planner failures; version: 1~
 ";
 
@@ -46,7 +46,7 @@ fn models_are_read_or_refused_at_their_first_fault(rt: HostRuntime) {
     );
 }
 
-/// Failure lists of the triangle, whose links are AB, BC and AC.
+/// Failure lists of the triangle, whose links are AB, BC and AC. There are at most 256 listed states, 257 with the one without failures.
 const LISTS: &[u8] = b"30 section|STATES ( )
 39 section|FAILURES )
 43 section|FAILURES ( ) x
@@ -73,7 +73,7 @@ fn failure_lists_are_read_or_refused_at_their_first_fault(rt: HostRuntime) {
     );
 }
 
-/// Whether listed state `state` has the name and fails these links, in their order.
+/// Whether the listed state at this place has the name and fails these links, in their order.
 fn is_state(states: &States, state: usize, name: &[u8], links: &[LinkId]) -> bool {
     match states.listed().items().get(state) {
         Some(listed) => listed.name.bytes() == name && listed.links.items() == links,
@@ -81,14 +81,14 @@ fn is_state(states: &States, state: usize, name: &[u8], links: &[LinkId]) -> boo
     }
 }
 
-/// Whether these are the states `s`, which names a link twice, and `none`, which is a listed one here.
+/// Whether these are the state without failures and two listed ones: `s`, which names a link twice, and one that is called `none`.
 fn are_two_states(states: &States) -> bool {
     states.count() == 3
         && is_state(states, 0, b"s", &[LinkId(0), LinkId(1), LinkId(0)])
         && is_state(states, 1, b"none", &[LinkId(2)])
 }
 
-/// Whether each link of the triangle fails alone, under its own name.
+/// Whether these are the state without failures and one for each link of the triangle, which fails it alone and has its name.
 fn are_single_links(states: &States) -> bool {
     states.count() == 4
         && is_state(states, 0, b"AB", &[LinkId(0)])
@@ -111,12 +111,12 @@ fn is_list_read(alloc: Global, text: &[u8]) -> Option<bool> {
     Some(are_two_states(&states_of(alloc, text)?))
 }
 
-/// Whether the word for each link is read as all single links.
+/// Whether the word for all single links is read as a state for each link.
 fn is_word_read(alloc: Global, text: &[u8]) -> Option<bool> {
     Some(are_single_links(&states_of(alloc, text)?))
 }
 
-/// Whether all single links are made without a list.
+/// Whether the states of all single links can be made without a list.
 fn are_singles_made(alloc: Global) -> Option<bool> {
     let net = triangle(alloc, 0).ok()?;
     Some(are_single_links(&single_links(alloc, &net).ok()?))

@@ -9,7 +9,7 @@ const HEADER: &[u8] = b"?SNDlib native format; type: network; version: 1.0\n";
 const SMALL: &[u8] =
     b"?SNDlib native format; type: network; version: 1.0\n# network small4\n\nMETA (\n  granularity = instance\n)\n\n# NODE SECTION\n# <node_id> [(<longitude>, <latitude>)]\nNODES (\n  Bonn ( 7.10 50.73 )\n  Kiel ( 10.13 54.32 )\n  Ulm ( 9.99, 48.40 )\n  Jena\n)\n\n# LINK SECTION\nLINKS (\n  L1 ( Bonn Kiel ) 0.00 0.00 0.00 0.00 ( 155.00 100.00 622.00 250.00 )\n  L2 ( Kiel Jena ) 0.00 0.00 0.00 0.00 ( 155.00 100.00 622.00 250.00 )\n  L3 ( Jena Ulm ) 0.00 0.00 0.00 0.00 ( 155.00 100.00 622.00 250.00 )\n  L4 ( Ulm Bonn ) 0.00 0.00 0.00 0.00 ( 155.00 100.00 622.00 250.00 )\n  L5 ( Bonn Jena ) 0.00 0.00 0.00 0.00 ( 155.00 100.00 622.00 250.00 )\n)\n\n# DEMAND SECTION\nDEMANDS (\n  D1 ( Bonn Kiel ) 1 60.00 UNLIMITED\n  D2 ( Bonn Jena ) 1 80.00 UNLIMITED\n  D3 ( Kiel Ulm ) 1 40.00 UNLIMITED\n)\n\nADMISSIBLE_PATHS (\n  D1 ( P1 ( L1 ) P2 ( L5 L2 ) )\n)\n";
 
-/// Whole files, with their first line.
+/// Whole files, whose first lines are in the table.
 const FIRST_LINES: &[u8] =
     b"93 fixed-link|?SNDlib native format; type: network; version: 1.0~NODES ( A B )~LINKS ( L ( A B ) 5 0 0 0 ( ) )~DEMANDS ( )~
 78 ended|?SNDlib native format; type: network; version: 1.0~NODES ( A B )~LINKS ( L ( A
@@ -17,7 +17,7 @@ const FIRST_LINES: &[u8] =
 0 header|
 ";
 
-/// Faults of the sections' words, of the parentheses after them and of the end.
+/// Faults in the words of sections, in the parentheses after them and at the end.
 const FAULTS_OF_SECTIONS: &[u8] = b"51 section|NODE()
 51 section|()
 56 ended|NODES
@@ -36,7 +36,7 @@ const FAULTS_OF_SECTIONS: &[u8] = b"51 section|NODE()
 119 section|NODES(A B)LINKS(L(A B)0 0 0 0())DEMANDS(D(A B)1 1 9)ADMISSIBLE_PATHS)
 ";
 
-/// Faults of the sort of a token.
+/// Words and parentheses where a token of another sort is expected, and files that end there.
 const FAULTS_OF_TOKENS: &[u8] = b"57 token|NODES((1))
 123 token|NODES(A B)LINKS(L(A B)0 0 0 0())DEMANDS(D(A B)1 1 9)ADMISSIBLE_PATHS(D(P)
 122 token|NODES(A B)LINKS(L(A B)0 0 0 0())DEMANDS(D(A B)1 1 9)ADMISSIBLE_PATHS(D((
@@ -100,8 +100,8 @@ read 2048|NODES(A B)LINKS()DEMANDS([2048  %(A B)1 0 9])
 28749 double-name|NODES(A B)LINKS()DEMANDS([2048  %(A B)1 0 9] aaa(
 ";
 
-/// Files with three places, and with six where a number has more than three. A file that has another fault before such a number
-/// is read with three places alone.
+/// Files have three places, and six if a number has more than three. If another fault comes before such a number, the file is read with three
+/// places only.
 const PLACES: &[u8] = b"read 3|NODES(A B)LINKS()DEMANDS(D(A B)1 2.5 9)
 read 3|NODES(A B)LINKS()DEMANDS(D(A B)1 2.500000 9)
 read 6|NODES(A B)LINKS()DEMANDS(D(A B)1 2.5001 9)
@@ -118,7 +118,8 @@ read 6|NODES(A B)LINKS(L(A B)0 0 0 0(0.0001 1))DEMANDS()
 97 unknown-name|NODES(A B)LINKS()DEMANDS(D(A B)1 0.0001 9 E(A C)1 1 9)
 ";
 
-/// With six places an amount, a cost and a need are below 2^40 millionths, and the total of all needs is below 2^44.
+/// With six places an amount, a cost and a need are below 2^40 millionths, and all needs together below 2^44: 16 needs of 2^40 - 1 leave room for
+/// 15 millionths.
 const FINE_LIMITS: &[u8] =
     b"read 6|NODES(A B)LINKS()DEMANDS(D(A B)1.000 1099511.627775 9 E(A B)1099511 0.000001 9)
 read 6|NODES(A B)LINKS(L(A B)1099511.627775 1099511.627775 1099511.627775 1099511.627775(1099511.627775 1099511.627775))DEMANDS()
@@ -135,7 +136,7 @@ read 6|NODES(A B)LINKS(L(A B)1099511.627775 1099511.627775 1099511.627775 109951
 520 number-large|NODES(A B)LINKS()DEMANDS([16  %(A B)1 1099511.627775 9] x(A B)1000 1099511.627775 9)
 ";
 
-/// The total of all needs is below 2^44 thousandths, and each need and its parts are below 2^40.
+/// All needs together are below 2^44 thousandths, and each need and its factors below 2^40: 16 needs of 2^40 - 1 leave room for 15 thousandths.
 const TOTALS: &[u8] =
     b"525 section|NODES(A B)LINKS()DEMANDS([16  %(A B)1 1099511627.775 9] x(A B)1 0.015 9)x
 517 limit-total|NODES(A B)LINKS()DEMANDS([16  %(A B)1 1099511627.775 9] x(A B)1 0.016 9)
@@ -158,7 +159,7 @@ read 1|NODES(A B)LINKS()DEMANDS([255 n](A B)1 1 9)
 read 1|NODES(A B)LINKS(L(A B)0 0 0 0())DEMANDS(D(A B)1 1 9)ADMISSIBLE_PATHS(D([255 n](L)))
 ";
 
-/// A section of a million opening parentheses ends at the file's length.
+/// A section of a million parentheses that are never closed. The file ends after 51 + 4 + 1,000,000 bytes.
 const NEVER_CLOSED: &[u8] = b"1000055 ended|META[1000000 (]
 ";
 
@@ -240,7 +241,8 @@ fn what_is_allowed_is_read(rt: HostRuntime) {
     );
 }
 
-/// Whether the file cut to this length is read exactly where its demands are whole and no path is begun, or all paths are whole.
+/// Whether the file, cut to this length, is read if its demands are complete and no paths have begun, or all paths are complete, and is refused
+/// else.
 fn is_read_where_whole(alloc: Global, file: &[u8], length: usize) -> bool {
     if length > file.len() {
         return false;
@@ -249,7 +251,7 @@ fn is_read_where_whole(alloc: Global, file: &[u8], length: usize) -> bool {
     read_network(alloc, &file[..length]).is_ok() == is_whole
 }
 
-/// The first length at which that is not so.
+/// The first length at which the cut file is read though it should be refused, or refused though it should be read.
 fn first_wrong_length(alloc: Global, file: &[u8]) -> Option<usize> {
     for length in 0..=file.len() {
         if !is_read_where_whole(alloc, file, length) {
@@ -334,7 +336,7 @@ fn are_demands_of_small(demands: &[Demand]) -> bool {
     }
 }
 
-/// Whether a network's notes are of pre-installed capacity, of routing and of setup costs.
+/// Whether a network notes costs of pre-installed capacity, of routing and of setup.
 fn are_notes(net: &Network, fixed: bool, routing: bool, setup: bool) -> bool {
     let notes = net.notes();
     notes.fixed_cost == fixed && notes.routing_cost == routing && notes.setup_cost == setup
@@ -347,7 +349,7 @@ fn is_small(net: &Network, demands: &[Demand]) -> bool {
         && are_notes(net, false, false, false)
 }
 
-/// Whether the small file is read as it is written.
+/// Whether the small file is read with the nodes, links and demands that are written in it.
 fn is_small_read(alloc: Global, file: &[u8]) -> bool {
     match read_network(alloc, file) {
         Ok((net, demands)) => is_small(&net, demands.items()),
@@ -360,7 +362,7 @@ fn a_file_of_users_is_read_whole(rt: HostRuntime) {
     assert!(rt; is_small_read(rt.alloc(), SMALL));
 }
 
-/// Costs of pre-installed capacity and of setup, and a demand of several units.
+/// Costs of pre-installed capacity and of setup, and a demand of 3.0 * 1.5 = 4.5.
 const COSTS: &[u8] =
     b"?SNDlib native format; type: network; version: 1.0\nNODES(A B)LINKS(L(A B)2.5 0.001 0 7(1 2 3 4)M(B A)0 0 0 0())DEMANDS(D(B A)3.0 1.5 UNLIMITED)";
 
@@ -395,7 +397,7 @@ fn has_costs(net: &Network, demands: &[Demand]) -> bool {
         && are_notes(net, true, false, true)
 }
 
-/// Whether the costs are noted, and the need is the product of unit and amount.
+/// Whether the costs are noted, and the need is the product of its unit and its amount.
 fn are_costs_read(alloc: Global, file: &[u8]) -> bool {
     match read_network(alloc, file) {
         Ok((net, demands)) => has_costs(&net, demands.items()),
@@ -408,7 +410,7 @@ fn costs_are_noted_and_units_multiplied(rt: HostRuntime) {
     assert!(rt; are_costs_read(rt.alloc(), COSTS));
 }
 
-/// Costs of pre-installed capacity and of setup, and a demand with an amount of four decimals: all units are millionths.
+/// Costs of pre-installed capacity and of setup, and a demand of 3.0 * 1.5001 = 4.5003, whose four decimals make all amounts millionths.
 const FINE_COSTS: &[u8] =
     b"?SNDlib native format; type: network; version: 1.0\nNODES(A B)LINKS(L(A B)2.5 0.001 0 7(1 2 3 4)M(B A)0 0 0 0())DEMANDS(D(B A)3.0 1.5001 UNLIMITED)";
 

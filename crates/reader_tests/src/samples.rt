@@ -12,7 +12,8 @@ type DemandRow = (u32, u32, u64);
 /// A seed and a number of nodes; how many nodes, links and demands there are; the last link; the last demand.
 type Row = (u64, u32, (usize, usize, usize), LinkRow, DemandRow);
 
-/// The fewest nodes and the most, an odd number, and the greatest seed, as `bench/sample/sample.py` works them out.
+/// The fewest nodes, the most, an odd number of them, and the greatest seed, worked out by `bench/sample/sample.py`. With `n` nodes there are
+/// `n` links of the ring, a chord from each second node, and `n (n - 1) / 2` demands: 8 + 4 = 12 and 8 * 7 / 2 = 28.
 const ROWS: [Row; 5] = [
     (1, 4, (4, 6, 6), (2, 0, 32000, 50000), (2, 3, 6000)),
     (
@@ -27,7 +28,7 @@ const ROWS: [Row; 5] = [
     (3, 40, (40, 60, 780), (38, 3, 60000, 63000), (38, 39, 2000)),
 ];
 
-/// The sample of a seed with `n` nodes, where there is one.
+/// The sample of `n` nodes from a seed; `None` if there is none of this size.
 fn sample_of(alloc: Global, seed: u64, n: u32) -> Option<(Network, Demands)> {
     if n < 4 || n > 40 {
         return None;
@@ -80,7 +81,7 @@ fn samples_end_as_worked_out_apart(rt: HostRuntime) {
     }
 }
 
-/// The chords of the sample of eight nodes drawn from 7, each with its place among the links.
+/// The chords of the sample of eight nodes from seed 7, each with its place among the links.
 const CHORDS: [(usize, LinkRow); 4] = [
     (8, (0, 5, 76000, 243000)),
     (9, (2, 5, 74000, 148000)),
@@ -88,7 +89,7 @@ const CHORDS: [(usize, LinkRow); 4] = [
     (11, (6, 3, 60000, 195000)),
 ];
 
-/// Some of its demands by their places, and their needs.
+/// The places of some demands of that sample, and their needs.
 const NEEDS: [(usize, u64); 5] = [(0, 14000), (1, 33000), (6, 14000), (7, 20000), (24, 38000)];
 
 fn has_chord(links: &[Link], place: usize, row: LinkRow) -> bool {
@@ -105,7 +106,7 @@ fn has_need(demands: &[Demand], place: usize, need: u64) -> bool {
     }
 }
 
-/// Whether the last of the nodes, the last chord but one and the last demand have the names that their places give.
+/// Whether the last node, the last link but one and the last demand are named by their places.
 fn has_names(nodes: &[Name], links: &[Link], demands: &[Demand]) -> bool {
     match (nodes, links, demands) {
         ([.., node], [.., link, _], [.., demand]) => {
@@ -133,7 +134,7 @@ fn has_needs(demands: &[Demand]) -> bool {
     true
 }
 
-/// Whether the sample of eight nodes drawn from 7 has these chords, needs and names.
+/// Whether the sample of eight nodes from seed 7 has these chords, needs and names.
 fn is_sample_of_seven(alloc: Global) -> Option<bool> {
     let (net, demands) = sample(alloc, 7, 8).ok()?;
     let (links, demands) = (net.links().items(), demands.items());

@@ -5,7 +5,7 @@ use std::alloc::Global;
 
 const HEADER: &[u8] = b"?planner script; version: 1\n";
 
-/// A file of another kind, with its first line.
+/// A file with the header of another format.
 const OTHER_HEADER: &[u8] = b"0 header|?planner failures; version: 1~
 ";
 
@@ -36,7 +36,7 @@ const FAULTS: &[u8] = b"28 token|(
 51 ended|caller 3 plan~caller 3~
 ";
 
-/// At most 1,000 commands, and 64 of them for a plan.
+/// There are at most 1,000 commands, and at most 64 of them ask for a plan.
 const COUNTS: &[u8] = b"read 0|
 read 1000|[1000 caller 1 drop a~]
 16028 limit-commands|[1000 caller 1 drop a~]caller 1 drop a
@@ -61,7 +61,7 @@ const GREATEST_AMOUNTS: &[u8] = b"read 1|caller 1 set D1 1099511627.775
 read 1|caller 8 add D4 ( A C ) 1099511627.775
 ";
 
-/// Needs of a network with six places. Their limit is the same number of units.
+/// Needs of a network with six places. As with three places they are below 2^40 units, which are millionths here.
 const FINE_AMOUNTS: &[u8] = b"read 1|caller 1 set D1 0.000001
 read 1|caller 1 set D1 0.0000010
 44 number-fine|caller 1 set D1 0.0000001
@@ -161,13 +161,13 @@ fn has_each_command(commands: &[Command]) -> bool {
     }
 }
 
-/// Whether each command is read as it is written, and a copy has it too.
+/// Whether each command is read as it is written, and copied with its script.
 fn is_each_command_read(alloc: Global) -> Option<bool> {
     let script = read_script(alloc, Places::Three, EACH_COMMAND).ok()?;
     Some(has_each_command(script.copy().ok()?.commands.items()))
 }
 
-/// Needs to the sixth place.
+/// Needs with up to six decimals.
 const FINE_NEEDS: &[u8] =
     b"?planner script; version: 1\ncaller 1 set D1 12.345678\ncaller 2 add D4 ( A C ) 2.5";
 
@@ -181,7 +181,7 @@ fn has_fine_needs(commands: &[Command]) -> bool {
     }
 }
 
-/// Whether needs to the sixth place are read with six places, and are too fine with three.
+/// Whether needs with six decimals are read for a network with six places, and refused for one with three.
 fn are_needs_of_these_places(alloc: Global) -> Option<bool> {
     let script = read_script(alloc, Places::Six, FINE_NEEDS).ok()?;
     let refused = read_script(alloc, Places::Three, FINE_NEEDS).is_err();
