@@ -5,7 +5,7 @@ use net_core::{
 use std::alloc::Global;
 use worked_networks::{PARALLEL, network};
 
-/// Whether a copy of lists in a list is equal to it.
+/// Whether the copy of a list of lists is equal to it.
 fn is_list_copied(alloc: Global) -> Option<bool> {
     let mut outer = List::new(alloc);
     outer.push(List::from_slice(alloc, &[7]).ok()?).ok()?;
@@ -30,7 +30,7 @@ fn faults_of_names_are_told(rt: HostRuntime) {
     assert!(rt; Name::new(rt.alloc(), b"").err() == Some(NameFault::Empty));
 }
 
-/// A link by its name, its ends and the capacity of its one module, for 5.00.
+/// A link: its name, its ends, and the capacity of its only module, which costs 5.00.
 type LinkRow = (&'static [u8], u32, u32, u64);
 
 fn link(alloc: Global, row: &LinkRow) -> Option<Link> {
@@ -61,7 +61,7 @@ fn nodes(alloc: Global) -> Option<List<Name>> {
     Some(nodes)
 }
 
-/// The link AB and a second one.
+/// The link AB with a capacity of 10.00, and a second link.
 fn links(alloc: Global, second: &LinkRow) -> Option<List<Link>> {
     let mut links = List::new(alloc);
     links.push(link(alloc, &(b"AB", 0, 1, 10000))?).ok()?;
@@ -69,7 +69,7 @@ fn links(alloc: Global, second: &LinkRow) -> Option<List<Link>> {
     Some(links)
 }
 
-/// What the check says of A, B and C with the link AB and a second one.
+/// What the check answers for the nodes A, B and C with the link AB and a second one.
 fn check_with(alloc: Global, second: &LinkRow) -> Option<Result<Network, NetFault>> {
     let notes = Notes {
         fixed_cost: false,
@@ -79,7 +79,7 @@ fn check_with(alloc: Global, second: &LinkRow) -> Option<Result<Network, NetFaul
     Some(Network::check(nodes(alloc)?, links(alloc, second)?, notes, Places::Three))
 }
 
-/// Whether the check finds this fault, or none.
+/// Whether the check finds this fault, or none if none is expected.
 fn finds(alloc: Global, second: &LinkRow, fault: Option<NetFault>) -> bool {
     match check_with(alloc, second) {
         Some(answer) => answer.err() == fault,
@@ -87,7 +87,7 @@ fn finds(alloc: Global, second: &LinkRow, fault: Option<NetFault>) -> bool {
     }
 }
 
-/// Second links, and what the check says of them.
+/// Second links, and the first fault of each: the link that has it is at place 1.
 const SECOND_LINKS: [(LinkRow, Option<NetFault>); 6] = [
     ((b"BC", 1, 2, 10000), None),
     ((b"AB", 1, 9, 0), Some(NetFault::DoubleLink(1))),
@@ -111,7 +111,7 @@ fn state(alloc: Global, e: u32) -> Option<Listed> {
     })
 }
 
-/// One state of a link, listed twice.
+/// The failure of a link, listed twice under one name.
 fn listed_twice(alloc: Global, e: u32) -> Option<List<Listed>> {
     let mut listed = List::new(alloc);
     listed.push(state(alloc, e)?).ok()?;
@@ -119,7 +119,7 @@ fn listed_twice(alloc: Global, e: u32) -> Option<List<Listed>> {
     Some(listed)
 }
 
-/// Why one state of a link, listed twice, is refused in a network of two links.
+/// Why a network of two links refuses the failure of a link that is listed twice.
 fn fault_of_states(alloc: Global, e: u32) -> Option<StatesFault> {
     let net = network(alloc, 2, &PARALLEL[..2]).ok()?;
     States::new(&net, listed_twice(alloc, e)?).err()
@@ -131,7 +131,7 @@ fn faults_of_states_are_told(rt: HostRuntime) {
     assert!(rt; fault_of_states(rt.alloc(), 2) == Some(StatesFault::UnknownLink(0)));
 }
 
-/// Whether an empty list gives the state without failures alone.
+/// Whether an empty list gives only the state without failures.
 fn has_none_alone(alloc: Global) -> Option<bool> {
     let net = network(alloc, 2, &PARALLEL[..2]).ok()?;
     let states = States::new(&net, List::new(alloc)).ok()?;

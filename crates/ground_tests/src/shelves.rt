@@ -6,7 +6,7 @@ use std::io::{ErrorKind, Read};
 use std::rt::Files;
 use std::{fs, io};
 
-/// A file by its name and its bytes.
+/// A file: its name and its bytes.
 type FileRow = (&'static [u8], &'static [u8]);
 
 fn file(alloc: Global, row: &FileRow) -> Option<MemFile> {
@@ -24,7 +24,7 @@ fn files(alloc: Global, rows: &[FileRow]) -> Option<List<MemFile>> {
     Some(files)
 }
 
-/// A shelf of files with different names, whose fetches 4 and 9 fail, counted from 0.
+/// A shelf of files whose fetches 4 and 9, counted from 0, fail; `None` if two files have one name.
 fn shelf(alloc: Global, rows: &[FileRow]) -> Option<MemShelf> {
     let files = files(alloc, rows)?;
     let failing = List::from_slice(alloc, &[4, 9]).ok()?;
@@ -35,7 +35,7 @@ fn shelf(alloc: Global, rows: &[FileRow]) -> Option<MemShelf> {
     }
 }
 
-/// A fetch: its name and limit, its answer, what the buffer holds then, and the faults counted so far.
+/// A fetch: the name and the limit that are asked for, the answer, what the buffer holds afterwards, and how many faults were counted so far.
 type FetchRow<'b> = (&'static str, u64, Fetch, &'b [u8], u64);
 
 fn is_fetch<S: Shelf>(shelf: &mut S, into: &mut Bytes, row: &FetchRow) -> bool {
@@ -43,7 +43,7 @@ fn is_fetch<S: Shelf>(shelf: &mut S, into: &mut Bytes, row: &FetchRow) -> bool {
     shelf.fetch(name, limit, into) == answer && into.items() == bytes && shelf.faults() == faults
 }
 
-/// The number of the first fetch that comes out otherwise.
+/// The number of the first fetch whose answer isn't the expected one.
 fn first_difference<S: Shelf>(alloc: Global, shelf: &mut S, rows: &[FetchRow]) -> Option<usize> {
     let mut into = List::new(alloc);
     for i in 0..rows.len() {
@@ -85,7 +85,7 @@ fn a_shelf_in_memory_answers_by_name_length_and_number(rt: HostRuntime) {
     assert!(rt; is_shelf_in_memory(rt.alloc()) == Some(true));
 }
 
-/// The number of the first fetch that comes out otherwise, where the file of these 10,000 bytes is there, and nothing else.
+/// The number of the first fetch whose answer isn't the expected one, with a file of these 10,000 bytes and no other.
 fn first_difference_of_files<F: Files>(alloc: Global, files: &F, bytes: &[u8]) -> Option<usize> {
     let rows: [FetchRow; 4] = [
         ("outside_io_in", 10_000, Fetch::Found, bytes, 0),
@@ -109,7 +109,7 @@ fn a_shelf_of_files_answers_by_name_and_length(rt: HostRuntime) {
     assert!(rt; fs::remove_file(&rt, "outside_io_in").is_ok());
 }
 
-/// Is interrupted once, then gives at most three bytes a read, and at its end fails or ends.
+/// A reader that is interrupted once, then gives at most three bytes a read, and fails or ends after its last byte.
 #[derive(Drop)]
 struct SlowReader<'b> {
     bytes: &'b [u8],
@@ -151,7 +151,8 @@ fn slow_reader(fails: bool) -> SlowReader<'static> {
     }
 }
 
-/// A limit, whether the reader fails at its end, the answer, and the last byte that is asked for.
+/// A limit, whether the reader of ten bytes fails at its end, the answer, and how many bytes are asked for: one more than the limit, which shows
+/// that a file is too long.
 type ReadRow = (u64, bool, Fetch, usize);
 
 const READS: [ReadRow; 5] = [
@@ -178,7 +179,7 @@ fn a_file_is_read_to_its_limit_and_a_byte(rt: HostRuntime) {
     }
 }
 
-/// Gives nothing, and fails with an error of one kind.
+/// A reader that gives nothing and fails with an error of this kind.
 #[derive(Drop)]
 struct FailingReader {
     kind: ErrorKind,
@@ -190,7 +191,7 @@ impl Read for FailingReader {
     }
 }
 
-/// A kind of error, and what is said of a file that fails with it.
+/// A kind of error, and the fault of a file whose reading fails with it.
 type CauseRow = (ErrorKind, ReadFault);
 
 const CAUSES: [CauseRow; 3] = [

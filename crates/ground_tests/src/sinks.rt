@@ -5,10 +5,10 @@ use std::io::{ErrorKind, Write};
 use std::rt::Files;
 use std::{fs, io};
 
-/// A put: its piece, whether it is taken whole, and the faults counted so far.
+/// A put: the piece, whether all of it is taken, and how many faults were counted so far.
 type PutRow = (&'static [u8], bool, u64);
 
-/// The number of the first put that comes out otherwise.
+/// The number of the first put whose answer isn't the expected one.
 fn first_difference<K: Sink>(out: &mut K, rows: &[PutRow]) -> Option<usize> {
     for i in 0..rows.len() {
         let (piece, is_whole, faults) = rows[i];
@@ -28,7 +28,7 @@ const PUTS: [PutRow; 6] = [
     (b"", true, 3),
 ];
 
-/// Whether a sink in memory with a room of 10 bytes, whose puts 1 and 2 fail, takes what it should.
+/// Whether a sink in memory takes what it should: it has room for 10 bytes, and its puts 1 and 2, counted from 0, fail.
 fn is_sink_in_memory(alloc: Global) -> Option<bool> {
     let failing = List::from_slice(alloc, &[1, 2]).ok()?;
     let mut out = MemSink::new(alloc, 10, failing).ok()?;
@@ -69,7 +69,7 @@ fn a_sink_over_standard_output_writes_to_it(rt: HostRuntime) {
     assert_eq!(rt; first_difference(&mut out, &PRINTED), None);
 }
 
-/// Is interrupted once, then takes at most three bytes a write, until its room is full.
+/// A writer that is interrupted once, then takes at most three bytes a write, until its room is full.
 #[derive(Drop)]
 struct NarrowWriter {
     taken: Vec<u8>,
@@ -115,7 +115,7 @@ fn narrow_writer(alloc: Global, flush_fails: bool) -> NarrowWriter {
     }
 }
 
-/// Whether a sink fills the room of a stream and counts what it doesn't take.
+/// Whether a sink writes on until a stream's eight bytes of room are full, and then counts a fault.
 fn is_room_filled(alloc: Global) -> bool {
     let mut narrow = narrow_writer(alloc, false);
     let difference = first_difference(&mut StreamSink::new(&mut narrow), &OVERFLOWING);
@@ -134,7 +134,7 @@ fn a_sink_over_a_stream_writes_on_and_counts_faults(rt: HostRuntime) {
     assert!(rt; is_flush_counted(rt.alloc()));
 }
 
-/// Takes nothing, and fails with an error of one kind.
+/// A writer that takes nothing and fails with an error of this kind.
 #[derive(Drop)]
 struct FailingWriter {
     kind: ErrorKind,
@@ -150,7 +150,7 @@ impl Write for FailingWriter {
     }
 }
 
-/// A kind of error, and what a sink says of it.
+/// A kind of error, and what a sink answers if a write fails with it.
 type CauseRow = (ErrorKind, Failed);
 
 const CAUSES: [CauseRow; 4] = [

@@ -5,12 +5,12 @@ use worked_networks::{
     triangle,
 };
 
-/// Whether a problem has these numbers of nodes and links, and each link fails alone.
+/// Whether a problem has these numbers of nodes and links, and a listed state for each link.
 fn has_size(p: &Problem, nodes: usize, links: usize) -> bool {
     p.net.nodes().len() == nodes && p.net.links().len() == links && p.states.listed().len() == links
 }
 
-/// Whether a table of links gives a problem with single failures.
+/// Whether a table of links gives a problem in which each link fails alone.
 fn gives_problem(alloc: Global, nodes: usize, links: &[LinkRow]) -> bool {
     let Ok(net) = network(alloc, nodes, links) else {
         return false;
@@ -30,7 +30,7 @@ fn tables_give_networks_with_single_failures(rt: HostRuntime) {
     assert!(rt; gives_problem(alloc, 4, &RING));
 }
 
-/// How many states a table of states of the triangle gives, with the one without failures.
+/// How many states of the triangle a table gives, counting the one without failures.
 fn count_of_states(alloc: Global, rows: &[&[u32]]) -> Option<u32> {
     let net = triangle(alloc, 0).ok()?;
     Some(failing(alloc, &net, rows).ok()?.count())

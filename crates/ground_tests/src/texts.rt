@@ -5,7 +5,7 @@ use text_kit::Refusal;
 use text_kit::steps::{close, closes, end, ends, expect, open, over};
 use text_kit::write::{put_close, put_money, put_open, put_whole, put_word};
 
-/// The kinds of faults of these tests.
+/// Kinds of faults for these tests.
 #[derive(Clone, Copy, Debug, PartialEq, Eq)]
 enum Kind {
     Other,
@@ -25,7 +25,7 @@ fn put_line(text: &mut Bytes) -> Result<(), NoMemory> {
     put_whole(text, 0)
 }
 
-/// Whether a line of each kind of item is written as by hand.
+/// Whether a line with items of each kind is written as it should be.
 fn is_line_written(alloc: Global) -> bool {
     let mut text = Bytes::new(alloc);
     put_line(&mut text).is_ok()
@@ -51,7 +51,7 @@ fn key_and_list(bytes: &[u8]) -> Result<(), Refusal<Kind>> {
     end(Kind::Other, &mut text)
 }
 
-/// Whether the text has this first fault, or none.
+/// Whether the text has this first fault, or none if none is expected.
 fn has_fault(bytes: &[u8], fault: Option<(u64, Kind)>) -> bool {
     match (key_and_list(bytes), fault) {
         (Ok(()), None) => true,

@@ -167,7 +167,8 @@ fn whole_numbers_are_read(rt: HostRuntime) {
 
 const TEXT: &[u8] = b"a(b #c\n)d#e\r\t#";
 
-/// Places in the text, and the kind, place and length of the first token from there on.
+/// Places in the text, and the kind, place and length of the first token from there on. A `#` begins a comment, but not inside a
+/// word.
 const TOKENS: [(u64, Option<(TokenKind, u64, u64)>); 8] = [
     (0, Some((TokenKind::Word, 0, 1))),
     (1, Some((TokenKind::Open, 1, 1))),
@@ -189,7 +190,7 @@ fn is_token(token: Option<Token>, expected: Option<(TokenKind, u64, u64)>) -> bo
     }
 }
 
-/// Whether this token, or none, is the first one from a place on.
+/// Whether this token is the first one from a place on, or there is no token if none is expected.
 fn is_first_token(from: u64, expected: Option<(TokenKind, u64, u64)>) -> bool {
     from <= TEXT.len() as u64 && is_token(next_token(TEXT, from), expected)
 }
@@ -201,7 +202,7 @@ fn tokens_are_found_from_any_place(rt: HostRuntime) {
     }
 }
 
-/// Texts, and where the second line begins, if the first one is the header.
+/// Texts, and the place where the second line begins; `None` if the first line isn't the header.
 const HEADERS: [(&[u8], Option<u64>); 7] = [
     (b"?planner script; version: 1", Some(27)),
     (b"?planner script; version: 1\n", Some(28)),
