@@ -6,7 +6,8 @@ use std::alloc::Global;
 /// How many stages the chain has.
 pub const STAGES: u32 = 60;
 
-/// The demands of the chain: the places of their ends among the nodes, and their needs in thousandths. Each two of them fill their stages.
+/// The demands of the chain: the places of their ends among the nodes, and their needs in thousandths. Each pair of them fills twenty stages:
+/// 0.303 + 0.202 = 0.505.
 pub const CHAIN_DEMANDS: [(u32, u32, u64); 6] = [
     (0, 20, 303),
     (0, 20, 202),
@@ -22,7 +23,7 @@ const MODULE: [Module; 1] = [Module {
     cost: 6000,
 }];
 
-/// A name of three digits. It takes memory for them.
+/// A number as a name of three digits, such as `007`; `None` if memory runs out. It takes constant time, and memory for the digits.
 pub fn numbered(alloc: Global, k: u32) -> Option<Name>
     requires { k < 1000 }
 {
@@ -34,7 +35,7 @@ pub fn numbered(alloc: Global, k: u32) -> Option<Name>
     Name::new(alloc, &digits).ok()
 }
 
-/// Nodes with names of three digits. It takes memory for each.
+/// The names `000`, `001` and so on of this many nodes; `None` if memory runs out. It takes time and memory in their number.
 pub fn numbered_nodes(alloc: Global, count: u32) -> Option<List<Name>>
     requires { count ≤ 1000 }
 {
@@ -67,7 +68,8 @@ fn chain_link(alloc: Global, k: u32) -> Option<Link>
     })
 }
 
-/// The links of the chain, two from each node to the next, with their shares as pre-installed capacity. It takes memory for each.
+/// The 120 links of the chain, two from each node to the next, each with its part of 0.505 as pre-installed capacity; `None` if memory runs out.
+/// It takes time and memory in their number.
 pub fn chain_links(alloc: Global) -> Option<List<Link>> {
     let mut links = List::new(alloc);
     for k in 0..2 * STAGES {
