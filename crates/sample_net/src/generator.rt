@@ -60,8 +60,8 @@ fn demands(alloc: Global, n: u32, draws: &mut Draws) -> Result<Demands, NoMemory
 }
 
 /// The sample network of a seed with `n` nodes, and its demands: a ring with a chord from each even node, two kinds of modules on
-/// each link, and a demand between any two nodes. It has three places: all numbers are in thousandths. One seed always gives one
-/// network. Memory and time grow with the number of pairs of nodes, since every demand is made once.
+/// each link, and a demand between any two nodes. It has three places: all numbers are in thousandths. A seed and a size always give
+/// the same network. It takes time and memory in the number of pairs of nodes.
 ///
 /// ```text
 /// let (net, demands) = sample(alloc, 7, 8)?;     // 8 nodes, 12 links and 28 demands

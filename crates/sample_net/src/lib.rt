@@ -1,5 +1,5 @@
-//! Sample networks of any size from 4 to 40 nodes, drawn from a seed, to try and to compare planning methods on; and the text of a
-//! network as a file.
+//! Sample networks of 4 to 40 nodes, drawn from a seed, on which planning methods can be tried and compared, and the text of a network
+//! as a file.
 #![tactic(auto)]
 
 mod demands;

@@ -124,8 +124,8 @@ fn has_setup_cost(links: &[Link]) -> bool
     links.iter().any(|l| l.setup != 0)
 }
 
-/// Whether a text can give the network's notes: none of the cost of pre-installed capacity or of routing, since a network doesn't keep
-/// these costs, and that of setup cost exactly where a link has one. It takes time in the number of links, and no memory.
+/// Whether a text can give the network's notes: no cost of pre-installed capacity or of routing is noted, since a network doesn't keep
+/// these costs, and a setup cost is noted exactly if a link has one. It takes time in the number of links, and no memory.
 pub fn has_writable_notes(net: &Network) -> bool
     ensures { IsTrue result ↔ HasWritableNotes net.now }
 {
