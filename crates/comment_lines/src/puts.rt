@@ -5,8 +5,8 @@ ghost use Rattle.comment_lines.specs.Comments.{AddsSpaced, IsOneLine};
 use net_core::{Bytes, NoMemory};
 use text_kit::write::put_decimal;
 
-/// Puts a word last, after a space. Each function of this module takes time in what it puts, and asks for memory only where the text has
-/// no room left; where memory runs out, the text may end in part of what was to be put.
+/// Appends a word after a space. Each function of this module takes time in the bytes that it appends, and asks for memory only if the text
+/// has no room left; if memory runs out, the text may end with a part of them.
 pub fn put_word(text: &mut Bytes, word: &[u8]) -> Result<(), NoMemory>
     requires { IsOneLine word.now }
     ensures { OnOk result (AddsSpaced text.old (Verbatim word.now ∷ []) text.new) }
@@ -15,7 +15,7 @@ pub fn put_word(text: &mut Bytes, word: &[u8]) -> Result<(), NoMemory>
     text.append(word)
 }
 
-/// Puts a whole number last, after a space.
+/// Appends a whole number after a space.
 pub fn put_whole(text: &mut Bytes, n: u128) -> Result<(), NoMemory>
     ensures { OnOk result (AddsSpaced text.old (Whole n ∷ []) text.new) }
 {
@@ -23,21 +23,21 @@ pub fn put_whole(text: &mut Bytes, n: u128) -> Result<(), NoMemory>
     put_decimal(text, n)
 }
 
-/// Puts an opening parenthesis last, after a space.
+/// Appends an opening parenthesis after a space.
 pub fn put_open(text: &mut Bytes) -> Result<(), NoMemory>
     ensures { OnOk result (AddsSpaced text.old (Opening ∷ []) text.new) }
 {
     text.append(b" (")
 }
 
-/// Puts a closing parenthesis last, after a space.
+/// Appends a closing parenthesis after a space.
 pub fn put_close(text: &mut Bytes) -> Result<(), NoMemory>
     ensures { OnOk result (AddsSpaced text.old (Closing ∷ []) text.new) }
 {
     text.append(b" )")
 }
 
-/// Puts a word and a whole number last.
+/// Appends a word and a whole number, each after a space.
 pub fn put_field(text: &mut Bytes, word: &[u8], n: u128) -> Result<(), NoMemory>
     requires { IsOneLine word.now }
     ensures { OnOk result (AddsSpaced text.old (Verbatim word.now ∷ Whole n ∷ []) text.new) }
@@ -46,7 +46,7 @@ pub fn put_field(text: &mut Bytes, word: &[u8], n: u128) -> Result<(), NoMemory>
     put_whole(text, n)
 }
 
-/// Puts whole numbers last, one after another.
+/// Appends whole numbers, each after a space.
 pub fn put_lengths(text: &mut Bytes, lengths: &[u32]) -> Result<(), NoMemory>
     ensures { OnOk result (AddsSpaced text.old (flat_map (λ n. Whole n ∷ []) lengths.now) text.new) }
 {
@@ -56,7 +56,7 @@ pub fn put_lengths(text: &mut Bytes, lengths: &[u32]) -> Result<(), NoMemory>
     Ok(())
 }
 
-/// Puts whole numbers last, between parentheses.
+/// Appends whole numbers between parentheses, each after a space.
 pub fn put_numbers(text: &mut Bytes, nums: &[u128]) -> Result<(), NoMemory>
     ensures { OnOk result (AddsSpaced text.old (enclosed (flat_map (λ n. Whole n ∷ []) nums.now)) text.new) }
 {
