@@ -8,7 +8,7 @@ use crate::names::{put_demand, put_link, put_path};
 use comment_lines::puts::{put_close, put_field, put_numbers, put_open, put_whole, put_word};
 use net_core::{Bytes, Caps, Demand, Evidence, Link, NoMemory, RouteColumn, WideKind};
 
-/// Puts a column of a program that routes last.
+/// Appends a column of a routing program.
 fn put_column(
     text: &mut Bytes,
     links: &[Link],
@@ -27,7 +27,7 @@ fn put_column(
     }
 }
 
-/// Puts a basis of a program that routes last, between parentheses.
+/// Appends a basis of a routing program between parentheses.
 fn put_basis(
     text: &mut Bytes,
     links: &[Link],
@@ -43,7 +43,7 @@ fn put_basis(
     put_close(text)
 }
 
-/// Puts last what of a program that routes is too wide.
+/// Appends what is too wide in a routing program.
 fn put_kind(
     text: &mut Bytes,
     links: &[Link],
@@ -69,7 +69,7 @@ fn put_kind(
     }
 }
 
-/// Puts capacities last: their scale, and a number for each link.
+/// Appends capacities: their scale, and a number for each link.
 fn put_caps(text: &mut Bytes, caps: &Caps) -> Result<(), NoMemory>
     ensures { OnOk result (AddsSpaced text.old (Whole caps.now.scale ∷ numbers_items caps.now.nums) text.new) }
 {
@@ -77,8 +77,8 @@ fn put_caps(text: &mut Bytes, caps: &Caps) -> Result<(), NoMemory>
     put_numbers(text, caps.nums.items())
 }
 
-/// Puts evidence of a program that routes last, in the words of a report, each after one space. It takes time in what it puts, and asks for
-/// memory only where the text has no room left; where memory runs out, the text may end in part of the evidence.
+/// Appends evidence of a routing program in the words of a report, each after one space. It takes time in the bytes that it appends, and asks
+/// for memory only if the text has no room left; if memory runs out, the text may end with a part of the evidence.
 pub fn put_evidence(
     text: &mut Bytes,
     links: &[Link],

@@ -1,4 +1,4 @@
-//! What comments below a report say in the report's own words, and that they change nothing of it.
+//! Names and evidence for comments below a report, in the report's own words, and that such comments don't change the report.
 #![tactic(auto)]
 
 mod evidence;

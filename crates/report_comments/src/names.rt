@@ -6,7 +6,7 @@ ghost use Rattle.comment_lines.specs.Comments.{AddsSpaced, IsOneLine};
 use comment_lines::puts::{put_close, put_open, put_word};
 use net_core::{Bytes, Demand, Link, LinkId, NoMemory};
 
-/// The name of a link; nothing where there is no such link.
+/// The name of a link; empty if there is no such link.
 #[tactic(auto, using(crate::proofs::NoNames::no_link, crate::proofs::NoNames::one_line))]
 fn link_name(links: &[Link], link: LinkId) -> &[u8]
     ensures name { result.now ≡ link_name links.now link }
@@ -20,7 +20,7 @@ fn link_name(links: &[Link], link: LinkId) -> &[u8]
     }
 }
 
-/// The name of a demand; nothing where there is no such demand.
+/// The name of a demand; empty if there is no such demand.
 #[tactic(auto, using(crate::proofs::NoNames::no_demand, crate::proofs::NoNames::one_line))]
 fn demand_name(demands: &[Demand], demand: u32) -> &[u8]
     ensures name { result.now ≡ demand_name demands.now demand }
@@ -34,15 +34,15 @@ fn demand_name(demands: &[Demand], demand: u32) -> &[u8]
     }
 }
 
-/// Puts a link's name last, after a space, in the time and memory of `put_link`.
+/// Appends a link's name after a space, in the time and memory of `put_link`.
 pub fn put_link_name(text: &mut Bytes, links: &[Link], link: LinkId) -> Result<(), NoMemory>
     ensures { OnOk result (AddsSpaced text.old (Verbatim (link_name links.now link) ∷ []) text.new) }
 {
     put_word(text, link_name(links, link))
 }
 
-/// Puts a word and the name of a link last, each after a space. It takes time in their lengths, and asks for memory only where the text has no
-/// room left; where memory runs out, the text may end in part of them.
+/// Appends a word and the name of a link, each after a space; the name is empty if there is no such link. It takes time in their lengths, and
+/// asks for memory only if the text has no room left; if memory runs out, the text may end with a part of them.
 pub fn put_link(text: &mut Bytes, word: &[u8], links: &[Link], link: LinkId) -> Result<(), NoMemory>
     requires { IsOneLine word.now }
     ensures { OnOk result (AddsSpaced text.old (Verbatim word.now ∷ Verbatim (link_name links.now link) ∷ []) text.new) }
@@ -51,7 +51,7 @@ pub fn put_link(text: &mut Bytes, word: &[u8], links: &[Link], link: LinkId) -> 
     put_link_name(text, links, link)
 }
 
-/// Puts a word and the name of a demand last, as `put_link` does with a link's.
+/// Appends a word and the name of a demand, as `put_link` does for a link.
 pub fn put_demand(
     text: &mut Bytes,
     word: &[u8],
@@ -65,7 +65,7 @@ pub fn put_demand(
     put_word(text, demand_name(demands, demand))
 }
 
-/// Puts the links of a path last, between parentheses.
+/// Appends the names of a path's links between parentheses.
 pub fn put_path(text: &mut Bytes, links: &[Link], path: &[LinkId]) -> Result<(), NoMemory>
     ensures { OnOk result (AddsSpaced text.old (path_items links.now path.now) text.new) }
 {
