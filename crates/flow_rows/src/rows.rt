@@ -4,20 +4,20 @@ ghost use Rattle.flow_rows.specs.FlowRows.{end_beyond, flow_row, nodes_along, ro
 use net_core::{Copied, Demand, Flow, Link, LinkId, List, NoMemory, NodeId, Path, Routing};
 use std::alloc::Global;
 
-/// What people read of a flow. Its amount is in units of the network.
+/// A flow for people to read.
 #[derive(Drop)]
 pub struct FlowRow {
-    /// The demand that it is part of, by its place.
+    /// The place of the demand that it is part of.
     pub demand: u32,
-    /// What it carries, rounded up.
+    /// How much it carries, in units of the network, rounded up.
     pub amount: u128,
     /// The links of its path, from the demand's first end to the other.
     pub path: Path,
-    /// The nodes of its path, both ends among them.
+    /// The nodes of its path, with both ends.
     pub nodes: List<NodeId>,
 }
 
-/// The end of a link that isn't this one; where there is no such link, the node itself.
+/// The other end of a link; the node itself if there is no such link.
 fn end_beyond(links: &[Link], node: NodeId, link: LinkId) -> NodeId
     ensures { result ≡ end_beyond links.now node link }
 {
@@ -52,7 +52,7 @@ fn nodes_along(
     Ok(nodes)
 }
 
-/// The first end of the demand at a place; the first node where there is none.
+/// The first end of the demand at a place; the first node if there is no such demand.
 fn start_of(demands: &[Demand], k: u32) -> NodeId
     ensures { result ≡ start_of demands.now k }
 {
@@ -91,10 +91,10 @@ fn flow_row(
     })
 }
 
-/// A row for each flow of a routing, in order. It takes time and memory in the links of their paths.
+/// A row for each flow of a routing, in their order. It takes time and memory in the links of their paths.
 ///
 /// ```text
-/// // the triangle where AC fails: an amount of 12000 from A over B to C, along AB and BC
+/// // the triangle in the state that fails AC: an amount of 12000 from A over B to C, along AB and BC
 /// let rows = flow_rows(alloc, links, demands, &plan.routings.items()[3])?;
 /// ```
 pub fn flow_rows(
