@@ -18,7 +18,7 @@ fn fields_of_row(alloc: Global, row: &[Bytes]) -> Result<ByteRecord, NoMemory>
     Ok(fields)
 }
 
-/// The line of a row. A write into memory fails only where there is none left.
+/// The line of a row. A write into memory fails only if there is none left.
 fn row_bytes(alloc: Global, row: &[Bytes]) -> Result<Bytes, NoMemory>
     ensures { IfOk result (λ line. line ≡ row_text default_writer row.now) }
 {
@@ -33,7 +33,7 @@ fn row_bytes(alloc: Global, row: &[Bytes]) -> Result<Bytes, NoMemory>
     }
 }
 
-/// Puts the line of a row last.
+/// Appends the line of a row.
 fn put_row(text: &mut Bytes, alloc: Global, row: &[Bytes]) -> Result<(), NoMemory>
     ensures { OnOk result (text.new ≡ text.old ++ row_text default_writer row.now) }
 {
@@ -42,12 +42,12 @@ fn put_row(text: &mut Bytes, alloc: Global, row: &[Bytes]) -> Result<(), NoMemor
     Ok(())
 }
 
-/// Puts a line for each row last: its fields with commas between them, where a field with a comma, a quote or a line break is between
-/// quotes, and a quote in it is written twice. Where memory runs out, the text may end in part of the lines. It takes time in the fields
-/// and a buffer of 8 KB, and memory for the lines.
+/// Appends a line for each row: its fields with commas between them. A field with a comma, a quote or a line break is written between quotes,
+/// and each quote in it twice. If memory runs out, the text may end with a part of the lines. It takes time in the fields, a buffer of 8 KB,
+/// and memory for the lines.
 ///
 /// ```text
-/// put_csv(&mut text, alloc, &rows)?;   // of a row with the fields a and 1,5: the line a,"1,5"
+/// put_csv(&mut text, alloc, &rows)?;   // a row with the fields a and 1,5: the line a,"1,5"
 /// ```
 pub fn put_csv(text: &mut Bytes, alloc: Global, rows: &[List<Bytes>]) -> Result<(), NoMemory>
     ensures { OnOk result (text.new ≡ text.old ++ csv_text rows.now) }
