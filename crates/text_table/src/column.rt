@@ -6,21 +6,21 @@ use net_core::{Bytes, List, NoMemory};
 use std::alloc::Global;
 use text_places::characters;
 
-/// How the cells of a column are set.
+/// How the cells of a column are laid out.
 #[derive(Clone, Copy, Debug, PartialEq, Eq)]
 pub struct Column {
-    /// How many spaces are before a cell.
+    /// The number of spaces before a cell, beside those that pad it.
     pub gap: usize,
-    /// To how many characters a cell is filled up with spaces.
+    /// The number of characters to which a cell is padded with spaces.
     pub width: usize,
-    /// Whether the spaces are before the words of a cell.
+    /// Whether the padding is before a cell, so that it is aligned to the right.
     pub right: bool,
 }
 
 /// The cells of a row, from left to right.
 pub type Row = List<Bytes>;
 
-/// How many characters the cell at a place has; 0 where the row has none.
+/// How many characters the cell at a place has; 0 if the row has none there.
 fn width_at(row: &[Bytes], at: usize) -> usize
     ensures { result ≡ characters (get_or row.now at []) }
 {
@@ -53,7 +53,8 @@ fn widened_column(column: Column, rows: &[Row], at: usize) -> Column
     }
 }
 
-/// These columns, as wide as the cells of the rows need them, and at least as wide as they are. It takes time in the bytes of the cells.
+/// The columns, each widened to its widest cell if it isn't that wide already. It takes time in the bytes of the cells, and memory for the
+/// columns.
 #[tactic(auto, using(crate::proofs::Widening::none_widened))]
 pub fn widened(alloc: Global, columns: &[Column], rows: &[Row]) -> Result<List<Column>, NoMemory>
     ensures { IfOk result (AreWidened columns.now rows.now (length columns.now)) }

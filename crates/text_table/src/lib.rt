@@ -1,4 +1,4 @@
-//! Tables of a text: rows of cells, each filled up with spaces to the width of its column.
+//! Tables in a text: rows of cells, each padded with spaces to the width of its column.
 #![tactic(auto)]
 
 mod cell;

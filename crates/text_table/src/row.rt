@@ -5,7 +5,7 @@ use crate::cell::{put_left, put_right, put_spaces};
 use crate::column::{Column, Row};
 use net_core::{Bytes, NoMemory};
 
-/// Puts a cell of a column last, after its gap.
+/// Appends a cell of a column, after its gap.
 fn put_cell(text: &mut Bytes, column: Column, cell: &[u8]) -> Result<(), NoMemory>
     ensures { OnOk result (text.new ≡ text.old ++ cell_text column cell.now) }
 {
@@ -17,7 +17,7 @@ fn put_cell(text: &mut Bytes, column: Column, cell: &[u8]) -> Result<(), NoMemor
     }
 }
 
-/// Puts a row last, and ends the line. There is a column for each cell. It takes time in the line, and memory for it.
+/// Appends a row as a line. There is a column for each of its cells. It takes time in the line, and memory for it.
 pub fn put_row(text: &mut Bytes, columns: &[Column], row: &[Bytes]) -> Result<(), NoMemory>
     requires { length row.now ≤ length columns.now }
     ensures { OnOk result (text.new ≡ text.old ++ row_text columns.now row.now) }
@@ -28,7 +28,7 @@ pub fn put_row(text: &mut Bytes, columns: &[Column], row: &[Bytes]) -> Result<()
     text.append(b"\n")
 }
 
-/// Puts rows last, of which none has more cells than there are columns. It takes time in the lines, and memory for them.
+/// Appends rows as lines. No row has more cells than there are columns. It takes time in the lines, and memory for them.
 pub fn put_rows(text: &mut Bytes, columns: &[Column], rows: &[Row]) -> Result<(), NoMemory>
     requires { All (λ row. length row ≤ length columns.now) rows.now }
     ensures { OnOk result (text.new ≡ text.old ++ table_text columns.now rows.now) }
