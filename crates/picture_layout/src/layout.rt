@@ -18,22 +18,22 @@ pub struct Spot {
 #[derive(Clone, Copy, Debug, PartialEq, Eq)]
 pub struct Stroke {
     pub from: Spot,
-    /// What its curve bends towards; none where it is straight.
+    /// The spot towards which it is curved; `None` if it is straight.
     pub bend: Option<Spot>,
     pub to: Spot,
-    /// Where a note on it is.
+    /// Where a note on it is written.
     pub label: Spot,
     pub width: u32,
 }
 
-/// Where everything is drawn.
+/// Where the nodes and links of a network are drawn.
 #[derive(Drop)]
 pub struct Layout {
     /// The spots of the nodes.
     pub nodes: List<Spot>,
     /// The strokes of the links.
     pub links: List<Stroke>,
-    /// Whether the nodes are where the file says; else they are on a circle.
+    /// Whether the nodes are at the places that the file says; if not, they are on a circle.
     pub is_map: bool,
 }
 
@@ -52,8 +52,8 @@ fn spots_of(
     }
 }
 
-/// Where `nodes` nodes with these places are drawn, and links with these capacities. Where a node has no place, or all have the same, they
-/// are on a circle. It takes time in the square of the links, and memory for the spots and strokes.
+/// Where `nodes` nodes with these places and links with these capacities are drawn. If a node has no place, or all have the same one, the
+/// nodes are on a circle. It takes time in the square of the links, and memory for the spots and strokes.
 pub fn layout_of(
     alloc: Global,
     places: &[Option<Place>],
