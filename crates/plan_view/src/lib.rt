@@ -1,4 +1,4 @@
-//! The numbers that people read of a checked plan: a row for each link and for each state, and the whole.
+//! The numbers of a checked plan for people to read: a row for each link and for each state, and a summary.
 #![tactic(auto)]
 
 mod fractions;

@@ -61,7 +61,7 @@ fn row_at(instance: &Instance, plan: &Plan, caps: &[u128], e: u32) -> Result<Lin
 }
 
 /// A row for each link, in the order of the network: its modules, its capacity, its load without failures and its greatest load, and
-/// what it costs. The plan is one that a check accepted for this instance.
+/// its cost. The plan is one that a check accepted for this instance.
 ///
 /// It takes time in the links of all paths times the number of links, and memory for the rows and a capacity of each link.
 ///

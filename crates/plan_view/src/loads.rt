@@ -11,7 +11,7 @@ fn names_link(link: LinkId, path: &[LinkId]) -> bool
     path.iter().any(|x| x.0 == link.0)
 }
 
-/// What flows bring onto a link, over their denominator. It takes time in the links of their paths, and no memory.
+/// The load that flows bring onto a link, over their denominator. It takes time in the links of their paths, and no memory.
 pub fn load_of(flows: &[Flow], link: LinkId) -> u128
     requires { load flows.now link.0 < 2 ^ 128 }
     ensures { result ≡ load flows.now link.0 }
@@ -25,7 +25,7 @@ pub fn load_of(flows: &[Flow], link: LinkId) -> u128
     load
 }
 
-/// Whether a link is loaded less in the one routing than in the other.
+/// Whether a link has less load in the first routing than in the other.
 pub(crate) fn is_loaded_less(one: &Routing, other: &Routing, link: LinkId) -> bool
     requires low { load one.now.flows link.0 < 2 ^ 128 }
     requires other_low { load other.now.flows link.0 < 2 ^ 128 }
@@ -50,7 +50,7 @@ pub(crate) fn whole_load(routing: &Routing, link: LinkId) -> u128
     ceiling(load_of(routing.flows.items(), link), routing.den as u128)
 }
 
-/// How much of a link's capacity is used, in per cent, rounded up; 0 where there is no capacity.
+/// How much of a link's capacity is used, in per cent, rounded up; 0 if there is no capacity.
 #[tactic(auto, using(crate::proofs::Rounding::at_most_hundred))]
 pub(crate) fn use_of(routing: &Routing, link: LinkId, capacity: u128) -> u32
     requires within { load routing.now.flows link.0 ≤ capacity * routing.now.den }

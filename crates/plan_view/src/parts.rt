@@ -78,8 +78,8 @@ pub(crate) fn part_of(links: &[Link], certificate: &Certificate, state: u32) -> 
     thousandths(raw_among(links, Some(state), lines).min(whole), whole)
 }
 
-/// What a cost is above a bound, in tenths of a per cent of the cost, to the nearest, but never 0 where it is above. It takes time in
-/// these tenths.
+/// How far a cost is above a bound, in tenths of a per cent of the cost, rounded to the nearest, but never 0 if it is above. It takes time in
+/// the number of these tenths.
 ///
 /// ```text
 /// let gap = gap_of(30000, 20000);     // 333

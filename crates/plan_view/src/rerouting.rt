@@ -20,7 +20,7 @@ fn goes_as(f: &Flow, other: &Flow) -> bool
     f.demand == other.demand && f.path.items() == other.path.items()
 }
 
-/// Whether one of the flows is of the demand of `f` and follows its path. It takes time in the links of their paths.
+/// Whether one of the flows has the demand and the path of `f`. It takes time in the links of their paths.
 pub fn goes_again(f: &Flow, flows: &[Flow]) -> bool
     ensures { result ≡ list_any (λ g. goes_as f.now g) flows.now }
 {

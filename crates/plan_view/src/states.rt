@@ -107,13 +107,13 @@ fn state_row(
 }
 
 /// A row for each state, the one without failures first and then those of the failure list: what it fails, how much goes along other
-/// paths, its fullest link, and which part of the bound its cuts pay for. The plan is one that a check accepted for this instance.
+/// paths, its fullest link, and which part of the raw value its cuts give. The plan is one that a check accepted for this instance.
 ///
 /// It takes time in the links of all paths times the number of links, and in the square of the flows of each state, and memory for the
 /// rows and a capacity of each link.
 ///
 /// ```text
-/// // the triangle, where each link fails alone: in state AC 12.000 goes other ways, and its cuts pay for 66.7 per cent of the bound
+/// // the triangle, where each link fails alone: in state AC 12.000 takes other paths, and its cuts give 66.7 per cent of the raw value
 /// let rows = state_rows(alloc, &instance, &plan)?;
 /// ```
 #[tactic(auto, using(crate::proofs::RowLists::states_none))]

@@ -38,7 +38,7 @@ fn total_capacity(capacities: &[u128]) -> u128
     total
 }
 
-/// The numbers of the whole plan: what it costs, what no plan undercuts, and what it installs and carries. The plan is one that a check
+/// The summary of a plan: its cost, the bound that no plan undercuts, and what it installs and carries. The plan is one that a check
 /// accepted for this instance. It takes time in the links of all paths without failures times the number of links, and memory for a
 /// capacity of each link.
 ///
