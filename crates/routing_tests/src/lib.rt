@@ -1,4 +1,4 @@
-//! Tests of cuts round sets of nodes, of routings in one state and those that are mended, of the best certificates, and of plans that cover shares.
+//! Tests of cuts round sets of nodes, routings in one state, mended and imported routings, best certificates, and plans that cover shares.
 #![tactic(auto)]
 
 #[cfg(test)]
