@@ -19,7 +19,7 @@ const LIMITS: &[u8] =
 const WRITTEN: &[u8] =
     b"?SNDlib native format; type: network; version: 1.0\nNODES ( X Y Z )\nLINKS ( p ( X Y )\n0.000 0.000 0.000 0.000 ( )\nq ( Z Y )\n20.000 0.000 0.000 0.500 ( 155.000 20.000 622.250 0.000 )\nr ( X Z )\n0.000 0.000 0.000 1099511627.775 ( 0.001 1.000 )\n)\nDEMANDS ( A ( X Y )\n1 0.000 UNLIMITED B ( Z X )\n1 1099511627.775 UNLIMITED )\n";
 
-/// The sample of four nodes from seed 1, as `bench/sample/sample.py 1 4 file` prints it.
+/// The sample of four nodes whose seed is 1, as `bench/sample/sample.py 1 4 file` prints it.
 const SAMPLE: &[u8] =
     b"?SNDlib native format; type: network; version: 1.0\nNODES ( n0 n1 n2 n3 )\nLINKS ( l0 ( n0 n1 )\n0.000 0.000 0.000 0.000 ( 155.000 96.000 622.000 120.000 )\nl1 ( n1 n2 )\n0.000 0.000 0.000 0.000 ( 155.000 94.000 622.000 245.000 )\nl2 ( n2 n3 )\n0.000 0.000 0.000 0.000 ( 155.000 30.000 622.000 152.000 )\nl3 ( n3 n0 )\n0.000 0.000 0.000 0.000 ( 155.000 29.000 622.000 196.000 )\nl4 ( n0 n2 )\n0.000 0.000 0.000 0.000 ( 155.000 63.000 622.000 52.000 )\nl5 ( n2 n0 )\n0.000 0.000 0.000 0.000 ( 155.000 32.000 622.000 50.000 )\n)\nDEMANDS ( d0 ( n0 n1 )\n1 35.000 UNLIMITED d1 ( n0 n2 )\n1 13.000 UNLIMITED d2 ( n0 n3 )\n1 11.000 UNLIMITED d3 ( n1 n2 )\n1 16.000 UNLIMITED d4 ( n1 n3 )\n1 13.000 UNLIMITED d5 ( n2 n3 )\n1 6.000 UNLIMITED )\n";
 

@@ -81,7 +81,7 @@ fn samples_end_as_worked_out_apart(rt: HostRuntime) {
     }
 }
 
-/// The chords of the sample of eight nodes from seed 7, each with its place among the links.
+/// The chords of the sample of eight nodes whose seed is 7, each with its place among the links.
 const CHORDS: [(usize, LinkRow); 4] = [
     (8, (0, 5, 76000, 243000)),
     (9, (2, 5, 74000, 148000)),
@@ -134,7 +134,7 @@ fn has_needs(demands: &[Demand]) -> bool {
     true
 }
 
-/// Whether the sample of eight nodes from seed 7 has these chords, needs and names.
+/// Whether the sample of eight nodes whose seed is 7 has these chords, needs and names.
 fn is_sample_of_seven(alloc: Global) -> Option<bool> {
     let (net, demands) = sample(alloc, 7, 8).ok()?;
     let (links, demands) = (net.links().items(), demands.items());
