@@ -1,5 +1,6 @@
 ghost use Rattle.std.specs.Prelude.{◌≡◌, ◌<◌, ◌≤◌, ◌/◌, ◌^◌, ◌∷◌, ◌↔◌, ℕ, Some, All, Any, Contains, IfOk, OnOk, IsTrue, MatchOption, length, get_or, slice_get, true, false, []};
 ghost use Rattle.plan_terms.specs.Terms.{CutLine, Metric, IsGreatestDivisor, asked};
+ghost use Rattle.master_law.specs.Terms.{IsSameCut};
 ghost use Rattle.master_bound.specs.Answers.{lines_of};
 ghost use Rattle.master_bound.specs.inner.Lines.{AreAmounts, AreBasisMultipliers, IsListedCut, IsPlaceOf, PushesMultiplier, amount_of};
 
@@ -54,6 +55,13 @@ pub(crate) fn has_wide(amounts: &[u128], common: u128) -> bool
     ensures { IsTrue result ↔ Any (λ a. 2 ^ 62 ≤ a / common) amounts.now }
 {
     amounts.iter().any(|amount| *amount / common >= WIDE)
+}
+
+/// Whether two cuts have the same state and lengths, whatever they ask for. It takes time in the number of links, and no memory.
+pub fn is_same_cut(a: &CutLine, b: &CutLine) -> bool
+    ensures { IsTrue result ↔ IsSameCut a.now b.now }
+{
+    a.state == b.state && a.lengths.items() == b.lengths.items()
 }
 
 /// The place of the first cut with this state and these lengths.

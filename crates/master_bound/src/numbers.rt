@@ -9,8 +9,11 @@ use net_core::{CutLine, Link};
 /// Numbers of a program that is solved are below this.
 const WIDE: u128 = 1 << 62;
 
-/// What a cut asks for beyond what the pre-installed capacities give.
-pub(crate) fn gain_of(links: &[Link], cut: &CutLine) -> i128
+/// What a cut asks for beyond what the pre-installed capacities give, in units of the network; below 0 where they give more. It takes
+/// time in the number of links, and no memory.
+///
+/// A cut with a length of 1 on one link, and the right side 10, gains 4 where that link has 6 pre-installed.
+pub fn gain_of(links: &[Link], cut: &CutLine) -> i128
     requires few { length links.now ≤ 256 }
     requires sound { All (λ l. l.fixed < 2 ^ 40) links.now }
     requires count { length cut.now.lengths ≡ length links.now }
@@ -21,8 +24,9 @@ pub(crate) fn gain_of(links: &[Link], cut: &CutLine) -> i128
     cut.right as i128 - fixed as i128
 }
 
-/// What a unit of a cut takes of the row of link `e`.
-pub(crate) fn entry_of(pairs: &[UnitPair], lengths: &[u32], e: usize) -> u128
+/// What a unit of lengths takes of the row of link `e`: its length times the capacity of the link's unit pair. It takes constant time, and
+/// no memory.
+pub fn entry_of(pairs: &[UnitPair], lengths: &[u32], e: usize) -> u128
     requires pairs { e < length pairs.now }
     requires lengths { e < length lengths.now }
     ensures { result ≡ length_entry pairs.now lengths.now e }
