@@ -1,11 +1,10 @@
-ghost use Rattle.std.specs.Prelude.{◌≡◌, ◌≤◌, ◌<◌, ◌^◌, All, length};
-ghost use Rattle.master_law.specs.Terms.{cut_gain};
+ghost use Rattle.std.specs.Prelude.{◌≡◌, ◌<◌, ◌^◌, All, length};
 
 use crate::row::part;
 use checked_fraction::gcd;
-use metric_cut::fixed_along;
+use master_bound::gain_of;
 use module_prices::UnitPair;
-use net_core::{CutLine, Link, List, Network, NoMemory};
+use net_core::{CutLine, List, Network, NoMemory};
 use std::alloc::Global;
 
 /// A length that isn't 0.
@@ -82,18 +81,6 @@ fn line_of(
         entries,
         weight,
     })
-}
-
-/// What a cut gains: its right side, less what the pre-installed capacities give.
-pub(crate) fn gain_of(links: &[Link], cut: &CutLine) -> i128
-    requires few { length links.now ≤ 256 }
-    requires sound { All (λ l. l.fixed < 2 ^ 40) links.now }
-    requires count { length cut.now.lengths ≡ length links.now }
-    requires right { cut.now.right < 2 ^ 84 }
-    ensures { result ≡ cut_gain links.now cut.now }
-{
-    let fixed = fixed_along(links, cut.lengths.items());
-    cut.right as i128 - fixed as i128
 }
 
 /// All cuts as lines.

@@ -6,11 +6,11 @@ ghost use Rattle.length_master.specs.inner.Slots.{ArePlacedRows, IsSlotInside, s
 ghost use Rattle.master_bound.specs.Narrow.{length_entry};
 ghost use Rattle.length_master.specs.inner.Tests.{AreEven, IsBalance, IsPriced, NoneGains, cut_cost};
 
-use crate::line::gain_of;
 use crate::row::KeptRow;
 use crate::slot::Slot;
-use crate::tested_basis::{cut_of, entry_of, number_at, row_at};
+use crate::tested_basis::{cut_of, number_at, row_at};
 use checked_fraction::Row;
+use master_bound::{entry_of, gain_of};
 use module_prices::UnitPair;
 use net_core::{CutLine, Link};
 

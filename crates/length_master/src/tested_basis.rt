@@ -5,11 +5,11 @@ ghost use Rattle.simplex_law.specs.Terms.{dot, unit_vector};
 ghost use Rattle.master_law.specs.Terms.{cut_entry, cut_gain, unit_capacities};
 ghost use Rattle.master_bound.specs.Answers.{cut_at};
 ghost use Rattle.length_master.specs.inner.Slots.{ArePlacedRows, IsPlacedRow, IsSlotInside, row_at as row_of, slot_entry, slot_gain, slot_lengths};
-ghost use Rattle.master_bound.specs.Narrow.{length_entry};
 ghost use Rattle.length_master.specs.inner.Tests.{AreFilled, AreInverse, IsInverseAt, filled_below};
 
 use crate::row::KeptRow;
 use crate::slot::Slot;
+use master_bound::entry_of;
 use module_prices::UnitPair;
 use net_core::CutLine;
 
@@ -144,15 +144,6 @@ pub(crate) fn are_inverse(rows: &[KeptRow], cuts: &[CutLine]) -> bool
         }
     }
     true
-}
-
-/// What a unit of lengths takes of the row of link `e`.
-pub(crate) fn entry_of(pairs: &[UnitPair], lengths: &[u32], e: usize) -> u128
-    requires pairs { e < length pairs.now }
-    requires lengths { e < length lengths.now }
-    ensures { result ≡ length_entry pairs.now lengths.now e }
-{
-    lengths[e] as u128 * pairs[e].capacity as u128
 }
 
 /// What an amount of a slot takes of the row of link `e`, where it fits.
