@@ -1,11 +1,11 @@
-ghost use Rattle.std.specs.Prelude.{◌≡◌, ◌↔◌, ◌≤◌, IfOk, IsTrue, OnOk, false};
+ghost use Rattle.std.specs.Prelude.{◌≡◌, ◌≤◌, IfOk, IsTrue, OnOk, false};
 ghost use Rattle.plan_terms.specs.Terms.{graph_in, case_of};
 ghost use Rattle.metric_cut.specs.Cuts.{IsCutOf};
-ghost use Rattle.master_law.specs.Terms.{IsSameCut};
 ghost use Rattle.plan_law.specs.WorkedLists.{HasCut, Lacks};
 ghost use Rattle.plan_rounds.specs.inner.Alone.{PoolsOpening};
 ghost use Rattle.plan_rounds.specs.inner.Listing.{AreFirstSpots, AreListed, GoesOn, PutsLine, TakesCut};
 
+use master_bound::is_same_cut;
 use metric_cut::Cut;
 use net_core::{CutLine, Instance, List, NoMemory};
 use plan_types::Spot;
@@ -31,20 +31,13 @@ pub fn pool_spots(alloc: Global, cuts: usize) -> Result<List<Spot>, NoMemory>
     Ok(spots)
 }
 
-/// Whether two cuts have the same state and lengths.
-fn is_same(a: &CutLine, b: &CutLine) -> bool
-    ensures { IsTrue result ↔ IsSameCut a.now b.now }
-{
-    a.state == b.state && a.lengths.items() == b.lengths.items()
-}
-
 /// Whether a line of the list has the cut's state and lengths.
 fn stands(lines: &[CutLine], line: &CutLine) -> bool
     ensures there { IsTrue result → HasCut lines.now line.now.state.0 line.now.lengths }
     ensures lacks { result ≡ false → Lacks lines.now line.now }
 {
     for l in lines {
-        if is_same(line, l) {
+        if is_same_cut(line, l) {
             return true;
         }
     }
