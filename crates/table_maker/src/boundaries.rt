@@ -1,10 +1,11 @@
-ghost use Rattle.std.specs.Prelude.{◌≡◌, ◌≤◌, ◌<◌, ◌↔◌, All, AllPairs, IfOk, IfSome, IsTrue, OnOk, false, length, map, nat_eq, slice_index};
+ghost use Rattle.std.specs.Prelude.{◌≡◌, ◌≤◌, ◌<◌, All, AllPairs, IfOk, IfSome, OnOk, false, length, map, nat_eq, slice_index};
 ghost use Rattle.plan_terms.specs.Terms.{IsCut, case_of};
 ghost use Rattle.master_law.specs.Terms.{IsSameCut};
 ghost use Rattle.table_maker.specs.SetCuts.{IsNewTo, IsSetCut, boundary_of};
 ghost use Rattle.table_maker.specs.inner.Finding.{AreFound, CutsNodes, IsBoundary, IsSameSearch};
 
 use crate::sides::{mark_of, sides_of};
+use master_bound::is_same_cut;
 use metric_cut::Cut;
 use net_core::{Copied, CutLine, Instance, Lengths, Link, LinkId, List, NoMemory, StateId, States};
 use std::alloc::Global;
@@ -62,19 +63,12 @@ fn cut_in(
     }
 }
 
-/// Whether two cuts have the same state and lengths.
-fn is_same(a: &CutLine, b: &CutLine) -> bool
-    ensures { IsTrue result ↔ IsSameCut a.now b.now }
-{
-    a.state == b.state && a.lengths.items() == b.lengths.items()
-}
-
 /// Whether a cut is among these.
 fn is_among(cuts: &[CutLine], cut: &CutLine) -> bool
     ensures { result ≡ false → IsNewTo cuts.now cut.now }
 {
     for c in cuts {
-        if is_same(c, cut) {
+        if is_same_cut(c, cut) {
             return true;
         }
     }
