@@ -184,7 +184,9 @@ module _ (g : Graph) (network : ∥ IsNetwork g.nodes g.links ∥₁) (demands :
     violated = is.violated;
   }
 
--- a violated cut of a set of nodes that may be found is one of priced lengths, in an equal surviving graph
-pub boundary_may_be : (g h : Graph) (demands : List Demand) (caps : Caps) (found : Option Cut) → g ≡ h → IfSome found (IsBoundaryCut g demands caps) → IfSome found (IsFoundCutOf h demands caps)
-boundary_may_be g h demands caps None same is = tt
-boundary_may_be g h demands caps (Some cut) same is = boundary_found h demands caps cut (subst (λ (k : Graph). IsBoundaryCut k demands caps cut) same is)
+-- a violated cut of a set of nodes that may be found is one of priced lengths, in an equal surviving graph with equal demands and capacities
+pub boundary_may_be : (g h : Graph) (ds es : List Demand) (x y : Caps) (found : Option Cut) → g ≡ h → ds ≡ es → x ≡ y
+    → IfSome found (IsBoundaryCut g ds x) → IfSome found (IsFoundCutOf h es y)
+boundary_may_be g h ds es x y None graph demands caps is = tt
+boundary_may_be g h ds es x y (Some cut) graph demands caps is = boundary_found h es y cut (subst (λ (k : Graph). IsBoundaryCut k es y cut) graph
+    (subst (λ (zs : List Demand). IsBoundaryCut g zs y cut) demands (subst (λ (z : Caps). IsBoundaryCut g ds z cut) caps is)))

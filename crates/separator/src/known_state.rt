@@ -5,7 +5,7 @@ ghost use Rattle.separator.specs.Findings.{IsFinding};
 
 use crate::one_state::separate_from;
 use crate::question::StateQuestion;
-use net_core::{Caps, Instance, List, NoMemory, RouteColumn, RouteTask, StateId};
+use net_core::{Caps, Instance, List, NoMemory, RouteColumn, StateId};
 use std::alloc::Global;
 use warm_routing::WarmRouter;
 use warm_routing::flow_router::RouteAnswer;
@@ -39,12 +39,8 @@ impl KnownState {
         requires state { state.0 < length instance.now.states.now.listed + 1 }
         requires caps { length caps.now.nums ≡ length instance.now.net.now.links }
     {
-        let task = RouteTask {
-            graph: instance.in_state(state),
-            demands: instance.demands,
-            caps,
-        };
-        self.warm.take_nearer(other.warm, &task)
+        self.warm
+            .take_nearer(other.warm, &instance.task(state, caps))
     }
 
     /// Whether there is a basis that a question has left. It takes constant time.

@@ -31,7 +31,7 @@ pub use admission::{line_of, spot_after};
 pub use answers::{Separated, StateAnswer};
 pub use known_state::KnownState;
 pub use one_by_one::OneByOne;
-pub use one_state::{separate_from, separate_state};
+pub use one_state::{answer_of, separate_from, separate_state};
 pub use question::StateQuestion;
 pub use ranges::are_narrow;
 pub use roomy_sets::{NO_ROOM, RoomySets, set_in_state, sets_of_round};

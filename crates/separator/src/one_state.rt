@@ -65,8 +65,8 @@ fn separate_task(
     }
 }
 
-/// What a kept basis finds, as an answer.
-fn answer_of(found: WarmAnswer) -> RouteAnswer
+/// What a kept basis finds, as an answer. It takes constant time.
+pub fn answer_of(found: WarmAnswer) -> RouteAnswer
     ensures { (g : Graph) (demands : Seq Demand) (caps : CapsOf) → IsWarmAnswer g demands caps found → IsFinding g demands caps result }
 {
     match found {

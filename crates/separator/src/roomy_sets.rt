@@ -6,7 +6,7 @@ ghost use Rattle.separator.specs.Rooms.{HasRoomOver, IsRoomOver};
 use crate::admission::line_of;
 use crate::ranges::are_narrow;
 use metric_cut::{Cut, violated_by};
-use net_core::{Caps, Instance, List, NoMemory, RouteTask, StateId};
+use net_core::{Caps, Instance, List, NoMemory, StateId};
 use std::alloc::Global;
 use warm_routing::node_sets::{RoundSets, round_set};
 
@@ -76,12 +76,7 @@ fn sets_at(alloc: Global, instance: &Instance, caps: &Caps) -> Result<RoundSets,
     requires scale { 0 < caps.now.scale }
     requires caps { length caps.now.nums ≡ length instance.now.net.now.links }
 {
-    let task = RouteTask {
-        graph: instance.in_state(StateId(0)),
-        demands: instance.demands,
-        caps,
-    };
-    RoundSets::grow(alloc, &task)
+    RoundSets::grow(alloc, &instance.task(StateId(0), caps))
 }
 
 /// The sets of nodes that grow where no link fails, at capacities with the room of a level: the most at 0, and none from `NO_ROOM` on.
@@ -120,12 +115,7 @@ fn set_at(
     requires caps { length caps.now.nums ≡ length instance.now.net.now.links }
     ensures { IfOk result (λ o. IfSome o (IsFoundCutOf (graph_in (case_of instance.now) state.0) instance.now.demands.now caps.now)) }
 {
-    let task = RouteTask {
-        graph: instance.in_state(state),
-        demands: instance.demands,
-        caps,
-    };
-    round_set(alloc, &task, sets)
+    round_set(alloc, &instance.task(state, caps), sets)
 }
 
 /// A cut that capacities with room violate, if those of the round violate it.

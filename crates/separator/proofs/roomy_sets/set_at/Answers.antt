@@ -6,6 +6,8 @@ use Rattle.separator.proofs.roomy_sets.set_at.Goals as goal
 pub returns : goal.returns
 returns c =
     let instance = c.args.instance.now in
+    let task = c.task.result in
     IfOk-weaker c.round_set.result _ _
-    (λ found. boundary_may_be (graph_of c.in_state.result) (graph_in (case_of instance) c.args.state.0) instance.demands.now c.args.caps.now found c.in_state.ensures.graph)
+    (λ found. boundary_may_be (graph_of task.graph) (graph_in (case_of instance) c.args.state.0) task.demands.now instance.demands.now task.caps.now c.args.caps.now
+    found c.task.ensures.graph c.task.ensures.demands c.task.ensures.caps)
     c.round_set.ensures
