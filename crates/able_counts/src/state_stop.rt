@@ -1,7 +1,7 @@
-ghost use Rattle.std.specs.Prelude.{◌≡◌, ◌⊎◌, ◌^◌, ◌<◌, All, IfOk, IfSome, List as Seq, None};
-ghost use Rattle.plan_terms.specs.Terms.{graph_of, Caps as CapsOf, Demand, Graph, IsSurvivable};
+ghost use Rattle.std.specs.Prelude.{◌≡◌, ◌⊎◌, ◌^◌, ◌<◌, All, IfOk, IfSome, None};
+ghost use Rattle.plan_terms.specs.Terms.{graph_of, IsSurvivable};
 ghost use Rattle.route_law.specs.Terms.{AreJoined};
-ghost use Rattle.separator.specs.Terms.{IsWarmAnswer, IsFinding};
+ghost use Rattle.separator.specs.Terms.{IsFinding};
 ghost use Rattle.able_counts.specs.AbleTests.{IsRoutingOf, IsRoutingWithin, IsStopAt};
 ghost use Rattle.able_counts.specs.inner.Tasks.{task_case};
 
@@ -9,8 +9,8 @@ use crate::stop::Stop;
 use net_core::{Copied, Flow, Instance, List, NoMemory, RouteColumn, RouteTask, Routing};
 use separator::flow_mending::is_within;
 use separator::flow_router::RouteAnswer;
-use separator::warm_routing::{WarmAnswer, WarmRouter};
-use separator::{line_of, separate_state};
+use separator::warm_routing::WarmRouter;
+use separator::{answer_of, line_of, separate_state};
 use std::alloc::Global;
 
 /// The number of turns that a kept basis gets.
@@ -23,16 +23,6 @@ fn columns_of(alloc: Global, flows: &[Flow]) -> Result<List<RouteColumn>, NoMemo
         columns.push(RouteColumn::Carry(f.demand, f.path.copy()?))?;
     }
     Ok(columns)
-}
-
-/// The answer that a kept basis has found.
-fn answer_of(found: WarmAnswer) -> RouteAnswer
-    ensures { (g : Graph) (demands : Seq Demand) (caps : CapsOf) → IsWarmAnswer g demands caps found → IsFinding g demands caps result }
-{
-    match found {
-        WarmAnswer::Routed(routing) => RouteAnswer::Routed(routing),
-        WarmAnswer::Violated(cut) => RouteAnswer::Violated(cut),
-    }
 }
 
 /// What a kept basis finds for a routing task; `None` if it finds nothing in its turns.
