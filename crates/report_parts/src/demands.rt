@@ -32,8 +32,9 @@ pub struct PlanDemands<'a> {
     ghost few: { length list < 2 ^ 32 },
 }
 
-/// The names of demands, which are all different.
-fn demand_places(alloc: Global, demands: &[Demand]) -> Result<Places<'_>, NoMemory>
+/// The names of demands, which are all different, found in time that doesn't grow with their number. It takes time and memory in their
+/// number, and lends the names.
+pub fn demand_places(alloc: Global, demands: &[Demand]) -> Result<Places<'_>, NoMemory>
     requires { AllPairs (λ x y. x.name ≢ y.name) demands.now }
     ensures { IfOk result (λ p. p ≡ map (λ d. d.name) demands.now) }
 {
