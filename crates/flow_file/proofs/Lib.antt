@@ -1,4 +1,3 @@
 pub mod Telling
 pub mod FlowsOnline
 pub mod FlowLaws
-pub mod Once

@@ -4,6 +4,7 @@ ghost use Rattle.text_kit.specs.Terms.{ReadsAs};
 ghost use Rattle.report_words.specs.Terms.{demand_of, demand_within};
 
 use net_core::{Demand, NoMemory};
+use report_parts::demands::demand_places;
 use report_words::fault::{ReportKind, ReportRefusal};
 use report_words::places::Places;
 use report_words::words::unknown_name;
@@ -19,20 +20,6 @@ pub(crate) struct KnownDemands<'a> {
     places: Places<'a>,
     ghost names: { places ≡ map (λ d. d.name) list.now },
     ghost few: { length list.now ≤ 2048 },
-}
-
-/// The names of demands, which are all different.
-fn demand_places(alloc: Global, list: &[Demand]) -> Result<Places<'_>, NoMemory>
-    requires { AllPairs (λ x y. x.name ≢ y.name) list.now }
-    ensures { IfOk result (λ p. p ≡ map (λ d. d.name) list.now) }
-{
-    let mut places = Places::new(alloc);
-    for demand in list {
-        if !places.add(demand.name.bytes())? {
-            unreachable!();
-        }
-    }
-    Ok(places)
 }
 
 impl<'a> KnownDemands<'a> {

@@ -1,5 +1,0 @@
-use Rattle.std.proofs.Common.{◌≡◌, map, take}
-use Rattle.flow_file.proofs.known.demand_places.Given as goal
-
-abbrev pub invariant-loop-demand : goal.invariant-loop-demand
-invariant-loop-demand l = l.places ≡ map (λ x. x.name) (take l.demand-index l.list)
