@@ -1,9 +1,7 @@
 ghost use Rattle.std.specs.Prelude.{◌≡◌, ◌<◌, ◌+◌, length};
 ghost use Rattle.net_core.specs.Cases.{graph_in};
-ghost use Rattle.net_core.specs.Demands.{AreDemands};
 ghost use Rattle.net_core.specs.Views.{case, case_of, graph_of};
 
-use crate::demand::Demands;
 use crate::graph::Surviving;
 use crate::ids::StateId;
 use crate::instance::{Instance, Problem};
@@ -38,20 +36,6 @@ impl<'a> Instance<'a> {
             net: self.net,
             states: self.states,
             state,
-        }
-    }
-
-    /// The same network and states with other demands. It takes constant time and no memory.
-    pub fn with_demands(&self, demands: &'a Demands) -> Instance<'a>
-        requires { AreDemands (length self.now.net.now.nodes) demands.now }
-        ensures net { result.net.now ≡ self.now.net.now }
-        ensures states { result.states.now ≡ self.now.states.now }
-        ensures demands { result.demands.now ≡ demands.now }
-    {
-        Instance {
-            net: self.net,
-            states: self.states,
-            demands,
         }
     }
 
