@@ -1,5 +1,5 @@
 -- comment lines that are put one after another
-use Rattle.std.proofs.Common.{◌≡◌, ℕ, ◌+◌, ◌<◌, ◌≤◌, List, [], ◌∷◌, ◌++◌, length, get_or, take, map, sym, ap, subst, ◌∙◌, append_assoc, append-nil, flat_map, All}
+use Rattle.std.proofs.Common.{◌≡◌, ℕ, ◌+◌, ◌<◌, ◌≤◌, List, [], ◌∷◌, ◌++◌, length, get_or, take, map, sym, ap, subst, ◌∙◌, append_assoc, append-nil, flat_map}
 use Rattle.net_core.proofs.Library.{All-append, All-cons, All-nil, flat_map-append, take_more}
 use Rattle.std.proofs.lemmas.List.{map-append, take_all}
 use Rattle.text_kit.specs.Terms.{Item}

@@ -1,5 +1,5 @@
 -- the replies of edits, from what the code knows
-use Rattle.std.proofs.Common.{◌≡◌, ◌≢◌, ◌<◌, ◌≤◌, ◌-◌, ◌^◌, ℕ, true, false, List, [], length, get_or, Some, sym, ap, ◌∙◌, arith, nat_lt, position, le-ltb, lt-ltb}
+use Rattle.std.proofs.Common.{◌≡◌, ◌≢◌, ◌<◌, ◌≤◌, ◌^◌, ℕ, true, false, List, [], length, get_or, Some, sym, ap, ◌∙◌, arith, nat_lt, position, le-ltb, lt-ltb}
 use Rattle.net_core.proofs.Library.{cond-true, cond-false, false≢true, position-Some, same_is}
 use Rattle.plan_terms.specs.Terms.{are_same, Demand, Set, Drop, Accepted, UnknownDemand, TooMuch, edit_reply, is_demand, next_version, set_need, total_need, within_total, without}
 use Rattle.demand_book.proofs.Changed.{is_same}

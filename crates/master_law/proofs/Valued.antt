@@ -1,5 +1,5 @@
 -- amounts that fill the rows of the master program, by the inverse
-use Rattle.std.proofs.Common.{◌≡◌, ℕ, ◌*◌, ◌<◌, List, length, sym, ap, ◌∙◌, ℤ, pos, ◌*ℤ◌}
+use Rattle.std.proofs.Common.{◌≡◌, ℕ, ◌<◌, List, length, sym, ap, ◌∙◌, ℤ, pos, ◌*ℤ◌}
 use Rattle.module_prices.specs.declared.cheapest.UnitPair.{UnitPair}
 use Rattle.plan_terms.specs.Terms.{MasterColumn, Link, CutLine}
 use Rattle.simplex_law.specs.Terms.{dot, unit_vector, ColumnOf, IsRow, IsBest}

@@ -1,5 +1,5 @@
 -- sums of mixed numbers
-use Rattle.std.proofs.Common.{◌≡◌, ℕ, ◌+◌, ◌-◌, ◌*◌, ◌/◌, ◌%◌, ◌^◌, ◌<◌, ◌≤◌, ◌⊎◌, ap, min, arith, ⊎_elim, mul-le-mul_left}
+use Rattle.std.proofs.Common.{◌≡◌, ℕ, ◌+◌, ◌-◌, ◌*◌, ◌/◌, ◌%◌, ◌^◌, ◌<◌, ◌≤◌, ap, min, arith, ⊎_elim, mul-le-mul_left}
 use Rattle.net_core.proofs.Library.{cases_lt}
 use Rattle.plan_checker.specs.inner.Mixed.{IsMixed}
 use Rattle.plan_checker.specs.declared.mixed.Mixed.{Mixed}

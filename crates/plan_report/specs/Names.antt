@@ -1,7 +1,7 @@
 -- the names that a report is written with
 use Rattle.std.specs.Prelude.{ℕ, zero, suc, List, [], get_or, slice_get, codes}
 use Rattle.std.specs.Option.{option_map_or}
-use Rattle.plan_terms.specs.Terms.{Demand, LinkId, NodeId, Link, Listed}
+use Rattle.plan_terms.specs.Terms.{Demand, NodeId, Listed}
 
 -- a node's name
 abbrev pub node_name : List (List ℕ) → NodeId → List ℕ

@@ -1,5 +1,5 @@
 -- lines and columns of a text
-use Rattle.std.specs.Prelude.{◌≡◌, ℕ, ◌+◌, ◌-◌, ◌==◌, ◌≤◌, ◌<◌, Bool, true, false, ◌||◌, ◌&&◌, not, cond, List, drop, length, nat_le, nat_lt, slice_index, sum_by, take}
+use Rattle.std.specs.Prelude.{◌≡◌, ℕ, ◌+◌, ◌-◌, ◌==◌, ◌≤◌, ◌<◌, Bool, true, false, ◌||◌, ◌&&◌, not, cond, List, drop, nat_le, nat_lt, slice_index, sum_by, take}
 use Rattle.net_core.specs.Sums.{sum_below}
 
 -- The byte is the last one of a line end: a line feed, or a carriage return that no line feed follows.

@@ -1,5 +1,5 @@
 -- columns, one more after another
-use Rattle.std.proofs.Common.{◌≡◌, ℕ, zero, suc, ◌+◌, ◌<◌, List, [], ◌∷◌, ◌++◌, None, Some, ◌⊎◌, inl, inr, length, length-append, slice_get, refl, sym, ap, subst, arith, ⊎_elim}
+use Rattle.std.proofs.Common.{◌≡◌, ℕ, zero, suc, ◌+◌, List, [], ◌∷◌, ◌++◌, None, Some, ◌⊎◌, inl, inr, length, length-append, slice_get, refl, sym, ap, subst, arith, ⊎_elim}
 use Rattle.net_core.proofs.Library.{slice_get_within}
 use Rattle.text_table.specs.Cells.{AreWidened, IsWidened}
 use Rattle.text_table.specs.declared.column.Column.{Column}

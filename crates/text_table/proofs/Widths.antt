@@ -1,5 +1,5 @@
 -- widths of cells, row after row
-use Rattle.std.proofs.Common.{◌≡◌, ℕ, ◌+◌, ◌≤◌, ◌<◌, List, [], All, get_or, length, max, subst, sym, take, arith, ◌∙◌, get_or-take, length-take}
+use Rattle.std.proofs.Common.{◌≡◌, ℕ, ◌+◌, ◌≤◌, ◌<◌, List, [], get_or, length, max, subst, sym, take, arith, ◌∙◌, get_or-take, length-take}
 use Rattle.net_core.proofs.Library.{All-more, All-nil, All-weaker}
 use Rattle.text_places.specs.Places.{characters}
 use Rattle.text_table.specs.Cells.{IsLeastWidth}

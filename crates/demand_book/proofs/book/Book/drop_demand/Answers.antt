@@ -1,4 +1,4 @@
-use Rattle.std.proofs.Common.{◌≡◌, ◌-◌, true, sym, subst, ◌∙◌, arith}
+use Rattle.std.proofs.Common.{◌≡◌, true, sym, subst, ◌∙◌, arith}
 use Rattle.plan_terms.specs.Terms.{is_demand, AreDemands}
 use Rattle.demand_book.proofs.Changed.{IsAlone, alone, remove_demands, remove_is, remove_total}
 use Rattle.demand_book.proofs.Replies.{drop_accepted}
