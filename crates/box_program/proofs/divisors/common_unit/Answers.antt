@@ -1,16 +1,16 @@
 use Rattle.std.proofs.Common.{◌↔◌, All, subst, arith}
 use Rattle.net_core.proofs.Library.{dvd-zero, ◌∣◌}
 use Rattle.tree_check.specs.Terms.{Tested}
-use Rattle.box_program.specs.Divisors.{DividesLine}
+use Rattle.box_program.specs.Divisors.{DividesNumbers}
 use Rattle.box_program.proofs.Dividing.{divisors_more, take_whole}
 use Rattle.box_program.proofs.divisors.common_unit.Goals as goal
 
 pub loop-t-preserved : goal.loop-t-preserved
 loop-t-preserved c =
-    divisors_more (λ d (t : Tested). DividesLine d t.line) 0 c.loop-t.unit c.divisor_of-unit.result c.args.tested.now c.loop-t.t-index c.t-item.result c.loop-t-test.true c.loop-t.invariant
-    (λ d. subst (λ (t : Tested). (d ∣ c.divisor_of-unit.result) ↔ (d ∣ c.loop-t.unit) × DividesLine d t.line) c.t-item.is (c.divisor_of-unit.ensures d))
+    divisors_more (λ d (t : Tested). DividesNumbers d t.line) 0 c.loop-t.unit c.divisor_of-unit.result c.args.tested.now c.loop-t.t-index c.t-item.result c.loop-t-test.true c.loop-t.invariant
+    (λ d. subst (λ (t : Tested). (d ∣ c.divisor_of-unit.result) ↔ (d ∣ c.loop-t.unit) × DividesNumbers d t.line) c.t-item.is (c.divisor_of-unit.ensures d))
 
 pub returns : goal.returns
 returns c d =
-    let all = subst (λ xs. (d ∣ c.loop-t.unit) ↔ (d ∣ 0) × All (λ (t : Tested). DividesLine d t.line) xs) (take_whole c.loop-t.t-index c.args.tested.now (omega (arith, c.loop-t-test.false))) (c.loop-t.invariant d) in
+    let all = subst (λ xs. (d ∣ c.loop-t.unit) ↔ (d ∣ 0) × All (λ (t : Tested). DividesNumbers d t.line) xs) (take_whole c.loop-t.t-index c.args.tested.now (omega (arith, c.loop-t-test.false))) (c.loop-t.invariant d) in
     (λ h. (all.0 h).1, λ h. all.1 (dvd-zero d, h))
