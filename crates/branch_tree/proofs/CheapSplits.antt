@@ -1,13 +1,13 @@
 -- splits that have their causes
 use Rattle.std.proofs.Common.{ℕ, List}
 use Rattle.plan_terms.specs.Terms.{Case, CutLine}
-use Rattle.tree_check.specs.Terms.{HoldsNode, names_of, TreeBox}
+use Rattle.tree_check.specs.Terms.{HoldsNode, names_in_proof, TreeBox}
 use Rattle.box_search.specs.Terms.{Node, Split, Closed, Empty, Spent, Stuck, Proof}
 use Rattle.branch_tree.specs.FewSplits.{IsCheapSplit}
 use Rattle.branch_tree.specs.Proving.{HasNodeCause}
 
 -- a node that holds and has its cause is a cheap split, if it is a split
-pub cheap_of : (p : Case) (proof : Proof) (handed : List CutLine) (limit : ℕ) (box : TreeBox) (node : Node) → HoldsNode (names_of p proof) p proof.plan.cost box node
+pub cheap_of : (p : Case) (proof : Proof) (handed : List CutLine) (limit : ℕ) (box : TreeBox) (node : Node) → HoldsNode (names_in_proof p proof) p proof.plan.cost box node
     → HasNodeCause p proof.plan handed limit proof.tree box node → IsCheapSplit p.links proof.plan.cost box node
 cheap_of p proof handed limit box (Split link at_module number) holds cause = (holds, cause.0)
 cheap_of p proof handed limit box (Closed cert) holds cause = tt

@@ -5,7 +5,7 @@ pub use Rattle.line_check.specs.Inequalities.{line_of_cut}
 pub use Rattle.line_check.specs.Lines.{IsMadeOf}
 pub use Rattle.line_check.specs.Testing.{names_by}
 pub use Rattle.tree_check.specs.Boxes.{whole_box}
-pub use Rattle.tree_check.specs.Proofs.{HoldsAtNode, HoldsNode, IsAcceptedProof, IsEvidenceAt, names_of}
+pub use Rattle.tree_check.specs.Proofs.{HoldsAtNode, HoldsNode, IsAcceptedProof, IsEvidenceAt, names_in_proof}
 pub use Rattle.tree_check.specs.Terms.{Inequality}
 pub use Rattle.tree_check.specs.Trees.{IsWhole, TreeBox, boxes_left, sides_of}
 pub use Rattle.tree_check.specs.declared.proof.Verdict.TheVariants.{Above, Cheapest}

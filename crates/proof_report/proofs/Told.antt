@@ -3,7 +3,7 @@ use Rattle.std.proofs.Common.{ℕ, List, subst, sym}
 use Rattle.net_core.proofs.Library.{get_or_from_slice_get}
 use Rattle.plan_terms.specs.Terms.{Case, Evidence, Route, Master}
 use Rattle.report_comments.specs.ReportComments.{IsOfRouting}
-use Rattle.branch_tree.specs.Terms.{Inequality, HoldsAtNode, HoldsNode, IsAcceptedProof, IsEvidenceAt, names_of, TreeBox, Node, Split, Closed, Empty, Spent}
+use Rattle.branch_tree.specs.Terms.{Inequality, HoldsAtNode, HoldsNode, IsAcceptedProof, IsEvidenceAt, names_in_proof, TreeBox, Node, Split, Closed, Empty, Spent}
 use Rattle.branch_tree.specs.Terms.{Stuck, Proof}
 use Rattle.tree_lines.specs.TreeLines.{IsToldNode, IsToldProof}
 
@@ -21,4 +21,4 @@ node_told names p cost box (Stuck cert evidence) holds = evidence_told p _ evide
 pub proof_told : (p : Case) (proof : Proof) → IsAcceptedProof p proof → IsToldProof proof
 proof_told p proof accepted i d lt =
     let holds : HoldsAtNode p proof i = accepted.hold i lt in
-    subst IsToldNode (sym (get_or_from_slice_get proof.tree i holds.node d holds.is_node.at)) (node_told (names_of p proof) p proof.plan.cost holds.box holds.node holds.holds)
+    subst IsToldNode (sym (get_or_from_slice_get proof.tree i holds.node d holds.is_node.at)) (node_told (names_in_proof p proof) p proof.plan.cost holds.box holds.node holds.holds)

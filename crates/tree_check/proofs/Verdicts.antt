@@ -7,7 +7,7 @@ use Rattle.tree_check.specs.Boxes.{AreInBox}
 use Rattle.tree_check.specs.BoxValues.{HasBoxValue}
 use Rattle.tree_check.specs.Laws.{CheapestHolds, IsSplitIfAny, OpenLeavesHold}
 use Rattle.line_check.specs.declared.inequality.Inequality.{Inequality}
-use Rattle.tree_check.specs.Proofs.{HoldsNode, IsAcceptedProof, IsOpenAt, VerdictFollows, names_of}
+use Rattle.tree_check.specs.Proofs.{HoldsNode, IsAcceptedProof, IsOpenAt, VerdictFollows, names_in_proof}
 use Rattle.tree_check.specs.Trees.{IsNodeOf, TreeBox, sides_of}
 use Rattle.tree_check.specs.declared.proof.BoxCert.{BoxCert}
 use Rattle.tree_check.specs.declared.proof.Node.{Node}
@@ -20,33 +20,33 @@ use Rattle.tree_check.proofs.EmptiedBoxes.{emptied_has_none}
 use Rattle.tree_check.proofs.Values.{box_value_holds}
 
 module _ (p : Case) (proof : Proof) (counts : List (List ℕ)) (able : IsAble p counts) where
-  named_met : (i : ℕ) (line : Inequality) → names_of p proof i line → MeetsLine p.links line counts
+  named_met : (i : ℕ) (line : Inequality) → names_in_proof p proof i line → MeetsLine p.links line counts
   named_met i line names = lines_are_met p (sources_of proof.cuts proof.lines) i line counts names able
 
-  all_met : (ms : List Multiplier) (terms : List WeightedLine) → AreNamedBy (names_of p proof) ms terms → AllByRecursion (λ t. MeetsLine p.links t.line counts) terms
+  all_met : (ms : List Multiplier) (terms : List WeightedLine) → AreNamedBy (names_in_proof p proof) ms terms → AllByRecursion (λ t. MeetsLine p.links t.line counts) terms
   all_met [] [] named = tt
   all_met [] (t ∷ ts) named = absurd named
   all_met (m ∷ ms) [] named = absurd named
   all_met (m ∷ ms) (t ∷ ts) named = (named_met m.cut t.line named.0.0, all_met ms ts named.1)
 
-  value_met : (box : TreeBox) (cert : BoxCert) (value : ℕ) → HasBoxValue (names_of p proof) p.links box cert value → AreInBox box counts → value ≤ total_cost p.links counts
+  value_met : (box : TreeBox) (cert : BoxCert) (value : ℕ) → HasBoxValue (names_in_proof p proof) p.links box cert value → AreInBox box counts → value ≤ total_cost p.links counts
   value_met box cert value has within =
       box_value_holds p.links box cert.den has.terms value counts has.is able.shape within (All-from_recursion (λ t. MeetsLine p.links t.line counts) has.terms (all_met cert.lines has.terms has.named))
 
   -- the counts cost no less than the plan, or than the value of an open leaf
   module _ (accepted : IsAcceptedProof p proof) where
-    node_holds : (i : ℕ) (box : TreeBox) (node : Node) → IsNodeOf p.links proof.tree i box node → HoldsNode (names_of p proof) p proof.plan.cost box node
+    node_holds : (i : ℕ) (box : TreeBox) (node : Node) → IsNodeOf p.links proof.tree i box node → HoldsNode (names_in_proof p proof) p proof.plan.cost box node
     node_holds i box node is_node =
         let known = accepted.hold i (slice_get_within proof.tree i node is_node.at) in
         let same_node : known.node ≡ node = let a = known.is_node.at in let b = is_node.at in cc (a, b) in
         let same_box : known.box ≡ box = let a = known.is_node.next in let b = is_node.next in cc (a, b) in
-        subst (λ (n : Node). HoldsNode (names_of p proof) p proof.plan.cost box n) same_node
-        (subst (λ (b : TreeBox). HoldsNode (names_of p proof) p proof.plan.cost b known.node) same_box known.holds)
+        subst (λ (n : Node). HoldsNode (names_in_proof p proof) p proof.plan.cost box n) same_node
+        (subst (λ (b : TreeBox). HoldsNode (names_in_proof p proof) p proof.plan.cost b known.node) same_box known.holds)
 
     splits : (i : ℕ) (box : TreeBox) (node : Node) → IsNodeOf p.links proof.tree i box node → IsSplitIfAny box node
     splits i box node is_node = split_if_any box node (node_holds i box node is_node)
       where
-        split_if_any : (box : TreeBox) (node : Node) → HoldsNode (names_of p proof) p proof.plan.cost box node → IsSplitIfAny box node
+        split_if_any : (box : TreeBox) (node : Node) → HoldsNode (names_in_proof p proof) p proof.plan.cost box node → IsSplitIfAny box node
         split_if_any box (Split link at_module number) holds = holds
         split_if_any box (Closed cert) holds = tt
         split_if_any box (Empty cut) holds = tt
@@ -60,7 +60,7 @@ module _ (p : Case) (proof : Proof) (counts : List (List ℕ)) (able : IsAble p 
       open_leaf : IsOpenAt p proof place value
       least : value ≤ total_cost p.links counts
 
-    at_leaf : (i : ℕ) (box : TreeBox) (node : Node) → IsNodeOf p.links proof.tree i box node → HoldsNode (names_of p proof) p proof.plan.cost box node → sides_of box node ≡ [] → AreInBox box counts
+    at_leaf : (i : ℕ) (box : TreeBox) (node : Node) → IsNodeOf p.links proof.tree i box node → HoldsNode (names_in_proof p proof) p proof.plan.cost box node → sides_of box node ≡ [] → AreInBox box counts
         → (proof.plan.cost ≤ total_cost p.links counts) ⊎ Opened
     at_leaf i box (Split link at_module number) is_node holds leaf within = absurd (cc leaf)
     at_leaf i box (Closed cert) is_node holds leaf within = inl (omega (arith, holds.reaches, value_met box cert holds.value holds.has within))

@@ -6,7 +6,7 @@ use Rattle.plan_terms.specs.Terms.{AreCounts, Case, Link, case_of}
 use Rattle.tree_check.specs.Boxes.{beyond, least_counts, lower_side, span_at, up_to, upper_side, whole_box}
 use Rattle.line_check.specs.declared.inequality.Inequality.{Inequality}
 use Rattle.line_check.specs.declared.tested_lines.Tested.{Tested}
-use Rattle.tree_check.specs.Proofs.{FailsAtNode, HasOpenValue, HoldsAtNode, HoldsNode, IsAcceptedProof, IsLeastValue, IsOpenAt, IsUnfounded, VerdictFollows, names_of}
+use Rattle.tree_check.specs.Proofs.{FailsAtNode, HasOpenValue, HoldsAtNode, HoldsNode, IsAcceptedProof, IsLeastValue, IsOpenAt, IsUnfounded, VerdictFollows, names_in_proof}
 use Rattle.tree_check.specs.Trees.{IsNodeOf, IsWhole, TreeBox, boxes_left, sides_of}
 use Rattle.tree_check.specs.declared.nodes.Held.{Held}
 use Rattle.tree_check.specs.declared.nodes.Held.TheVariants.{Settled, Open}
@@ -53,7 +53,7 @@ taken_shape names p cost node old new held shape takes =
 
 module _ (p : Case) (proof : Proof) (tested : List Tested) (all : AreTested p (sources_of proof.cuts proof.lines) tested) where
   abbrev names : ℕ → Inequality → Type 0
-  names = names_of p proof
+  names = names_in_proof p proof
 
   to_tests : (i : ℕ) (line : Inequality) → names i line → names_by tested false i line
   to_tests i line = (all.names false i line).0
@@ -175,13 +175,13 @@ module _ (p : Case) (proof : Proof) where
 
   -- a node that takes no box is the first one that doesn't hold
   pub stops_at : (n : ℕ) (node : Node) (old : List TreeBox) (found : Found) → n < length proof.tree → slice_get proof.tree n ≡ Some node
-      → HasWalked p proof n old found → CannotTake (names_of p proof) p proof.plan.cost node old → IsLeastPlace (FailsAtNode p proof) n
+      → HasWalked p proof n old found → CannotTake (names_in_proof p proof) p proof.plan.cost node old → IsLeastPlace (FailsAtNode p proof) n
   stops_at n node old found lt at walked cannot = (
     (
       lt,
       λ (h : HoldsAtNode p proof n).
           let same : h.node ≡ node = let a = h.is_node.at in let b = at in cc (a, b) in
-          cannot h.box h.is_node.later (walked.left_is ∙ h.is_node.next) (subst (λ (x : Node). HoldsNode (names_of p proof) p proof.plan.cost h.box x) same h.holds),
+          cannot h.box h.is_node.later (walked.left_is ∙ h.is_node.next) (subst (λ (x : Node). HoldsNode (names_in_proof p proof) p proof.plan.cost h.box x) same h.holds),
     ),
     λ j low fails. fails.1 (walked.hold j low),
   )

@@ -44,15 +44,15 @@ HoldsNode names p cost box (Stuck cert evidence) =
     ((value : ℕ) × HasBoxValue names p.links box cert value) × IsFixedBox box × IsEvidenceAt p (least_counts box) evidence
 
 -- the lines that a proof's indices name: those of its cuts, and then its further lines
-abbrev pub names_of : Case → Proof → ℕ → Inequality → Type 0
-names_of p proof = NamesLine p (sources_of proof.cuts proof.lines)
+abbrev pub names_in_proof : Case → Proof → ℕ → Inequality → Type 0
+names_in_proof p proof = NamesLine p (sources_of proof.cuts proof.lines)
 
 -- node i of the list belongs to the tree, and holds
 pub record HoldsAtNode (p : Case) (proof : Proof) (i : ℕ) : Type 0 where
   pub box : TreeBox
   pub node : Node
   pub is_node : IsNodeOf p.links proof.tree i box node
-  pub holds : HoldsNode (names_of p proof) p proof.plan.cost box node
+  pub holds : HoldsNode (names_in_proof p proof) p proof.plan.cost box node
 
 -- node i doesn't hold
 abbrev pub FailsAtNode : Case → Proof → ℕ → Type 0
@@ -75,7 +75,7 @@ pub record IsOpenAt (p : Case) (proof : Proof) (i value : ℕ) : Type 0 where
   pub box : TreeBox
   pub node : Node
   pub is_node : IsNodeOf p.links proof.tree i box node
-  pub has : HasOpenValue (names_of p proof) p.links box node value
+  pub has : HasOpenValue (names_in_proof p proof) p.links box node value
 
 -- the least of the plan's cost and the values of the open leaves
 pub record IsLeastValue (p : Case) (proof : Proof) (least : ℕ) : Type 0 where
