@@ -24,14 +24,14 @@ is_split (Split link at_module number) = true
 is_split _ = false
 
 -- the node that a place of a tree becomes; an open box becomes a spent leaf
-abbrev pub node_of : Twig → Node
-node_of (twig.Settled node) = node
-node_of (twig.Stuck v evidence) = Stuck v.cert evidence
-node_of (twig.Open o) = Spent o.best.cert
+abbrev pub twig_node : Twig → Node
+twig_node (twig.Settled node) = node
+twig_node (twig.Stuck v evidence) = Stuck v.cert evidence
+twig_node (twig.Open o) = Spent o.best.cert
 
 -- a place that isn't a split
 abbrev pub IsLeafTwig : Twig → Type 0
-IsLeafTwig t = is_split (node_of t) ≡ false
+IsLeafTwig t = is_split (twig_node t) ≡ false
 
 -- ---- counts and boxes
 

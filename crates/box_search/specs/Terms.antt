@@ -1,7 +1,7 @@
 -- The words of this crate, with the types of boxes and proofs, passed on from one place to other crates. Declares nothing.
 pub use Rattle.plan_swaps.specs.Terms.{IsTestOf, IsWideSomewhere, whole_caps, IsRoutedPlan, Place}
 pub use Rattle.box_search.specs.Causes.{HasFreeValue, HasPlanValue, IsUnsettled, lines_of_plan}
-pub use Rattle.box_search.specs.Finds.{AreCheaperCounts, AreLow, HaveCounts, IsFoundAt, IsLeafTwig, IsOpenBox, IsSearchBox, IsSettledNode, IsTwigOf, is_split, node_of}
+pub use Rattle.box_search.specs.Finds.{AreCheaperCounts, AreLow, HaveCounts, IsFoundAt, IsLeafTwig, IsOpenBox, IsSearchBox, IsSettledNode, IsTwigOf, is_split, twig_node}
 pub use Rattle.box_search.specs.Searches.{Extends, HasLearned, IsAim, IsKnown, IsOwnCert, IsSearch, IsSoundEntry, aimed, handed_in, most_entries}
 pub use Rattle.plan_swaps.specs.Swaps.{IsCheaperPlan}
 pub use Rattle.proof_order.specs.Orders.{cuts_among, lines_among, moved_certificate, moved_line, moved_multipliers, moved_node, place_of, source_of}

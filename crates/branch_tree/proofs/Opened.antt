@@ -1,7 +1,7 @@
 -- the places of a tree in turn: whether one is open, what nodes they become, and what these show
 use Rattle.std.proofs.Common.{◌≡◌, ◌≢◌, ◌∙◌, ℕ, ◌+◌, ◌<◌, ◌⊎◌, ⊎_elim, List, [], ◌∷◌, ◌++◌, None, Some, Option, MatchOption, append_assoc, map, slice_get, refl, sym, ap, subst, arith}
 use Rattle.net_core.proofs.Library.{cases_eq}
-use Rattle.box_search.specs.Terms.{Node, node_of}
+use Rattle.box_search.specs.Terms.{Node, twig_node}
 use Rattle.branch_tree.specs.inner.Places.{IsOpenPlace, IsOpenTwig}
 use Rattle.branch_tree.specs.inner.Showing.{shown_more, shown_with}
 use Rattle.branch_tree.specs.declared.tree.Ranked.{Ranked}
@@ -52,12 +52,12 @@ module _ (twigs : List Twig) where
 -- ---- the nodes, and what they show
 
 -- one node more
-pub nodes_more : (nodes all : List Node) (left rest : List Twig) (t : Twig) (node : Node) → left ≡ t ∷ rest → nodes ++ map node_of left ≡ all → node ≡ node_of t
-    → (nodes ++ (node ∷ [])) ++ map node_of rest ≡ all
+pub nodes_more : (nodes all : List Node) (left rest : List Twig) (t : Twig) (node : Node) → left ≡ t ∷ rest → nodes ++ map twig_node left ≡ all → node ≡ twig_node t
+    → (nodes ++ (node ∷ [])) ++ map twig_node rest ≡ all
 nodes_more nodes all left rest t node is so_far same =
-    let added : (nodes ++ (node ∷ [])) ++ map node_of rest ≡ nodes ++ (node ∷ map node_of rest) = append_assoc nodes (node ∷ []) (map node_of rest) in
-    let named : nodes ++ (node ∷ map node_of rest) ≡ nodes ++ map node_of (t ∷ rest) = ap (λ (n : Node). nodes ++ (n ∷ map node_of rest)) same in
-    let before : nodes ++ map node_of (t ∷ rest) ≡ nodes ++ map node_of left = ap (λ (l : List Twig). nodes ++ map node_of l) (sym is) in
+    let added : (nodes ++ (node ∷ [])) ++ map twig_node rest ≡ nodes ++ (node ∷ map twig_node rest) = append_assoc nodes (node ∷ []) (map twig_node rest) in
+    let named : nodes ++ (node ∷ map twig_node rest) ≡ nodes ++ map twig_node (t ∷ rest) = ap (λ (n : Node). nodes ++ (n ∷ map twig_node rest)) same in
+    let before : nodes ++ map twig_node (t ∷ rest) ≡ nodes ++ map twig_node left = ap (λ (l : List Twig). nodes ++ map twig_node l) (sym is) in
     added ∙ (named ∙ (before ∙ so_far))
 
 -- one place more is shown

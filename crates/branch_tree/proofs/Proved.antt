@@ -5,7 +5,7 @@ use Rattle.plan_terms.specs.Terms.{Case, CutLine, IsCut}
 use Rattle.plan_types.specs.Terms.{IsCertifiedPlan}
 use Rattle.plan_types.specs.declared.plan.Plan.{Plan}
 use Rattle.box_search.specs.Terms.{IsCheaperPlan, BoxCert, Node, Split, Closed, Empty, Spent, Stuck, Proof, Verdict, is_split, HasPlanValue, IsSettledNode}
-use Rattle.box_search.specs.Terms.{IsTwigOf, node_of}
+use Rattle.box_search.specs.Terms.{IsTwigOf, twig_node}
 use Rattle.tree_check.specs.Terms.{whole_box, HasBoxValue, HasOpenValue, HoldAllNodes, HoldsNode, IsNodeOf, IsOpenAt, VerdictFollows, IsWhole, TreeBox, boxes_left, sides_of, Inequality, Line, Tested}
 use Rattle.tree_check.specs.declared.proof.Verdict.TheVariants.{Cheapest, Above}
 use Rattle.line_check.specs.Terms.{NamesLine, sources_of, AreTested, names_by}
@@ -35,10 +35,10 @@ once_if b = cond b 1 0
 -- what each place becomes by other indices
 module _ (to : ℕ → ℕ) where
   abbrev pub told_node : Twig → Node
-  told_node t = moved_node to (node_of t)
+  told_node t = moved_node to (twig_node t)
 
   told_sides : (box : TreeBox) (t : Twig) → sides_of box (told_node t) ≡ twig_sides box t
-  told_sides box t = moved_sides to box (node_of t)
+  told_sides box t = moved_sides to box (twig_node t)
 
   -- a place of the tree, with its node and its box
   record PlaceAt (is : TreeBox → Twig → Type 0) (boxes : List TreeBox) (twigs : List Twig) (i : ℕ) : Type 0 where
@@ -67,8 +67,8 @@ module _ (to : ℕ → ℕ) where
         arith,
         splits_same ts,
         sum_by-cons (λ (n : Node). cond (is_split n) 1 0) (told_node t) (map told_node ts),
-        sum_by-cons (λ (x : Twig). cond (is_split (node_of x)) 1 0) t ts,
-        ap once_if (moved_split to (node_of t)),
+        sum_by-cons (λ (x : Twig). cond (is_split (twig_node x)) 1 0) t ts,
+        ap once_if (moved_split to (twig_node t)),
       )
 
 verdict_open : (shown : Shown) → shown.unsettled ≡ true → verdict_of shown ≡ Above shown.least
@@ -103,7 +103,7 @@ cause_moved to p plan handed limit tree box (Spent cert) cause = cause
 cause_moved to p plan handed limit tree box (Stuck cert evidence) cause = cause
 
 module _ (p : Case) (plan : Plan) (handed : List CutLine) (entries : List Entry) (tested : List Tested) (n : ℕ) where
-  holds_of : (box : TreeBox) (t : Twig) → IsTwigOf p plan handed tested n box t → HoldsNode (names_by tested false) p plan.cost box (node_of t)
+  holds_of : (box : TreeBox) (t : Twig) → IsTwigOf p plan handed tested n box t → HoldsNode (names_by tested false) p plan.cost box (twig_node t)
   holds_of box (twig.Settled node) is = is.0
   holds_of box (twig.Stuck v evidence) is = ((v.value, is.valued.has), is.fixed, is.form)
   holds_of box (twig.Open o) is = (o.best.value, is.valued.has)
@@ -116,7 +116,7 @@ module _ (p : Case) (plan : Plan) (handed : List CutLine) (entries : List Entry)
   settled_cause limit tree box (Stuck cert evidence) is = absurd is
 
   cause_of : (limit : ℕ) (tree : List Node) (box : TreeBox) (t : Twig) → (((o : OpenBox) → t ≡ twig.Open o → ⊥) ⊎ (split_number tree ≡ limit)) → IsTwigOf p plan handed tested n box t
-      → HasNodeCause p plan handed limit tree box (node_of t)
+      → HasNodeCause p plan handed limit tree box (twig_node t)
   cause_of limit tree box (twig.Settled node) ends is = settled_cause limit tree box node is.1
   cause_of limit tree box (twig.Stuck v evidence) ends is = is.wide
   cause_of limit tree box (twig.Open o) ends is = (⊎_elim (λ (none : (b : OpenBox) → twig.Open o ≡ twig.Open b → ⊥). absurd (none o refl)) (λ reached. reached) ends, is.unfixed, is.unsettled)
@@ -198,7 +198,7 @@ module _ (p : Case) (plan : Plan) (handed : List CutLine) (entries : List Entry)
             box = place.box;
             node = node_told place.of;
             is_node = record { at = place.at; later = place.later; next = place.next };
-            holds = holds_moved (names_by tested false) names_told (place_of entries) by_order p plan.cost place.box (node_of place.of)
+            holds = holds_moved (names_by tested false) names_told (place_of entries) by_order p plan.cost place.box (twig_node place.of)
                 (holds_of place.box place.of place.here);
           }
 
@@ -304,7 +304,7 @@ module _ (p : Case) (plan : Plan) (handed : List CutLine) (entries : List Entry)
           let there = twig_at node_told (told_sides (place_of entries)) known (whole_box p.links ∷ []) twigs i box is_node.later node growing.placed is_node.at is_node.next in
           let splits = growing.splits in
           subst (λ (x : Node). HasNodeCause p plan handed limit (map node_told twigs) box x) there.same
-          (cause_moved (place_of entries) p plan handed limit (map node_told twigs) box (node_of there.twig)
+          (cause_moved (place_of entries) p plan handed limit (map node_told twigs) box (twig_node there.twig)
           (cause_of limit (map node_told twigs) box there.twig
           (⊎_elim
           (λ (settled : AreSettled twigs). inl (λ o same. settled i (record { opened = o; at = there.at ∙ ap (λ (t : Twig). Some t) same })))

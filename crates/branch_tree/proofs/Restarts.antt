@@ -6,7 +6,7 @@ use Rattle.plan_terms.specs.Terms.{Case, CutLine, IsCut, IsSurvivable}
 use Rattle.plan_types.specs.Terms.{IsCertifiedPlan}
 use Rattle.plan_types.specs.declared.plan.Plan.{Plan}
 use Rattle.box_search.specs.Terms.{IsCheaperPlan, BoxCert, Node, Proof, AreCheaperCounts, Extends, HasLearned, IsAim, IsKnown, IsOwnCert, IsSearch}
-use Rattle.box_search.specs.Terms.{IsSoundEntry, aimed, handed_in, most_entries, node_of, IsRoutedPlan, IsTestOf as IsAbleTestOf}
+use Rattle.box_search.specs.Terms.{IsSoundEntry, aimed, handed_in, most_entries, twig_node, IsRoutedPlan, IsTestOf as IsAbleTestOf}
 use Rattle.box_search.specs.Terms.{cuts_among, moved_line, moved_node, place_of, Entry}
 use Rattle.box_search.specs.Terms.entry
 use Rattle.box_search.proofs.Lemmas.{routed_with}
@@ -226,7 +226,7 @@ grown_proof p given plan old new tree limit cheaper certified few was now learne
     is_proof p plan (handed_in old) new.known.entries new.known.tested is.n now.known.tested tree.twigs.items is.growing given limit
     (cuts_sound p new.known.entries now.known.sound) cheaper (first_again p old new was now learned) (certified_still p given plan cheaper certified) is.within few is.ends
 
-told_map : (to : ℕ → ℕ) (ts : List Twig) → map (moved_node to) (map node_of ts) ≡ map (told_node to) ts
+told_map : (to : ℕ → ℕ) (ts : List Twig) → map (moved_node to) (map twig_node ts) ≡ map (told_node to) ts
 told_map to [] = refl
 told_map to (t ∷ ts) = ap (λ (rest : List Node). told_node to t ∷ rest) (told_map to ts)
 

@@ -4,7 +4,7 @@ use Rattle.net_core.proofs.Library.{slice_get_read, slice_get_within, sum_by-app
 use Rattle.plan_terms.specs.Terms.{Case, CutLine}
 use Rattle.plan_types.specs.declared.plan.Plan.{Plan}
 use Rattle.tree_check.specs.Terms.{IsSplitOf, lower_side, upper_side, whole_box, TreeBox, Tested}
-use Rattle.box_search.specs.Terms.{AreCheaperCounts, Split, is_split, IsOpenBox, IsTwigOf, IsLeafTwig, node_of}
+use Rattle.box_search.specs.Terms.{AreCheaperCounts, Split, is_split, IsOpenBox, IsTwigOf, IsLeafTwig, twig_node}
 use Rattle.branch_tree.specs.inner.Growing.{AreSidesOf, IsChoiceOf, IsGrowing, IsGrownTo, IsGrownTree, growth_of}
 use Rattle.branch_tree.specs.inner.Places.{AreTwigsOf, twig_sides, twig_splits}
 use Rattle.branch_tree.specs.declared.choice.Choice.{Choice}
@@ -46,16 +46,16 @@ read_open ts i t o lt read is = slice_get_read ts (length ts) i (twig.Open o) re
 -- ---- numbers of places and splits
 
 abbrev split_count : Twig → ℕ
-split_count t = cond (is_split (node_of t)) 1 0
+split_count t = cond (is_split (twig_node t)) 1 0
 
 no_split : (t : Twig) → IsLeafTwig t → split_count t ≡ 0
 no_split t leaf = ap (λ (b : Bool). cond b 1 0) leaf
 
 splits_cons : (t : Twig) (ts : List Twig) → twig_splits (t ∷ ts) ≡ split_count t + twig_splits ts
-splits_cons t ts = sum_by-cons (λ (x : Twig). cond (is_split (node_of x)) 1 0) t ts
+splits_cons t ts = sum_by-cons (λ (x : Twig). cond (is_split (twig_node x)) 1 0) t ts
 
 splits_append : (ts us : List Twig) → twig_splits (ts ++ us) ≡ twig_splits ts + twig_splits us
-splits_append ts us = sum_by-append (λ (x : Twig). cond (is_split (node_of x)) 1 0) ts us
+splits_append ts us = sum_by-append (λ (x : Twig). cond (is_split (twig_node x)) 1 0) ts us
 
 -- ---- trees
 
@@ -63,7 +63,7 @@ module _ (p : Case) (plan : Plan) (handed : List CutLine) (tested : List Tested)
   -- the tree of one place
   pub root_growing : (root : Twig) → IsTwigOf p plan handed tested 0 (whole_box p.links) root → IsLeafTwig root → IsGrowing p plan handed tested 0 (root ∷ [])
   root_growing root is leaf = record {
-    placed = (is, subst (λ (boxes : List TreeBox). AreTwigsOf (IsTwigOf p plan handed tested 0) (boxes ++ []) []) (sym (leaf_sides (whole_box p.links) (node_of root) leaf)) tt);
+    placed = (is, subst (λ (boxes : List TreeBox). AreTwigsOf (IsTwigOf p plan handed tested 0) (boxes ++ []) []) (sym (leaf_sides (whole_box p.links) (twig_node root) leaf)) tt);
     splits = omega (arith, splits_cons root [], no_split root leaf);
     few = refl;
   }
@@ -87,7 +87,7 @@ module _ (p : Case) (plan : Plan) (handed : List CutLine) (tested : List Tested)
         let here : IsOpenBox p plan handed tested n place o = found.0.here in
         let now : known place new = subst (λ (box : TreeBox). known box new) here.same is in
         let after : AreTwigsOf known (twig_sides place new ++ later) rest =
-        subst (λ (boxes : List TreeBox). AreTwigsOf known (boxes ++ later) rest) (sym (leaf_sides place (node_of new) leaf)) found.0.after in
+        subst (λ (boxes : List TreeBox). AreTwigsOf known (boxes ++ later) rest) (sym (leaf_sides place (twig_node new) leaf)) found.0.after in
         let inside = slice_get_within twigs i (twig.Open o) at in
         let whole = parts_at twigs i (twig.Open o) at in
         let parts = set_parts twigs i new inside in
@@ -135,9 +135,9 @@ module _ (p : Case) (plan : Plan) (handed : List CutLine) (tested : List Tested)
         let below : known low_box lower = subst (λ (box : TreeBox). known (lower_side box c.place.link c.place.module c.at) lower) here.same found_sides.0.0 in
         let above : known high_box upper = subst (λ (box : TreeBox). known (upper_side box c.place.link c.place.module c.at) upper) here.same found_sides.1.0 in
         let after : AreTwigsOf known (twig_sides high_box upper ++ later) rest =
-        subst (λ (boxes : List TreeBox). AreTwigsOf known (boxes ++ later) rest) (sym (leaf_sides high_box (node_of upper) found_sides.1.1)) found.0.after in
+        subst (λ (boxes : List TreeBox). AreTwigsOf known (boxes ++ later) rest) (sym (leaf_sides high_box (twig_node upper) found_sides.1.1)) found.0.after in
         let both : AreTwigsOf known (twig_sides low_box lower ++ high_box ∷ later) (upper ∷ rest) =
-        subst (λ (boxes : List TreeBox). AreTwigsOf known (boxes ++ high_box ∷ later) (upper ∷ rest)) (sym (leaf_sides low_box (node_of lower) found_sides.0.1)) (above, after) in
+        subst (λ (boxes : List TreeBox). AreTwigsOf known (boxes ++ high_box ∷ later) (upper ∷ rest)) (sym (leaf_sides low_box (twig_node lower) found_sides.0.1)) (above, after) in
         let inside = slice_get_within twigs i (twig.Open o) at in
         let whole = parts_at twigs i (twig.Open o) at in
         let parts : set (insert (insert twigs (i + 1) upper) (i + 1) lower) i top ≡ take i twigs ++ top ∷ lower ∷ upper ∷ rest = rw add-one (insert_parts twigs i top lower upper inside) in

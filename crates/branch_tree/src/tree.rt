@@ -1,6 +1,6 @@
 ghost use Rattle.std.specs.Prelude.{◌≡◌, ◌+◌, ◌<◌, ◌⊎◌, [], ◌∷◌, true, min, IfOk, MatchOption, None, OnOk, insert, length, map, slice_set};
 ghost use Rattle.branch_tree.specs.inner.Places.{AreSettled, IsOpenPlace, IsOpenTwig};
-ghost use Rattle.box_search.specs.Finds.{node_of};
+ghost use Rattle.box_search.specs.Finds.{twig_node};
 ghost use Rattle.branch_tree.specs.inner.Showing.{all_shown, shown_with, verdict_of};
 
 use box_search::{OpenBox, Twig};
@@ -159,7 +159,7 @@ fn with_open(shown: Shown, value: u128) -> Shown
 
 /// The node of a twig, and what is shown together with it. An open box becomes a spent leaf.
 fn node_of(twig: Twig, shown: Shown) -> (Node, Shown)
-    ensures node { result.0 ≡ node_of twig }
+    ensures node { result.0 ≡ twig_node twig }
     ensures shown { result.1 ≡ shown_with shown twig }
 {
     match twig {
@@ -192,7 +192,7 @@ pub(crate) fn finished(
     tree: Tree,
     cost: u128,
 ) -> Result<(List<Node>, Verdict), NoMemory>
-    ensures nodes { IfOk result (λ r. r.0 ≡ map node_of tree.twigs.items) }
+    ensures nodes { IfOk result (λ r. r.0 ≡ map twig_node tree.twigs.items) }
     ensures verdict { IfOk result (λ r. r.1 ≡ verdict_of (all_shown cost tree.twigs.items)) }
 {
     let mut nodes = List::new(alloc);

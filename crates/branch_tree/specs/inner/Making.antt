@@ -2,7 +2,7 @@
 use Rattle.std.specs.Prelude.{◌≡◌, ℕ, ◌≤◌, ◌⊎◌, Bool, false, List, [], length, map, take}
 use Rattle.plan_terms.specs.Terms.{Case, CutLine}
 use Rattle.plan_types.specs.declared.plan.Plan.{Plan}
-use Rattle.box_search.specs.Terms.{Proof, node_of, cuts_among, lines_among, moved_line, moved_node, place_of, Entry}
+use Rattle.box_search.specs.Terms.{Proof, twig_node, cuts_among, lines_among, moved_line, moved_node, place_of, Entry}
 use Rattle.box_search.specs.Terms.entry
 use Rattle.branch_tree.specs.Proving.{IsProofOf}
 use Rattle.branch_tree.specs.inner.Showing.{all_shown, verdict_of}
@@ -18,7 +18,7 @@ pub record IsProofMade (plan : Plan) (entries : List Entry) (twigs : List Twig) 
   pub plan_is : proof.plan ≡ plan
   pub cuts : proof.cuts ≡ cuts_among entries
   pub lines : proof.lines ≡ map (moved_line (place_of entries)) (lines_among entries)
-  pub tree : proof.tree ≡ map (moved_node (place_of entries)) (map node_of twigs)
+  pub tree : proof.tree ≡ map (moved_node (place_of entries)) (map twig_node twigs)
   pub verdict : proof.verdict ≡ verdict_of (all_shown plan.cost twigs)
 
 -- the result of a search, without lines where none are made

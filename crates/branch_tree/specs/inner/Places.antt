@@ -1,7 +1,7 @@
 -- places of growing trees, and their boxes
 use Rattle.std.specs.Prelude.{◌≡◌, ℕ, List, Some, count_by, slice_get}
 use Rattle.tree_check.specs.Trees.{TreeBox, sides_of}
-use Rattle.box_search.specs.Finds.{is_split, node_of}
+use Rattle.box_search.specs.Finds.{is_split, twig_node}
 use Rattle.branch_tree.specs.inner.Preorder.{ArePlaced}
 use Rattle.box_search.specs.declared.twigs.OpenBox.{OpenBox}
 use Rattle.box_search.specs.declared.twigs.Twig.{Twig}
@@ -9,7 +9,7 @@ use Rattle.box_search.specs.declared.twigs.Twig.TheVariants as twig
 
 -- the boxes of the two sides, if the place is a split
 abbrev pub twig_sides : TreeBox → Twig → List TreeBox
-twig_sides box t = sides_of box (node_of t)
+twig_sides box t = sides_of box (twig_node t)
 
 -- places in preorder that take these boxes in turn, and use them up
 abbrev pub AreTwigsOf : (TreeBox → Twig → Type 0) → List TreeBox → List Twig → Type 0
@@ -17,7 +17,7 @@ AreTwigsOf = ArePlaced twig_sides
 
 -- how many of the places are splits
 abbrev pub twig_splits : List Twig → ℕ
-twig_splits twigs = count_by (λ t. is_split (node_of t)) twigs
+twig_splits twigs = count_by (λ t. is_split (twig_node t)) twigs
 
 -- the place is an open box
 abbrev pub IsOpenTwig : Twig → Type 0

@@ -1,6 +1,6 @@
 use Rattle.std.proofs.Common.{ap, arith, length, map}
 use Rattle.std.specs.Vec.Iter.{into_iter_items}
-use Rattle.box_search.specs.Finds.{node_of}
+use Rattle.box_search.specs.Finds.{twig_node}
 use Rattle.branch_tree.specs.inner.Showing.{all_shown}
 use Rattle.branch_tree.proofs.Opened.{more_shown, nodes_more}
 use Rattle.branch_tree.proofs.tree.finished.Goals as goal
@@ -13,7 +13,7 @@ loop-twig-preserved c =
     let t = c.in-Some.twig in
     let step = c.in-Some.ensures.steps in
     let so_far = c.loop-twig.invariant in (
-      rw c.in_ok-push.ensures.ok (nodes_more c.loop-twig.nodes (map node_of twigs) left rest t c.node_of-node.result.0 step.0 so_far.0 c.node_of-node.ensures.node),
+      rw c.in_ok-push.ensures.ok (nodes_more c.loop-twig.nodes (map twig_node twigs) left rest t c.node_of-node.result.0 step.0 so_far.0 c.node_of-node.ensures.node),
       more_shown c.loop-twig.shown c.node_of-node.result.1 (all_shown c.args.cost twigs) left rest t step.0 so_far.1 c.node_of-node.ensures.shown,
       omega (arith, step.1, so_far.2, ap length step.0),
     )
