@@ -10,7 +10,7 @@ use Rattle.text_kit.specs.declared.refusal.Refusal.{Refusal}
 use Rattle.text_kit.proofs.Lemmas.{all_after, after_all, amount_again, amount_takes, answer_found, answer_only, answer_first, AnyText, IsEnd, Lawful, lawful_as, lawful_key, lawful_list, lawful_open, lawful_whole, lawful_word, if_ok, ok_is}
 use Rattle.plan_report.specs.Terms.{numbered_from, KnownNames, node_name, state_name}
 use Rattle.report_words.specs.declared.fault.ReportKind.{ReportKind}
-use Rattle.report_words.specs.Terms.{as_node, has_room, node_of_word, place_of}
+use Rattle.report_words.specs.Terms.{as_node, has_room, node_of_word, place_named}
 use Rattle.report_words.proofs.Lemmas.{few_rooms, is_length, lawful_placed, length_is, numbered_items, rooms_few, law_made, made_last, made_law, made_then, AreApart, demand_within_law, link_law, place_again, place_takes, this_name_law}
 use Rattle.report_parts.proofs.ModuleLaws.{IsSound, all_counts_law}
 use Rattle.flow_file.specs.declared.fault.FlowsKind.{FlowsKind}
@@ -76,7 +76,7 @@ end_law : (nodes : List (List ℕ)) (o : Option Link) → AllPairs (λ x y. x �
 end_law nodes o pairs = lawful_word Token Ended (end_of nodes o) (λ n. Verbatim (node_name nodes n)) (λ n. IsEndOf o n × (n.0 < length nodes)) (λ n. tt)
     (λ w n e.
     let a = end_takes o (node_of_word nodes w) n e in
-    let b = place_takes (λ (x : List ℕ). x) nodes [] w n.0 (node_takes (place_of (λ x. x) nodes w) n a.1) in
+    let b = place_takes (λ (x : List ℕ). x) nodes [] w n.0 (node_takes (place_named (λ x. x) nodes w) n a.1) in
     ((a.0, b.0), b.1))
     (λ w n is same. ap (end_or_fault o) (ap as_node (place_again (λ (x : List ℕ). x) nodes [] pairs w n.0 is.1 same)) ∙ end_again o n is.0)
 

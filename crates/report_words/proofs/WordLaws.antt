@@ -18,7 +18,7 @@ use Rattle.text_kit.proofs.Spelled.{Lawful}
 use Rattle.plan_report.specs.Terms.{demand_name, link_name, node_name}
 use Rattle.report_words.specs.declared.fault.ReportKind.{ReportKind}
 use Rattle.report_words.specs.declared.fault.ReportKind.TheVariants.{Token, Ended, Number, LimitName, DoubleName, Limit}
-use Rattle.report_words.specs.ReportWords.{amount_at, as_link, as_node, below, closing_at, demand_at, demand_of, demand_within, has_room, keyword_at, keyword_within, link_at, link_of, money_at, money_below, name_at, new_demand, node_at, node_of_word, number_at, opening_at, opening_within, passed, place_of, this_name, this_name_at, this_number, this_number_at, unknown_name, where_room, whole_within, within}
+use Rattle.report_words.specs.ReportWords.{amount_at, as_link, as_node, below, closing_at, demand_at, demand_of, demand_within, has_room, keyword_at, keyword_within, link_at, link_of, money_at, money_below, name_at, new_demand, node_at, node_of_word, number_at, opening_at, opening_within, passed, place_named, this_name, this_name_at, this_number, this_number_at, unknown_name, where_room, whole_within, within}
 
 -- ---- room
 
@@ -134,19 +134,19 @@ name_law = lawful_any_name Token Ended LimitName
 
 -- a place of a name, where all names are different
 module _ {X : Type 0} (name_of : X → List ℕ) (xs : List X) (d : X) where
-  pub place_takes : (w : List ℕ) (i : ℕ) → place_of name_of xs w ≡ Ok i → (i < length xs) × (w ≡ name_of (get_or xs i d))
+  pub place_takes : (w : List ℕ) (i : ℕ) → place_named name_of xs w ≡ Ok i → (i < length xs) × (w ≡ name_of (get_or xs i d))
   place_takes w i e =
       let p = position-Some (λ x. are_same (name_of x) w) xs i d (found_takes (unknown_name w) (position (λ x. are_same (name_of x) w) xs) i e) in
       (p.0, sym (same_is (name_of (get_or xs i d)) w p.1))
 
-  pub place_again : AllPairs (λ x y. name_of x ≢ name_of y) xs → (w : List ℕ) (i : ℕ) → i < length xs → w ≡ name_of (get_or xs i d) → place_of name_of xs w ≡ Ok i
+  pub place_again : AllPairs (λ x y. name_of x ≢ name_of y) xs → (w : List ℕ) (i : ℕ) → i < length xs → w ≡ name_of (get_or xs i d) → place_named name_of xs w ≡ Ok i
   place_again pairs w i lt same =
       let name = name_of (get_or xs i d) in
       let first : position_or_len (λ x. are_same (name_of x) name) xs ≡ i =
       position_or_len_is (λ x. are_same (name_of x) name) xs i d (omega (arith, lt))
       (λ k under. differ (name_of (get_or xs k d)) name (λ equal. pairs k i d under lt equal))
       (λ under. is_same name) in
-      ap (place_of name_of xs) same ∙ rw (first, lt-ltb i (length xs) lt) refl
+      ap (place_named name_of xs) same ∙ rw (first, lt-ltb i (length xs) lt) refl
 
 abbrev no_link : Link
 no_link = record { name = []; a = record { 0 = 0 }; b = record { 0 = 0 }; fixed = 0; setup = 0; modules = [] }
@@ -161,7 +161,7 @@ as_link_takes (Err kind) e h = absurd cc
 pub link_law : (links : List Link) → AllPairs (λ x y. x.name ≢ y.name) links → Lawful (link_at links) (λ e. Verbatim (link_name links e) ∷ []) (λ e. e.0 < length links) AnyText
 link_law links pairs = lawful_word Token Ended (link_of links) (λ e. Verbatim (link_name links e)) (λ e. e.0 < length links) (λ e. tt)
     (λ w e h.
-    let t = place_takes (λ (l : Link). l.name) links no_link w e.0 (as_link_takes (place_of (λ l. l.name) links w) e h) in
+    let t = place_takes (λ (l : Link). l.name) links no_link w e.0 (as_link_takes (place_named (λ l. l.name) links w) e h) in
     (t.0, t.1 ∙ sym (link_name_at links e t.0)))
     (λ w e lt same. ap as_link (place_again (λ (l : Link). l.name) links no_link pairs w e.0 lt (same ∙ link_name_at links e lt)))
 
@@ -171,7 +171,7 @@ as_node_takes (Err kind) n h = absurd cc
 
 pub node_law : (nodes : List (List ℕ)) → AllPairs (λ x y. x ≢ y) nodes → Lawful (node_at nodes) (λ n. Verbatim (node_name nodes n) ∷ []) (λ n. n.0 < length nodes) AnyText
 node_law nodes pairs = lawful_word Token Ended (node_of_word nodes) (λ n. Verbatim (node_name nodes n)) (λ n. n.0 < length nodes) (λ n. tt)
-    (λ w n h. place_takes (λ (x : List ℕ). x) nodes [] w n.0 (as_node_takes (place_of (λ x. x) nodes w) n h))
+    (λ w n h. place_takes (λ (x : List ℕ). x) nodes [] w n.0 (as_node_takes (place_named (λ x. x) nodes w) n h))
     (λ w n lt same. ap as_node (place_again (λ (x : List ℕ). x) nodes [] pairs w n.0 lt same))
 
 abbrev no_demand : Demand

@@ -60,8 +60,8 @@ abbrev pub unknown_name : List ℕ → ReportKind
 unknown_name w = if nat_lt 255 (length w) then LimitName else UnknownName
 
 -- the place of the first of these that has the name
-abbrev pub place_of : {X : Type 0} → (X → List ℕ) → List X → List ℕ → Result ℕ ReportKind
-place_of name_of xs w = found_or (unknown_name w) (position (λ x. are_same (name_of x) w) xs)
+abbrev pub place_named : {X : Type 0} → (X → List ℕ) → List X → List ℕ → Result ℕ ReportKind
+place_named name_of xs w = found_or (unknown_name w) (position (λ x. are_same (name_of x) w) xs)
 
 -- this very name
 abbrev pub this_name : List ℕ → List ℕ → Result (Unit {0}) ReportKind
@@ -77,13 +77,13 @@ as_node (Ok n) = Ok (record { 0 = n })
 as_node (Err kind) = Err kind
 
 abbrev pub link_of : List Link → List ℕ → Result LinkId ReportKind
-link_of links w = as_link (place_of (λ l. l.name) links w)
+link_of links w = as_link (place_named (λ l. l.name) links w)
 
 abbrev pub node_of_word : List (List ℕ) → List ℕ → Result NodeId ReportKind
-node_of_word nodes w = as_node (place_of (λ n. n) nodes w)
+node_of_word nodes w = as_node (place_named (λ n. n) nodes w)
 
 abbrev pub demand_of : List Demand → List ℕ → Result ℕ ReportKind
-demand_of demands w = place_of (λ d. d.name) demands w
+demand_of demands w = place_named (λ d. d.name) demands w
 
 -- a name that no earlier demand of the plan has
 abbrev pub new_demand : List Demand → List ℕ → Result (List ℕ) ReportKind
