@@ -1,7 +1,7 @@
 -- Reading the demands, the modules and the certificate of a plan.
 use Rattle.std.specs.Prelude.{ℕ, ◌+◌, ◌^◌, nat_lt, ◌&&◌, List, [], ◌∷◌, ◌++◌, length, Option, Some, None, Result, Ok, Err, slice_get, codes}
 use Rattle.plan_terms.specs.Terms.{Demand, NodeId, Link, Places, CutLine, modules_capacity}
-use Rattle.text_kit.specs.Terms.{Reading, ◌>>=◌, give, list_at, no_fault, of_length, Parenthesis, word_at}
+use Rattle.text_kit.specs.Terms.{Reading, ◌>>=◌, give, list_at, mapped, no_fault, of_length, Parenthesis, word_at}
 use Rattle.plan_report.specs.Terms.{line_lengths, line_state, KnownNames, CertLine, Certificate, Pool, Local}
 use Rattle.report_words.specs.declared.fault.ReportKind.{ReportKind}
 use Rattle.report_words.specs.declared.fault.ReportKind.TheVariants.{Token, Ended, Limit}
@@ -76,9 +76,7 @@ abbrev pub of_line : List CutLine → ℕ → SpotCut
 of_line pool i = record { spot = Pool i; state = record { 0 = line_state (slice_get pool i) }; lengths = line_lengths (slice_get pool i) }
 
 unfoldable pub pool_spot_at : List CutLine → Reading ReportKind SpotCut
-pool_spot_at pool = do
-  i ← number_at 0 (length pool)
-  give (of_line pool i)
+pool_spot_at pool = mapped (of_line pool) (number_at 0 (length pool))
 
 unfoldable pub local_spot_at : KnownNames → Reading ReportKind SpotCut
 local_spot_at names = do

@@ -4,7 +4,7 @@ use Rattle.plan_terms.specs.Terms.{Evidence, Route, Master, MasterColumn, RouteC
 use Rattle.net_core.specs.declared.columns.MasterColumn.TheVariants as master
 use Rattle.net_core.specs.declared.columns.RouteColumn.TheVariants as route
 use Rattle.net_core.specs.declared.columns.WideKind.TheVariants as wide
-use Rattle.text_kit.specs.Terms.{Reading, ◌>>=◌, give, list_at, of_length, Parenthesis}
+use Rattle.text_kit.specs.Terms.{Reading, ◌>>=◌, give, list_at, mapped, of_length, Parenthesis}
 use Rattle.plan_report.specs.Terms.{KnownNames, Wide, Cuts, Fractional, Quality, Tight, Loose}
 use Rattle.report_words.specs.declared.fault.ReportKind.{ReportKind}
 use Rattle.report_words.specs.declared.fault.ReportKind.TheVariants.{Limit}
@@ -14,14 +14,10 @@ use Rattle.report_parts.specs.ReadingRoutings.{path_at, routings_at}
 -- ---- columns
 
 unfoldable pub slack_at : List Link → Reading ReportKind RouteColumn
-slack_at links = do
-  e ← link_at links
-  give (route.LinkSlack e)
+slack_at links = mapped route.LinkSlack (link_at links)
 
 unfoldable pub left_at : List Demand → Reading ReportKind RouteColumn
-left_at demands = do
-  k ← demand_at demands
-  give (route.DemandSlack k)
+left_at demands = mapped route.DemandSlack (demand_at demands)
 
 unfoldable pub carry_at : List Link → List Demand → Reading ReportKind RouteColumn
 carry_at links demands = do
@@ -36,9 +32,7 @@ abbrev pub route_column_at : List Link → List Demand → Bool → Reading Repo
 route_column_at links demands room = branch_within room (route_column_branches links demands)
 
 unfoldable pub price_at : List Link → Reading ReportKind MasterColumn
-price_at links = do
-  e ← link_at links
-  give (master.LinkSlack e)
+price_at links = mapped master.LinkSlack (link_at links)
 
 unfoldable pub metric_at : KnownNames → Reading ReportKind MasterColumn
 metric_at names = do
@@ -59,14 +53,10 @@ basis_at column rows = opening_at >>= λ _. list_at Parenthesis (of_length rows 
 -- ---- what is too wide
 
 unfoldable pub wide_number_at : {C : Type 0} → (Bool → Reading ReportKind C) → Reading ReportKind (WideKind C)
-wide_number_at column = do
-  c ← column true
-  give (wide.Number c)
+wide_number_at column = mapped wide.Number (column true)
 
 unfoldable pub wide_row_at : {C : Type 0} → ℕ → Reading ReportKind (WideKind C)
-wide_row_at rows = do
-  i ← number_at 0 (rows + 1)
-  give (wide.Row i)
+wide_row_at rows = mapped wide.Row (number_at 0 (rows + 1))
 
 unfoldable pub wide_entry_at : {C : Type 0} → (Bool → Reading ReportKind C) → ℕ → Reading ReportKind (WideKind C)
 wide_entry_at column rows = do
@@ -75,14 +65,10 @@ wide_entry_at column rows = do
   give (wide.Product i c)
 
 unfoldable pub wide_sum_at : {C : Type 0} → ℕ → Reading ReportKind (WideKind C)
-wide_sum_at rows = do
-  i ← number_at 0 (rows + 1)
-  give (wide.Sum i)
+wide_sum_at rows = mapped wide.Sum (number_at 0 (rows + 1))
 
 unfoldable pub wide_length_at : List Link → Reading ReportKind (WideKind RouteColumn)
-wide_length_at links = do
-  e ← link_at links
-  give (wide.Length e)
+wide_length_at links = mapped wide.Length (link_at links)
 
 abbrev pub route_wide_branches : (Bool → Reading ReportKind RouteColumn) → List Link → ℕ → Branches (WideKind RouteColumn)
 route_wide_branches column links rows = (codes "number", wide_number_at column) ∷ (codes "row", wide_row_at rows) ∷ (codes "entry", wide_entry_at column rows)
@@ -140,14 +126,10 @@ fractional_at names demands = do
   give (record { share = record { scale = scale; units = units }; routings = routings })
 
 unfoldable pub tight_at : KnownNames → List Demand → Reading ReportKind Quality
-tight_at names demands = do
-  f ← fractional_at names demands
-  give (Tight f)
+tight_at names demands = mapped Tight (fractional_at names demands)
 
 unfoldable pub too_wide_at : KnownNames → List Demand → Reading ReportKind Quality
-too_wide_at names demands = do
-  evidence ← evidence_at names demands
-  give (Loose (Wide evidence))
+too_wide_at names demands = mapped (λ evidence. Loose (Wide evidence)) (evidence_at names demands)
 
 abbrev pub loose_branches : KnownNames → List Demand → Branches Quality
 loose_branches names demands = (codes "cuts", give (Loose Cuts)) ∷ (codes "wide", too_wide_at names demands) ∷ []
