@@ -1,7 +1,7 @@
 -- Reading the notes, the journal and the pool of a report.
 use Rattle.std.specs.Prelude.{ℕ, ◌+◌, ◌^◌, Bool, true, false, List, [], ◌∷◌, length, Ok, codes}
 use Rattle.plan_terms.specs.Terms.{Edit, Set, Add, Drop, Entry, Edited, Pooled, Reply, Accepted, UnknownDemand, KnownDemand, UnknownNode, SelfDemand, TooMany, TooMuch, Notes, Places, CutLine}
-use Rattle.text_kit.specs.Terms.{Reading, ◌>>=◌, give, list_at, no_fault, Parenthesis}
+use Rattle.text_kit.specs.Terms.{Reading, ◌>>=◌, give, list_at, mapped, no_fault, Parenthesis}
 use Rattle.plan_report.specs.Terms.{KnownNames}
 use Rattle.report_words.specs.declared.fault.ReportKind.{ReportKind}
 use Rattle.report_words.specs.Terms.{amount_at, closing_at, has_room, money_at, name_at, number_at, opening_at, opening_within, this_number_at, field_at, Branches, branch_at, branch_or, numbers_at}
@@ -61,9 +61,7 @@ add_at p = do
   give (Add name ends.0 ends.1 need)
 
 unfoldable pub drop_at : Reading ReportKind Edit
-drop_at = do
-  name ← name_at
-  give (Drop name)
+drop_at = mapped Drop name_at
 
 abbrev pub edit_branches : Places → Branches Edit
 edit_branches p = (codes "set", set_at p) ∷ (codes "add", add_at p) ∷ (codes "drop", drop_at) ∷ []
@@ -72,14 +70,10 @@ abbrev pub edit_at : Places → Reading ReportKind Edit
 edit_at p = branch_at (edit_branches p)
 
 unfoldable pub accepted_at : Reading ReportKind Reply
-accepted_at = do
-  version ← number_at 0 65537
-  give (Accepted version)
+accepted_at = mapped Accepted (number_at 0 65537)
 
 unfoldable pub too_much_at : Places → Reading ReportKind Reply
-too_much_at p = do
-  total ← money_at p (2 ^ 45)
-  give (TooMuch total)
+too_much_at p = mapped TooMuch (money_at p (2 ^ 45))
 
 abbrev pub reply_branches : Places → Branches Reply
 reply_branches p = (codes "accepted", accepted_at) ∷ (codes "unknown-demand", give UnknownDemand) ∷ (codes "known-demand", give KnownDemand)
@@ -98,9 +92,7 @@ edited_at p = do
 
 -- a cut of the pool, which comes later: its place alone
 unfoldable pub pooled_at : Reading ReportKind Entry
-pooled_at = do
-  index ← number_at 0 4096
-  give (Pooled index (record { 0 = 0 }) [])
+pooled_at = mapped (λ index. Pooled index (record { 0 = 0 }) []) (number_at 0 4096)
 
 abbrev pub event_branches : Places → Branches Entry
 event_branches p = (codes "caller", edited_at p) ∷ (codes "cut", pooled_at) ∷ []
