@@ -7,7 +7,6 @@ use Rattle.separator.specs.Terms.{IsRouted}
 use Rattle.able_counts.proofs.FoundForms.{routing_found}
 use Rattle.able_counts.specs.AbleTests.{AreKeptOrWithin, AreRoutingsWithin, IsRoutingWithin, IsStopAt}
 use Rattle.able_counts.specs.declared.stop.Stop.{Stop}
-use Rattle.able_counts.specs.declared.stop.Stop.TheVariants as stop
 
 module _ (p : Case) (nums : List ℕ) where
   pub kept_none : (a : List Routing) → AreKeptOrWithin p nums a a

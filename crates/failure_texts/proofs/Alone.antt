@@ -1,5 +1,5 @@
 -- a case whose list of states is one link's failure, or none
-use Rattle.std.proofs.Common.{◌≡◌, ℕ, ◌≤◌, List, [], ◌∷◌, MatchOption, None, Option, Some, subst, arith}
+use Rattle.std.proofs.Common.{◌≡◌, ℕ, List, [], ◌∷◌, MatchOption, None, Option, Some, subst, arith}
 use Rattle.failure_states.specs.declared.separations.Separation.{Separation}
 use Rattle.plan_terms.specs.Terms.{Demand, IsFirstSeparation, IsSurvivable, Link, Listed, Network, case, single_state, States}
 use Rattle.failure_texts.specs.Fates.{alone, with_states}

@@ -1,5 +1,5 @@
 -- states that a network survives one by one, it survives in one list
-use Rattle.std.proofs.Common.{◌≡◌, ℕ, zero, suc, ◌+◌, ◌<◌, ◌≤◌, false, List, [], ◌∷◌, All, get_or, length, refl, sym, ap, arith, slice_get, ◌∙◌}
+use Rattle.std.proofs.Common.{◌≡◌, ℕ, zero, suc, ◌<◌, false, List, [], ◌∷◌, All, get_or, length, refl, sym, ap, arith, ◌∙◌}
 use Rattle.net_core.proofs.Library.{option_map_or, slice_get-get_or}
 use Rattle.plan_terms.specs.Terms.{Demand, IsSurvivable, Joins, Listed, Network, Separates, fails, graph_in, names_link}
 use Rattle.plan_terms.proofs.Lemmas.{path_alike}

@@ -1,5 +1,5 @@
 -- demands with different names are new, one after another
-use Rattle.std.proofs.Common.{◌≡◌, ◌≢◌, ℕ, suc, ◌<◌, Bool, true, false, List, ◌∷◌, ◌++◌, length, map, take, drop, get_or, AllPairs, sym, ap, subst, ◌∙◌, drop-cons, take-append-drop}
+use Rattle.std.proofs.Common.{◌≡◌, ◌≢◌, ℕ, suc, ◌<◌, true, false, List, ◌∷◌, ◌++◌, length, map, take, drop, get_or, AllPairs, sym, ap, subst, ◌∙◌, drop-cons, take-append-drop}
 use Rattle.plan_terms.specs.Terms.{is_named, Demand}
 use Rattle.net_core.proofs.Accepted.{new_name}
 use Rattle.report_words.proofs.Lemmas.{named_among}
