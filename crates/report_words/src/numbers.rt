@@ -26,10 +26,11 @@ pub fn of_length<X>(count: usize, all: &[X]) -> Option<ReportKind>
     Some(ReportKind::Limit)
 }
 
-/// One length below 2^32 for each link.
+/// One length below 2^32 for each link, as elements of a list. One that is out of that range, or one too many or too few, is `limit`.
 #[derive(Clone, Copy)]
-struct LengthList {
-    count: usize,
+pub struct LengthList {
+    /// The number of links.
+    pub count: usize,
 }
 
 impl Element for LengthList {
