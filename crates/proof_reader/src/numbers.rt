@@ -6,8 +6,8 @@ use crate::run::Stop;
 use net_core::{Lengths, List};
 use report_words::element::{Element, list_to};
 use report_words::fault::{ReportKind, ReportRefusal};
-use report_words::numbers::of_length;
-use report_words::words::{medium, next_number, small};
+use report_words::numbers::LengthList;
+use report_words::words::{medium, small};
 use snd_tokens::Cursor;
 use std::alloc::Global;
 use tree_check::Multiplier;
@@ -15,33 +15,6 @@ use tree_check::Multiplier;
 const SMALL_LIMIT: u128 = 1 << 32;
 
 const MEDIUM_LIMIT: u128 = 1 << 64;
-
-/// One length below 2^32 for each link.
-#[derive(Clone, Copy)]
-struct LengthRun {
-    count: usize,
-}
-
-impl Element for LengthRun {
-    ghost use Rattle.std.specs.Prelude.{◌^◌};
-    ghost use Rattle.text_kit.specs.Terms.{of_length};
-    ghost use Rattle.report_words.specs.ReportChoices.{next_number_at};
-    ghost use Rattle.report_words.specs.declared.fault.ReportKind.TheVariants.{Limit};
-
-    type Item = u32;
-
-    ghost reading = { λ l. next_number_at l.count (2 ^ 32) };
-
-    ghost fault = { λ l. of_length l.count Limit };
-
-    fn take(&self, _alloc: Global, sofar: &[u32], text: &mut Cursor) -> Result<u32, ReportRefusal> {
-        Ok(next_number(sofar.len() < self.count, SMALL_LIMIT, text)? as u32)
-    }
-
-    fn fault(&self, all: &[u32]) -> Option<ReportKind> {
-        of_length(self.count, all)
-    }
-}
 
 /// Weights below 2^32.
 #[derive(Clone, Copy)]
@@ -119,7 +92,7 @@ pub(crate) fn lengths(
 ) -> Result<Lengths, ReportRefusal>
     ensures { ReadsAs (λ l. l) result (left text.new) (lengths_at count (left text.old)) }
 {
-    list_to(alloc, &LengthRun { count }, &Stop::LineEnd, text)
+    list_to(alloc, &LengthList { count }, &Stop::LineEnd, text)
 }
 
 /// Takes weights, up to the end of the line.
