@@ -1,21 +1,9 @@
 -- sums over the lines of a certificate, line by line
-use Rattle.std.proofs.Common.{◌≡◌, ℕ, ◌+◌, ◌*◌, ◌<◌, List, [], ◌∷◌, get_or, length, map, take, refl, sym, ◌∙◌, arith, sum_by}
-use Rattle.net_core.proofs.Library.{sum_by-cons, sum_by_more}
-use Rattle.line_check.specs.Terms.{Multiplier, WeightedLine, test_at, weighed}
-use Rattle.tree_check.specs.BoxValues.{asked_right, given_free}
+use Rattle.std.proofs.Common.{◌≡◌, ℕ, ◌+◌, ◌*◌, ◌<◌, List, get_or, length, take}
+use Rattle.line_check.specs.Terms.{Multiplier, test_at, weighed}
 use Rattle.line_check.specs.declared.tested_lines.Tested.{Tested}
-
-sum_mapped : {X Y : Type 0} (f : Y → ℕ) (g : X → Y) (xs : List X) → sum_by f (map g xs) ≡ sum_by (λ x. f (g x)) xs
-sum_mapped f g [] = refl
-sum_mapped f g (x ∷ xs) = omega (arith, sum_by-cons f (g x) (map g xs), sum_by-cons (λ y. f (g y)) x xs, sum_mapped f g xs)
-
--- a line more
-line_more : (f : WeightedLine → ℕ) (tested : List Tested) (ms : List Multiplier) (i : ℕ) (d : Multiplier) → i < length ms
-    → sum_by f (weighed tested (take (i + 1) ms)) ≡ sum_by f (weighed tested (take i ms)) + f (record { line = (test_at tested (get_or ms i d).cut).line; num = (get_or ms i d).num })
-line_more f tested ms i d lt =
-    sum_mapped f (λ (m : Multiplier). record { line = (test_at tested m.cut).line; num = m.num }) (take (i + 1) ms)
-    ∙ sum_by_more (λ (m : Multiplier). f (record { line = (test_at tested m.cut).line; num = m.num })) ms i d lt
-    ∙ sym (omega (arith, sum_mapped f (λ (m : Multiplier). record { line = (test_at tested m.cut).line; num = m.num }) (take i ms)))
+use Rattle.line_check.proofs.WeighedSums.{line_more}
+use Rattle.tree_check.specs.BoxValues.{asked_right, given_free}
 
 pub asked_more : (tested : List Tested) (ms : List Multiplier) (i : ℕ) (d : Multiplier) → i < length ms
     → asked_right (weighed tested (take (i + 1) ms)) ≡ asked_right (weighed tested (take i ms)) + (get_or ms i d).num * (test_at tested (get_or ms i d).cut).line.right
