@@ -4,7 +4,7 @@ use Rattle.std.proofs.lemmas.Grind.{same_number_lists}
 use Rattle.net_core.proofs.Library.{All-get_or, get_or-map, get_or-replicate, ints, length-map, length-replicate, unsigned_abs-mul, *ℤ-zero, ◌∣◌, get_or-map-range_with_len, length-map-range_with_len, range_with_len}
 use Rattle.checked_fraction.specs.Terms.{IsInLowestTerms, num}
 use Rattle.checked_fraction.specs.declared.row.Row.{Row}
-use Rattle.checked_fraction.proofs.Products.{positive_product, regroup}
+use Rattle.checked_fraction.proofs.Products.{cancelled, positive_product, regroup}
 use Rattle.module_prices.specs.declared.cheapest.UnitPair.{UnitPair}
 use Rattle.plan_terms.specs.Terms.{Caps, CutLine, Link, IsModule}
 use Rattle.plan_types.specs.declared.quality.Share.{Share}
@@ -27,16 +27,6 @@ use Rattle.length_master.proofs.Scaling.{taken}
 
 abbrev caps_at : ℕ → List ℕ → Caps
 caps_at scale nums = record { scale = scale; nums = nums }
-
--- a positive factor is left out of an equation
-eq_cancel : (g a b : ℤ) → pos 0 <ℤ g → g *ℤ a ≡ g *ℤ b → a ≡ b
-eq_cancel g a b positive same =
-    let le : a ≤ℤ b = le_cancel g a b positive (subst (λ t. (g *ℤ a) ≤ℤ t) same (itself (g *ℤ a))) in
-    let ge : b ≤ℤ a = le_cancel g b a positive (subst (λ t. t ≤ℤ (g *ℤ a)) same (itself (g *ℤ a))) in
-    omega (arith, ints, le, ge)
-  where
-    itself : (x : ℤ) → x ≤ℤ x
-    itself x = omega (arith, ints)
 
 -- over units of the capacity 1 a slot takes its lengths
 one_entry : (n : ℕ) (ones : List UnitPair) (cuts : List CutLine) (u : ℕ → ℤ) (slot : Slot) → ((e : ℕ) → e < n → slice_index (unit_capacities ones) e ≡ 1)
@@ -153,7 +143,7 @@ module _ (links : List Link) (pairs : List UnitPair) (cuts : List CutLine) (soun
 
   low_even : (j : ℕ) → j < n → dot n low_nums (slot_entry pairs cuts (at j)) ≡ over *ℤ slot_gain links cuts (at j)
   low_even j l =
-      eq_cancel (pos g) _ _ times.positive
+      cancelled (pos g) _ _ times.positive
       (low_dot (at j) (placed links pairs cuts sound units bound rows values den basic j l).inside
       ∙ (ap (λ t. pos (factor links pairs cuts sound units bound (at j)) *ℤ t) (even_one j l) ∙ gain_times (at j)))
 
