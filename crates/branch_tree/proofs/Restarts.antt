@@ -1,6 +1,6 @@
 -- plans that become cheaper on the way
-use Rattle.std.proofs.Common.{◌≡◌, ◌∙◌, ℕ, zero, suc, ◌+◌, ◌*◌, ◌^◌, ◌≤◌, ◌<◌, ⊎_elim, Bool, List, [], ◌∷◌, ◌++◌, All, drop, length, map, take, refl, ap, sym, subst, arith}
-use Rattle.std.proofs.lemmas.List.{length-map, length-take, take-append-drop, take-map, take_all}
+use Rattle.std.proofs.Common.{◌≡◌, ◌∙◌, ℕ, ◌+◌, ◌*◌, ◌^◌, ◌≤◌, ◌<◌, ⊎_elim, Bool, List, [], ◌∷◌, ◌++◌, All, drop, length, map, take, refl, ap, sym, subst, arith}
+use Rattle.std.proofs.lemmas.List.{length-map, length-take, take-append-drop, take-append-le, take-map, take-take, take_all}
 use Rattle.net_core.proofs.Library.{All-cons, All-head, All-nil, All-tail}
 use Rattle.plan_terms.specs.Terms.{Case, CutLine, IsCut, IsSurvivable}
 use Rattle.plan_types.specs.Terms.{IsCertifiedPlan}
@@ -18,16 +18,9 @@ use Rattle.box_search.specs.declared.search.Search.{Search}
 use Rattle.branch_tree.specs.declared.tree.Tree.{Tree}
 use Rattle.box_search.specs.declared.twigs.Twig.{Twig}
 use Rattle.box_search.specs.declared.found.Cheaper.{Cheaper}
-use Rattle.box_search.proofs.Extending.{cert_on, handed_same, search_with, take_before}
+use Rattle.box_search.proofs.Extending.{cert_on, handed_same, search_with}
 use Rattle.box_search.proofs.Knowing.{cuts_same}
 use Rattle.branch_tree.proofs.Proved.{is_proof, told_node, told_proof}
-
--- the first of the first
-first_of_first : {X : Type 0} (n most : ℕ) (xs : List X) → n ≤ most → take n (take most xs) ≡ take n xs
-first_of_first zero most xs le = refl
-first_of_first (suc n) zero xs le = absurd (omega (arith, le))
-first_of_first (suc n) (suc most) [] le = refl
-first_of_first (suc n) (suc most) (x ∷ xs) le = ap (λ rest. x ∷ rest) (first_of_first n most xs (omega (arith, le)))
 
 module _ (p : Case) where
   -- a plan is no dearer than itself
@@ -127,7 +120,7 @@ module _ (p : Case) (s : Search) (is : IsSearch p s) where
       let whole : cuts_among s.known.entries ≡ handed_in s ++ rest =
       ap (λ (es : List Entry). cuts_among es) (sym (take-append-drop s.handed s.known.entries)) ∙ cuts_append (take s.handed s.known.entries) (drop s.handed s.known.entries) in
       ap (λ (cs : List CutLine). take s.handed cs) whole
-      ∙ (take_before s.handed (handed_in s) rest (omega (arith, handed_length)) ∙ take_all s.handed (handed_in s) (omega (arith, handed_length)))
+      ∙ (take-append-le s.handed (handed_in s) rest (omega (arith, handed_length)) ∙ take_all s.handed (handed_in s) (omega (arith, handed_length)))
 
   -- the first entries come first
   front_extends : Extends (map entry.Cut (handed_in s)) s.known.entries
@@ -165,7 +158,7 @@ module _ (p : Case) (old new : Search) (was : IsSearch p old) (known : IsKnown p
       let cuts : List CutLine = cuts_among old.known.entries in
       let taken : take old.handed (map entry.Cut (take most cuts)) ≡ take old.handed old.known.entries =
       take-map entry.Cut old.handed (take most cuts)
-      ∙ (ap (map entry.Cut) (first_of_first old.handed most cuts (omega (arith, was.enough)) ∙ front_cuts p old was) ∙ sym was.first) in
+      ∙ (ap (map entry.Cut) (take-take old.handed most cuts (omega (arith, was.enough)) ∙ front_cuts p old was) ∙ sym was.first) in
       let long = ap (λ (es : List Entry). length es) is in
       let front = ap (λ (cs : List CutLine). length cs) (front_cuts p old was) in
       begun_with

@@ -1,5 +1,6 @@
 -- trees with another place, or with one split more
 use Rattle.std.proofs.Common.{◌≡◌, ℕ, zero, suc, ◌+◌, ◌<◌, cond, MatchOption, None, Option, List, [], ◌∷◌, ◌++◌, Some, Bool, drop, get_or, insert, length, set, slice_get, take, refl, ap, sym, subst, add-one, arith, length-append}
+use Rattle.std.proofs.lemmas.List.{set_split}
 use Rattle.net_core.proofs.Library.{slice_get_read, slice_get_within, sum_by-append, sum_by-cons}
 use Rattle.plan_terms.specs.Terms.{Case, CutLine}
 use Rattle.plan_types.specs.declared.plan.Plan.{Plan}
@@ -28,11 +29,6 @@ module _ {T : Type 0} where
   parts_at [] i t at = absurd (cc at)
   parts_at (x ∷ xs) zero t at = let same : x ≡ t = cc at in ap (λ (y : T). y ∷ xs) same
   parts_at (x ∷ xs) (suc i) t at = ap (λ (l : List T). x ∷ l) (parts_at xs i t at)
-
-  set_parts : (ts : List T) (i : ℕ) (t : T) → i < length ts → set ts i t ≡ take i ts ++ t ∷ drop (suc i) ts
-  set_parts [] i t lt = absurd (omega (arith, lt))
-  set_parts (x ∷ xs) zero t lt = refl
-  set_parts (x ∷ xs) (suc i) t lt = ap (λ (l : List T). x ∷ l) (set_parts xs i t (omega (arith, lt)))
 
   insert_parts : (ts : List T) (i : ℕ) (top lower upper : T) → i < length ts → set (insert (insert ts (suc i) upper) (suc i) lower) i top ≡ take i ts ++ top ∷ lower ∷ upper ∷ drop (suc i) ts
   insert_parts [] i top lower upper lt = absurd (omega (arith, lt))
@@ -90,7 +86,7 @@ module _ (p : Case) (plan : Plan) (handed : List CutLine) (tested : List Tested)
         subst (λ (boxes : List TreeBox). AreTwigsOf known (boxes ++ later) rest) (sym (leaf_sides place (twig_node new) leaf)) found.0.after in
         let inside = slice_get_within twigs i (twig.Open o) at in
         let whole = parts_at twigs i (twig.Open o) at in
-        let parts = set_parts twigs i new inside in
+        let parts = set_split twigs i new inside in
         let splits = growing.splits in
         let few = growing.few in
         record {
