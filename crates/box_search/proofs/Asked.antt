@@ -1,6 +1,7 @@
 -- what is answered of counts that are asked about
-use Rattle.std.proofs.Common.{◌≡◌, ◌∙◌, ℕ, zero, suc, ◌+◌, ◌^◌, ◌<◌, ◌⊎◌, inl, inr, ⊎_elim, List, [], ◌∷◌, ◌++◌, All, Some, length, slice_get, refl, ap, sym, subst, arith}
+use Rattle.std.proofs.Common.{◌≡◌, ◌∙◌, ℕ, ◌+◌, ◌^◌, ◌<◌, ⊎_elim, List, [], ◌∷◌, ◌++◌, All, Some, length, slice_get, sym, subst, arith}
 use Rattle.net_core.proofs.Library.{∥∥₁_elim, props}
+use Rattle.module_choice.proofs.Carrying.{get_cases}
 use Rattle.plan_terms.specs.Terms.{AreCounts, AreDemands, Case, IsNetwork, Joins, Link, Routing, capacities, graph_in, total_cost}
 use Rattle.plan_swaps.specs.Terms.{AreRoutingsWithin, IsRoutingWithin}
 use Rattle.plan_swaps.proofs.Lemmas.{shape_at_most, total_at_most}
@@ -15,13 +16,6 @@ fixed_low nodes links checked = ∥∥₁_elim checked (hlevel props) (λ net. �
 
 -- ---- a routing for each state
 
--- what is read of a list with one item more
-get_push : {X : Type 0} (xs : List X) (y : X) (i : ℕ) (x : X) → slice_get (xs ++ y ∷ []) i ≡ Some x → (slice_get xs i ≡ Some x) ⊎ ((i ≡ length xs) × (x ≡ y))
-get_push [] y zero x at = inr (refl, cc at)
-get_push [] y (suc i) x at = absurd (cc at)
-get_push (z ∷ xs) y zero x at = inl at
-get_push (z ∷ xs) y (suc i) x at = ⊎_elim (λ before. inl before) (λ h. inr (ap suc h.0, h.1)) (get_push xs y i x at)
-
 module _ (p : Case) (nums : List ℕ) where
   -- one state more
   pub routed_more : (routings : List Routing) (s : ℕ) (r : Routing) → length routings ≡ s → ((t : ℕ) (x : Routing) → slice_get routings t ≡ Some x → IsRoutingWithin p t nums x) → IsRoutingWithin p s nums r
@@ -29,7 +23,7 @@ module _ (p : Case) (nums : List ℕ) where
   routed_more routings s r long each here t x at = ⊎_elim
       (λ before. each t x before)
       (λ h. subst (λ k. IsRoutingWithin p k nums x) (sym (h.0 ∙ long)) (subst (λ (y : Routing). IsRoutingWithin p s nums y) (sym h.1) here))
-      (get_push routings r t x at)
+      (get_cases routings r x t at)
 
 -- ---- counts that carry the demands
 

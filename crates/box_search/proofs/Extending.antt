@@ -1,7 +1,8 @@
 -- what is known of a search and its tree stays where cuts are put after
-use Rattle.std.proofs.Common.{◌≡◌, ℕ, zero, suc, ◌+◌, ◌^◌, ◌≤◌, false, List, [], ◌∷◌, ◌++◌, All, Some, append-nil, length, length-append, map, slice_get, take, refl, ap, subst, sym, ◌∙◌, arith, append_assoc}
+use Rattle.std.proofs.Common.{◌≡◌, ℕ, ◌+◌, ◌^◌, ◌≤◌, false, List, [], ◌∷◌, ◌++◌, All, Some, append-nil, length, length-append, map, slice_get, take, refl, ap, subst, sym, ◌∙◌, arith, append_assoc}
+use Rattle.std.proofs.lemmas.List.{take-append-le}
 use Rattle.std.specs.List.{AllZip}
-use Rattle.net_core.proofs.Library.{All-weaker}
+use Rattle.net_core.proofs.Library.{All-weaker, get_front}
 use Rattle.plan_terms.specs.Terms.{Case, CutLine, Link}
 use Rattle.plan_report.specs.Terms.{CertLine, Plan}
 use Rattle.line_check.specs.Terms.{names_by, Multiplier}
@@ -41,20 +42,9 @@ module _ {X : Type 0} where
     is = other.is ∙ (ap (λ (xs : List X). xs ++ other.more) one.is ∙ append_assoc a one.more other.more);
   }
 
-  at_before : (xs ys : List X) (i : ℕ) (x : X) → slice_get xs i ≡ Some x → slice_get (xs ++ ys) i ≡ Some x
-  at_before [] ys i x there = absurd (cc there)
-  at_before (y ∷ xs) ys zero x there = there
-  at_before (y ∷ xs) ys (suc i) x there = at_before xs ys i x there
-
   -- an item stays at its place
   pub at_still : (old new : List X) → Extends old new → (i : ℕ) (x : X) → slice_get old i ≡ Some x → slice_get new i ≡ Some x
-  at_still old new extends i x there = subst (λ (xs : List X). slice_get xs i ≡ Some x) (sym extends.is) (at_before old extends.more i x there)
-
--- the first ones are the same
-pub take_before : {X : Type 0} (n : ℕ) (xs ys : List X) → n ≤ length xs → take n (xs ++ ys) ≡ take n xs
-take_before zero xs ys le = refl
-take_before (suc n) [] ys le = absurd (omega (arith, le))
-take_before (suc n) (x ∷ xs) ys le = ap (λ rest. x ∷ rest) (take_before n xs ys (omega (arith, le)))
+  at_still old new extends i x there = subst (λ (xs : List X). slice_get xs i ≡ Some x) (sym extends.is) (get_front old extends.more i x there)
 
 -- ---- a search that has learned more
 
@@ -74,7 +64,7 @@ learned_on a b c one other = record {
 taken_same : (old new : Search) → HasLearned old new → old.handed ≤ length old.known.entries → take new.handed new.known.entries ≡ take old.handed old.known.entries
 taken_same old new learned inside =
     ap (λ n. take n new.known.entries) learned.handed
-    ∙ (ap (λ (es : List Entry). take old.handed es) learned.extends.is ∙ take_before old.handed old.known.entries learned.extends.more inside)
+    ∙ (ap (λ (es : List Entry). take old.handed es) learned.extends.is ∙ take-append-le old.handed old.known.entries learned.extends.more inside)
 
 pub handed_same : (old new : Search) → HasLearned old new → old.handed ≤ length old.known.entries → handed_in new ≡ handed_in old
 handed_same old new learned inside = ap (λ (es : List Entry). cuts_among es) (taken_same old new learned inside)

@@ -1,7 +1,6 @@
 -- cuts and lines that are known, with their tests
 use Rattle.std.proofs.Common.{◌≡◌, ◌∙◌, ℕ, ◌+◌, ◌≤◌, ◌<◌, ◌^◌, zero, suc, true, false, inl, List, [], ◌∷◌, ◌++◌, All, Some, length, map, slice_get, refl, ap, subst, sym, arith}
 use Rattle.std.proofs.lemmas.List.{append_assoc, length-map, length_push, map_push}
-use Rattle.std.specs.List.{AllZip}
 use Rattle.net_core.proofs.Library.{All-map, All-push, get_or_from_slice_get, slice_get_within}
 use Rattle.plan_terms.specs.Terms.{Case, CutLine, IsCut, Link}
 use Rattle.line_check.specs.Terms.{line_of_cut, Source, sources_of, AreTested, IsTestedAs, names_by}
@@ -16,13 +15,6 @@ use Rattle.proof_order.specs.Orders.{cuts_among, is_cut_entry, lines_among, sour
 use Rattle.proof_order.specs.declared.entry.Entry.{Entry}
 use Rattle.proof_order.specs.declared.entry.Entry.TheVariants as entry
 use Rattle.box_search.specs.Searches.{IsKnown, IsSoundEntry, aimed}
-
-pub zip_push : {X Y : Type 0} (R : X → Y → Type 0) (xs : List X) (ys : List Y) (x : X) (y : Y)
-    → AllZip R xs ys → R x y → AllZip R (xs ++ x ∷ []) (ys ++ y ∷ [])
-zip_push R [] [] x y all is = (is, tt)
-zip_push R [] (b ∷ ys) x y all is = absurd all
-zip_push R (a ∷ xs) [] x y all is = absurd all
-zip_push R (a ∷ xs) (b ∷ ys) x y all is = (all.0, zip_push R xs ys x y all.1 is)
 
 -- ---- entries
 

@@ -1,5 +1,6 @@
 -- counts that are lowered, and what they have room for
 use Rattle.std.proofs.Common.{◌≡◌, ℕ, zero, suc, ◌+◌, ◌-◌, ◌*◌, ◌^◌, ◌≤◌, ◌<◌, ◌⊎◌, inl, inr, ⊎_elim, List, [], ◌∷◌, ◌++◌, All, get_or, length, slice_index, zip, refl, ap, sym, subst, arith}
+use Rattle.std.proofs.lemmas.Slice.Zip.{all_zipped_more}
 use Rattle.std.specs.List.{AllZip}
 use Rattle.net_core.proofs.Library.{cases_lt, All-cons, All-head, All-nil, All-push, All-tail, sum_by-cons, get_or_append_left, get_or_default, get_or_push}
 use Rattle.module_choice.proofs.Pairs.{counts_long}
@@ -22,12 +23,6 @@ capacity_more (k ∷ ms) (x ∷ cs) m c same =
       sum_by-cons (λ (p : Module × ℕ). p.0.capacity * p.1) (k, x) (zip ms cs),
     )
 
-fewer_more : (ls cs : List ℕ) (n c : ℕ) → AllZip ◌≤◌ ls cs → n ≤ c → AllZip ◌≤◌ (ls ++ n ∷ []) (cs ++ c ∷ [])
-fewer_more [] [] n c all le = (le, tt)
-fewer_more [] (x ∷ cs) n c all le = absurd all
-fewer_more (l ∷ ls) [] n c all le = absurd all
-fewer_more (l ∷ ls) (x ∷ cs) n c all le = (all.0, fewer_more ls cs n c all.1 le)
-
 -- the first modules' counts are lowered, and so much room is missing still
 pub record IsLoweredTo (modules : List Module) (counts lowered : List ℕ) (missing : ℕ) : Type 0 where
   pub fewer : AllZip ◌≤◌ lowered counts
@@ -46,7 +41,7 @@ lowered_more ms cs ls missing m c n same_cs same_ls sound was fewer few small ro
     let narrow = sound.capacity in
     let enough = was.enough in
     record {
-      fewer = fewer_more ls cs n c was.fewer fewer;
+      fewer = all_zipped_more ◌≤◌ ls cs n c was.fewer fewer;
       few = All-push (λ (k : ℕ). k < 2 ^ 44) ls n was.few (⊎_elim (λ (lt : modules_capacity ms ls + missing < 2 ^ 44). omega (arith, lt, few)) (λ h. let none = h.0 in omega (arith, none, few)) was.small);
       small = ⊎_elim
           (λ (lt : modules_capacity ms ls + missing < 2 ^ 44).
@@ -122,13 +117,6 @@ room_at (l ∷ links) (c ∷ counts) (x ∷ lowered) zero shape have =
 room_at (l ∷ links) (c ∷ counts) (x ∷ lowered) (suc e) shape have = room_at links counts lowered e shape.1 (one_link l links c x counts lowered have).1
 
 -- ---- link by link
-
--- a link has a count for each of its modules
-pub counts_at : (links : List Link) (counts : List (List ℕ)) (e : ℕ) (l : Link) (c : List ℕ) → AreCounts links counts → e < length links → length (get_or counts e c) ≡ length (get_or links e l).modules
-counts_at [] counts e l c shape lt = absurd (omega (arith, lt))
-counts_at (k ∷ links) [] e l c shape lt = absurd shape
-counts_at (k ∷ links) (x ∷ counts) zero l c shape lt = shape.0
-counts_at (k ∷ links) (x ∷ counts) (suc e) l c shape lt = counts_at links counts e l c shape.1 (omega (arith, lt))
 
 pub modules_at_get : (links : List Link) (e : ℕ) (l : Link) → e < length links → modules_at links e ≡ (get_or links e l).modules
 modules_at_get [] e l lt = absurd (omega (arith, lt))

@@ -1,6 +1,7 @@
 -- a plan's certificate, by the indices of its cuts
 use Rattle.std.proofs.Common.{◌≡◌, ℕ, ◌+◌, ◌<◌, false, List, [], ◌∷◌, ◌++◌, Some, get_or, length, map, refl, ap, sym, subst, ◌∙◌, slice_get, take}
 use Rattle.std.proofs.lemmas.List.{take_more}
+use Rattle.std.proofs.lemmas.Slice.Zip.{all_zipped_more}
 use Rattle.std.specs.List.{AllZip}
 use Rattle.plan_terms.specs.Terms.{Case, CutLine}
 use Rattle.plan_report.specs.Terms.{CertLine, Plan}
@@ -12,7 +13,7 @@ use Rattle.proof_order.specs.declared.entry.Entry.TheVariants as entry
 use Rattle.box_search.specs.Causes.{HasPlanValue, lines_of_plan}
 use Rattle.box_search.specs.declared.known.Known.{Known}
 use Rattle.box_search.specs.Searches.{IsKnown, IsOwnCert}
-use Rattle.box_search.proofs.Knowing.{entry_at, place_names, zip_push}
+use Rattle.box_search.proofs.Knowing.{entry_at, place_names}
 
 -- an index with its numerator is a line of the plan's certificate
 abbrev pub IsOwnLine : List Entry → Multiplier → CertLine → Type 0
@@ -25,7 +26,7 @@ pub own_more : (cuts : List CutLine) (ms : List Multiplier) (ls : List CertLine)
 own_more cuts ms ls i cut l d lt is at so_far =
     let more : take (i + 1) ls ≡ take i ls ++ l ∷ [] = take_more ls i d lt ∙ ap (λ (x : CertLine). take i ls ++ x ∷ []) (sym is) in
     subst (AllZip (IsOwnLine (map entry.Cut cuts)) (ms ++ record { cut = cut; num = l.num } ∷ [])) (sym more)
-    (zip_push (IsOwnLine (map entry.Cut cuts)) ms (take i ls) (record { cut = cut; num = l.num }) l so_far (entry_at cuts cut l.cut at, refl))
+    (all_zipped_more (IsOwnLine (map entry.Cut cuts)) ms (take i ls) (record { cut = cut; num = l.num }) l so_far (entry_at cuts cut l.cut at, refl))
 
 module _ (p : Case) (k : Known) (known : IsKnown p k) where
   own_named : (ms : List Multiplier) (ls : List CertLine) → AllZip (IsOwnLine k.entries) ms ls

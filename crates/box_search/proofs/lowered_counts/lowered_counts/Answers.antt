@@ -4,7 +4,8 @@ use Rattle.net_core.proofs.Networks.{modules_sound}
 use Rattle.module_choice.proofs.Pairs.{counts_long}
 use Rattle.plan_terms.specs.Terms.{AreCounts, IsModule, Link, Module}
 use Rattle.box_search.specs.inner.Lowering.{IsLoweredLink, modules_at}
-use Rattle.box_search.proofs.Lowering.{counts_at, links_more}
+use Rattle.module_choice.proofs.Pairs.{counts_shape}
+use Rattle.box_search.proofs.Lowering.{links_more}
 use Rattle.box_search.proofs.lowered_counts.lowered_counts.Goals as goal
 
 pub bounds-lists-e : goal.bounds-lists-e
@@ -27,7 +28,7 @@ lowered_link-requires-clause-count c =
     let lists = c.items-lists.result.now in
     let shape : AreCounts links lists =
     subst (λ (x : List Link). AreCounts x lists) (sym (c.items-links.ensures ∙ c.links.ensures)) (subst (λ (x : List (List ℕ)). AreCounts c.args.instance.now.net.now.links x) (sym c.items-lists.ensures) c.requires.shape) in
-    let here = counts_at links lists c.loop-e.e c.index-links-e.result c.index-lists-e.result shape c.loop-e-test.true in
+    let here = counts_shape links lists shape c.loop-e.e c.index-links-e.result c.index-lists-e.result c.loop-e-test.true in
     ap (λ (x : List ℕ). length x) (c.items-in-loop-e.ensures ∙ c.index-lists-e.is) ∙ (here ∙ sym (ap (λ (x : List Module). length x) c.items.ensures))
 
 pub loop-e-preserved : goal.loop-e-preserved
