@@ -1,5 +1,6 @@
 -- a caller's run while the journal grows
-use Rattle.std.proofs.Common.{◌≡◌, ℕ, zero, suc, ◌+◌, ◌≤◌, List, [], ◌∷◌, ◌++◌, length, length-append, take, refl, sym, ap, subst, ◌∙◌, arith}
+use Rattle.std.proofs.Common.{◌≡◌, ℕ, suc, ◌+◌, ◌≤◌, List, [], ◌∷◌, ◌++◌, length, length-append, take, refl, sym, ap, subst, ◌∙◌, arith}
+use Rattle.std.proofs.lemmas.List.{take-append-le}
 use Rattle.plan_terms.specs.Terms.{Edit, Entry, Edited, Reply, Case}
 use Rattle.plan_types.specs.declared.report.Outcome.{Outcome}
 use Rattle.session_script.specs.declared.script.Act.{Act}
@@ -8,16 +9,11 @@ use Rattle.net_core.proofs.Lists.{get_front}
 use Rattle.planner.proofs.Histories.{get_after}
 use Rattle.session_run.specs.Transcripts.{IsOutcomeAfter, RunsFrom}
 
-take_front : {X : Type 0} (xs ys : List X) (n : ℕ) → n ≤ length xs → take n (xs ++ ys) ≡ take n xs
-take_front xs ys zero le = refl
-take_front [] ys (suc n) le = absurd (omega (arith, le))
-take_front (x ∷ xs) ys (suc n) le = ap (λ zs. x ∷ zs) (take_front xs ys n (omega (arith, le)))
-
 module _ (p : Case) (es more : List Entry) (caller : ℕ) where
   outcome_later : (serial n m : ℕ) (o : Outcome) → n ≤ m → m ≤ length es → IsOutcomeAfter p (take n es) (take m es) caller serial o → IsOutcomeAfter p (take n (es ++ more)) (take m (es ++ more)) caller serial o
   outcome_later serial n m o le lm is =
-      let one = sym (take_front es more n (omega (arith, le, lm))) in
-      let two = sym (take_front es more m lm) in
+      let one = sym (take-append-le n es more (omega (arith, le, lm))) in
+      let two = sym (take-append-le m es more lm) in
       subst (λ xs. IsOutcomeAfter p xs (take m (es ++ more)) caller serial o) one (subst (λ xs. IsOutcomeAfter p (take n es) xs caller serial o) two is)
 
   -- a run stays one
@@ -35,7 +31,7 @@ module _ (p : Case) (es more : List Entry) (caller : ℕ) where
       → IsOutcomeAfter p es (es ++ more) caller (serial + length os) o → RunsFrom p (es ++ more) caller at serial (acts ++ Plan ∷ []) (os ++ o ∷ [])
   run_plan at serial [] [] o h is =
       let all = length-append es more in
-      let before : es ≡ take (length es) (es ++ more) = sym (take_front es more (length es) (omega arith) ∙ whole es) in
+      let before : es ≡ take (length es) (es ++ more) = sym (take-append-le (length es) es more (omega arith) ∙ whole es) in
       let after : es ++ more ≡ take (length (es ++ more)) (es ++ more) = sym (whole (es ++ more)) in
       let same : serial + 0 ≡ serial = omega arith in (
         length es,
