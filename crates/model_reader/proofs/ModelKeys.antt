@@ -1,6 +1,6 @@
 -- Keys and their words.
-use Rattle.std.proofs.Common.{◌≡◌, ℕ, ◌<◌, Bool, true, false, cond, not, ◌&&◌, List, [], ◌∷◌, get_or, Option, None, Some, Result, Ok, Err, refl, sym, ap, subst, ◌∙◌, arith, ⊎_elim, option_map}
-use Rattle.net_core.proofs.Library.{list_any, cases_Bool, none_passes, not_true, same_is}
+use Rattle.std.proofs.Common.{◌≡◌, ℕ, ◌<◌, Bool, true, false, cond, not, List, [], ◌∷◌, get_or, Option, None, Some, Result, Ok, Err, refl, sym, ap, subst, ◌∙◌, arith, ⊎_elim, option_map}
+use Rattle.net_core.proofs.Library.{list_any, and_parts, cases_Bool, none_passes, not_true, same_is}
 use Rattle.std.proofs.lemmas.List.Folds.{Any-from_list_any, list_any-from_Any}
 use Rattle.net_core.specs.Terms.{are_same}
 use Rattle.text_kit.specs.Terms.{ComeAfter}
@@ -62,14 +62,9 @@ key_after_again sofar w k new is = ap (key_after sofar) is ∙ (ap (new_key sofa
 
 -- ---- a value of a key
 
-both_true : (a b : Bool) → a && b ≡ true → (a ≡ true) × (b ≡ true)
-both_true true true e = (refl, refl)
-both_true true false e = absurd cc
-both_true false b e = absurd cc
-
 setting_takes : (s : Setting) (k : ModelKey) (w : List ℕ) → is_setting s k w ≡ true → (k ≡ key_of s) × (w ≡ value_word s)
 setting_takes s k w e =
-    let both = both_true (are_same (key_word k) (key_word (key_of s))) (are_same w (value_word s)) e in
+    let both = and_parts (are_same (key_word k) (key_word (key_of s))) (are_same w (value_word s)) e in
     (words_apart k (key_of s) (same_is (key_word k) (key_word (key_of s)) both.0), same_is w (value_word s) both.1)
 
 value_if : (k : ModelKey) (w : List ℕ) (s : Setting) (a b c : Bool) → are_same w (plain_word k) ≡ a → is_setting Reconfiguration k w ≡ b → is_setting Charge k w ≡ c
