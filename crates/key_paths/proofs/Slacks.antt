@@ -1,6 +1,6 @@
 -- the lists of the slack basis
-use Rattle.std.proofs.Common.{◌≡◌, ℕ, ℤ, zero, suc, List, Some, length, length-set, pos, get_or, slice_get, replicate, ◌+◌, ◌-◌, ◌<◌, ◌^◌, sym, ap, ◌∙◌, subst, refl, arith, ⊎_elim}
-use Rattle.net_core.proofs.Library.{cases_lt, ints, get_or_from_slice_get}
+use Rattle.std.proofs.Common.{◌≡◌, ℕ, ℤ, List, Some, length, length-set, pos, get_or, slice_get, replicate, ◌+◌, ◌-◌, ◌<◌, ◌^◌, sym, ap, ◌∙◌, subst, arith, ⊎_elim}
+use Rattle.net_core.proofs.Library.{cases_lt, ints, get_or-replicate, get_or_from_slice_get, length-replicate}
 use Rattle.checked_fraction.specs.Terms.{num, IsNarrow}
 use Rattle.checked_fraction.specs.declared.row.Row.{Row}
 use Rattle.plan_terms.specs.Terms.{Graph, DemandSlack}
@@ -12,15 +12,6 @@ use Rattle.key_rows.specs.Terms.{column_name, IsNameWithin}
 use Rattle.key_rows.specs.declared.keyed.Keyed.{Keyed}
 use Rattle.key_paths.proofs.Starting.{first, second}
 use Rattle.checked_fraction.proofs.Units.{zeros_narrow}
-
-same_length : (n x : ℕ) → length (replicate n x) ≡ n
-same_length zero x = refl
-same_length (suc n) x = omega (arith, same_length n x)
-
-same_at : (n x i : ℕ) → i < n → get_or (replicate n x) i 0 ≡ x
-same_at zero x i l = absurd (omega (arith, l))
-same_at (suc n) x zero l = refl
-same_at (suc n) x (suc i) l = same_at n x i (omega (arith, l))
 
 pub number_at : (f : ℕ → ℤ) (xs : List ℤ) (k : ℕ) → AtEach (λ i x. x ≡ f i) xs → k < length xs → num xs k ≡ f k
 number_at f xs k all l = let x = each_at (λ i x. x ≡ f i) xs k l all in get_or_from_slice_get xs k x.0 (pos 0) x.1 ∙ x.2
@@ -47,7 +38,7 @@ start_of g demands bound b short narrow count_names names count_places places ow
       shaped = record {
         names = count_names;
         places = count_places;
-        owners = ap length owners ∙ same_length n demands;
+        owners = ap length owners ∙ length-replicate n demands;
         rows = count_rows;
         rectangle = λ i l. let r = row i (omega (arith, count_rows, l)) in
             ap (λ o. length (nums_of o)) r.1 ∙ (ap length r.2.0 ∙ (length-set (replicate n (pos 0)) i (pos 1) ∙ zeros_length n));
@@ -71,7 +62,7 @@ start_of g demands bound b short narrow count_names names count_places places ow
       };
       names = name;
       places = place;
-      owners = λ i l. ap (λ xs. get_or xs i 0) owners ∙ same_at n demands i l;
+      owners = λ i l. ap (λ xs. get_or xs i 0) owners ∙ get_or-replicate n i demands 0 l;
       units = λ i k li lk. let r = row i li in ap (λ o. num (nums_of o) k) r.1 ∙ (ap (λ xs. num xs k) r.2.0 ∙ unit_num n i k li);
       ones = λ i l. let r = row i l in ap den_of r.1 ∙ r.2.1;
       zeros = λ k l. ap (λ xs. num xs k) prices ∙ zeros_num n k;
