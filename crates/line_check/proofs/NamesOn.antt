@@ -1,6 +1,6 @@
 -- what the indices of sources and of tests name
-use Rattle.std.proofs.Common.{◌≡◌, ◌≢◌, ◌++◌, ℕ, zero, suc, ◌<◌, inl, inr, ⊎_elim, Bool, true, false, IsTrue, List, [], ◌∷◌, Some, get_or, length, length-append, slice_get, refl, sym, subst, arith}
-use Rattle.net_core.proofs.Library.{cases_eq, slice_get_within}
+use Rattle.std.proofs.Common.{◌≡◌, ◌≢◌, ◌++◌, ℕ, zero, suc, ◌<◌, inl, inr, ⊎_elim, Bool, true, false, IsTrue, List, Some, length, length-append, slice_get, refl, sym, subst, arith}
+use Rattle.net_core.proofs.Library.{cases_eq, get_or_append_left, slice_get_within}
 use Rattle.plan_terms.specs.Terms.{Case, CutLine, IsCut}
 use Rattle.line_check.specs.Inequalities.{line_of_cut}
 use Rattle.line_check.specs.Lines.{IsMadeAt, IsMadeOf, Source, names_among}
@@ -19,15 +19,10 @@ source_names p sources (suc n) i robust source made lt at is = ⊎_elim
     (λ (before : i ≢ n). inl (source_names p sources n i robust source made (omega (arith, lt, before)) at is))
     (cases_eq i n)
 
-or_before : {X : Type 0} (xs ys : List X) (i : ℕ) (d : X) → i < length xs → get_or (xs ++ ys) i d ≡ get_or xs i d
-or_before [] ys i d lt = absurd (omega (arith, lt))
-or_before (x ∷ xs) ys zero d lt = refl
-or_before (x ∷ xs) ys (suc i) d lt = or_before xs ys i d (omega (arith, lt))
-
 -- the index of a test names its line also where others are put after
 pub tested_front : (tested more : List Tested) (robust : Bool) (i : ℕ) (line : Inequality) → names_by tested robust i line → names_by (tested ++ more) robust i line
 tested_front tested more robust i line names =
-    let same : test_at tested i ≡ test_at (tested ++ more) i = sym (or_before tested more i no_test names.0) in (
+    let same : test_at tested i ≡ test_at (tested ++ more) i = sym (get_or_append_left tested more no_test i names.0) in (
       omega (arith, names.0, length-append tested more),
       subst (λ (t : Tested). IsTrue (says robust t)) same names.1,
       subst (λ (t : Tested). line ≡ t.line) same names.2,
