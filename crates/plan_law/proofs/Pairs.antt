@@ -1,13 +1,6 @@
 -- pairs of the items of two lists, one after the other
-use Rattle.std.proofs.Common.{◌≡◌, ℕ, ◌+◌, ◌-◌, ◌<◌, ◌≤◌, List, ◌++◌, AllPairs, Any, length, min, take, get_or, sym, ◌∙◌, arith, subst, ⊎_elim, get_or-append-add, get_or-take, length-append, length-take}
-use Rattle.net_core.proofs.Library.{cases_lt, get_or_append_left}
-
--- the later part of a list
-append_right : {X : Type 0} (xs ys : List X) (j : ℕ) (d : X) → length xs ≤ j → get_or (xs ++ ys) j d ≡ get_or ys (j - length xs) d
-append_right xs ys j d l = subst (λ i. get_or (xs ++ ys) i d ≡ get_or ys (j - length xs) d) (back (length xs) j l) (get_or-append-add xs ys (j - length xs) d)
-  where
-    back : (n j : ℕ) → n ≤ j → n + (j - n) ≡ j
-    back n j h = omega (arith, h)
+use Rattle.std.proofs.Common.{ℕ, ◌+◌, ◌-◌, ◌<◌, List, ◌++◌, AllPairs, Any, length, min, take, get_or, refl, sym, ◌∙◌, arith, subst, ⊎_elim, get_or-take, length-append, length-take}
+use Rattle.net_core.proofs.Library.{cases_lt, get_or-append_right, get_or_append_left}
 
 -- pairs of either list, and across them
 pub pairs_append : {X : Type 0} (R : X → X → Type 0) (xs ys : List X) → AllPairs R xs → AllPairs R ys → ((i j : ℕ) (d : X) → i < length xs → j < length ys → R (get_or xs i d) (get_or ys j d)) → AllPairs R (xs ++ ys)
@@ -17,8 +10,8 @@ pairs_append R xs ys first second across i j d ij lj =
     ⊎_elim
     (λ l. subst (λ x. R x (get_or (xs ++ ys) j d)) (sym (get_or_append_left xs ys d i (omega (arith, ij, l)))) (subst (λ y. R (get_or xs i d) y) (sym (get_or_append_left xs ys d j l)) (first i j d ij l)))
     (λ g. ⊎_elim
-    (λ li. subst (λ x. R x (get_or (xs ++ ys) j d)) (sym (get_or_append_left xs ys d i li)) (subst (λ y. R (get_or xs i d) y) (sym (append_right xs ys j d g)) (across i (j - n) d li (omega (arith, long, g)))))
-    (λ gi. subst (λ x. R x (get_or (xs ++ ys) j d)) (sym (append_right xs ys i d gi)) (subst (λ y. R (get_or ys (i - n) d) y) (sym (append_right xs ys j d g)) (second (i - n) (j - n) d (omega (arith, ij, gi)) (omega (arith, long, g)))))
+    (λ li. subst (λ x. R x (get_or (xs ++ ys) j d)) (sym (get_or_append_left xs ys d i li)) (subst (λ y. R (get_or xs i d) y) (sym (get_or-append_right xs ys (length xs) j d refl g)) (across i (j - n) d li (omega (arith, long, g)))))
+    (λ gi. subst (λ x. R x (get_or (xs ++ ys) j d)) (sym (get_or-append_right xs ys (length xs) i d refl gi)) (subst (λ y. R (get_or ys (i - n) d) y) (sym (get_or-append_right xs ys (length xs) j d refl g)) (second (i - n) (j - n) d (omega (arith, ij, gi)) (omega (arith, long, g)))))
     (cases_lt i n))
     (cases_lt j n)
 
