@@ -1,5 +1,5 @@
 -- greatest common divisors of lists
-use Rattle.std.proofs.Common.{◌≡◌, ℕ, zero, suc, ◌+◌, ◌<◌, ◌≤◌, ◌↔◌, List, [], ◌∷◌, All, get_or, length, take, refl, ap, subst, arith}
+use Rattle.std.proofs.Common.{◌≡◌, ℕ, zero, suc, ◌+◌, ◌<◌, ◌↔◌, List, [], ◌∷◌, All, get_or, length, take, subst, arith}
 use Rattle.net_core.proofs.Library.{All-cons, All-head, All-more, All-tail, IsGcd, dvd_trans, ◌∣◌}
 
 -- what divides a greatest common divisor
@@ -29,10 +29,3 @@ divisors_more P unit sofar next xs i x lt before here d = (
   λ h. let both = (here d).0 h in let old = (before d).0 both.0 in (old.0, All-more (P d) xs i x lt old.1 both.1),
   λ h. let parts = take_parts (P d) xs i x lt h.1 in (here d).1 ((before d).1 (h.0, parts.0), parts.1),
 )
-
--- a list as far as its end
-pub take_whole : {X : Type 0} (n : ℕ) (xs : List X) → length xs ≤ n → take n xs ≡ xs
-take_whole zero [] le = refl
-take_whole (suc n) [] le = refl
-take_whole zero (x ∷ xs) le = absurd (omega (arith, le))
-take_whole (suc n) (x ∷ xs) le = ap (λ ys. x ∷ ys) (take_whole n xs (omega (arith, le)))

@@ -1,8 +1,8 @@
-use Rattle.std.proofs.Common.{◌↔◌, All, subst, arith}
+use Rattle.std.proofs.Common.{◌↔◌, All, subst, arith, take_all}
 use Rattle.net_core.proofs.Library.{dvd-zero, ◌∣◌}
 use Rattle.tree_check.specs.Terms.{Tested}
 use Rattle.box_program.specs.Divisors.{DividesNumbers}
-use Rattle.box_program.proofs.Dividing.{divisors_more, take_whole}
+use Rattle.box_program.proofs.Dividing.{divisors_more}
 use Rattle.box_program.proofs.divisors.common_unit.Goals as goal
 
 pub loop-t-preserved : goal.loop-t-preserved
@@ -12,5 +12,5 @@ loop-t-preserved c =
 
 pub returns : goal.returns
 returns c d =
-    let all = subst (λ xs. (d ∣ c.loop-t.unit) ↔ (d ∣ 0) × All (λ (t : Tested). DividesNumbers d t.line) xs) (take_whole c.loop-t.t-index c.args.tested.now (omega (arith, c.loop-t-test.false))) (c.loop-t.invariant d) in
+    let all = subst (λ xs. (d ∣ c.loop-t.unit) ↔ (d ∣ 0) × All (λ (t : Tested). DividesNumbers d t.line) xs) (take_all c.loop-t.t-index c.args.tested.now (omega (arith, c.loop-t-test.false))) (c.loop-t.invariant d) in
     (λ h. (all.0 h).1, λ h. all.1 (dvd-zero d, h))

@@ -1,6 +1,6 @@
-use Rattle.std.proofs.Common.{ℕ, ◌↔◌, All, get_or, subst, arith}
+use Rattle.std.proofs.Common.{ℕ, ◌↔◌, All, get_or, subst, arith, take_all}
 use Rattle.net_core.proofs.Library.{◌∣◌}
-use Rattle.box_program.proofs.Dividing.{divides_gcd, divisors_more, take_whole}
+use Rattle.box_program.proofs.Dividing.{divides_gcd, divisors_more}
 use Rattle.box_program.proofs.divisors.divisor_among.Goals as goal
 
 pub loop-number-preserved : goal.loop-number-preserved
@@ -11,4 +11,4 @@ loop-number-preserved c =
 
 pub returns : goal.returns
 returns c =
-    subst (λ xs. (d : ℕ) → (d ∣ c.loop-number.unit) ↔ (d ∣ c.args.unit) × All (λ n. d ∣ n) xs) (take_whole c.loop-number.number-index c.args.numbers.now (omega (arith, c.loop-number-test.false))) c.loop-number.invariant
+    subst (λ xs. (d : ℕ) → (d ∣ c.loop-number.unit) ↔ (d ∣ c.args.unit) × All (λ n. d ∣ n) xs) (take_all c.loop-number.number-index c.args.numbers.now (omega (arith, c.loop-number-test.false))) c.loop-number.invariant

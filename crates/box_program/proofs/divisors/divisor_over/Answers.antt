@@ -1,6 +1,6 @@
-use Rattle.std.proofs.Common.{ℕ, ◌∙◌, ◌↔◌, List, All, subst, arith}
+use Rattle.std.proofs.Common.{ℕ, ◌∙◌, ◌↔◌, List, All, subst, arith, take_all}
 use Rattle.net_core.proofs.Library.{◌∣◌}
-use Rattle.box_program.proofs.Dividing.{divisors_more, take_whole}
+use Rattle.box_program.proofs.Dividing.{divisors_more}
 use Rattle.box_program.proofs.divisors.divisor_over.Goals as goal
 
 pub loop-numbers-preserved : goal.loop-numbers-preserved
@@ -11,4 +11,4 @@ loop-numbers-preserved c =
 pub returns : goal.returns
 returns c =
     subst (λ xs. (d : ℕ) → (d ∣ c.loop-numbers.unit) ↔ (d ∣ c.args.unit) × All (λ numbers. All (λ n. d ∣ n) numbers) xs)
-    (take_whole c.loop-numbers.numbers-index c.args.lists.now (omega (arith, c.loop-numbers-test.false))) c.loop-numbers.invariant
+    (take_all c.loop-numbers.numbers-index c.args.lists.now (omega (arith, c.loop-numbers-test.false))) c.loop-numbers.invariant
