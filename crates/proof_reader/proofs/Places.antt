@@ -1,5 +1,5 @@
 -- What comes next in bytes, and in all bytes that agree with them past it.
-use Rattle.std.proofs.Common.{◌≡◌, ℕ, zero, suc, ◌+◌, ◌-◌, ◌<◌, ◌≤◌, ◌==◌, min, Bool, true, false, cond, not, List, [], ◌∷◌, length, get_or, take, drop, refl, sym, ap, subst, ◌∙◌, arith, length-drop}
+use Rattle.std.proofs.Common.{◌≡◌, ℕ, zero, suc, ◌+◌, ◌-◌, ◌<◌, ◌≤◌, ◌==◌, min, Bool, true, false, cond, not, List, [], ◌∷◌, length, get_or, take, drop, refl, sym, ap, subst, ◌∙◌, arith, length-drop, take_all}
 use Rattle.std.proofs.lemmas.List.{drop-take, get_or-take, length-take}
 use Rattle.net_core.proofs.Library.{prefix_len, prefix_len-le-length}
 use Rattle.net_core.specs.Terms.{is_space}
@@ -20,24 +20,12 @@ drops_same xs ys k n le same =
     let parts : (zs : List ℕ) → drop k (take n zs) ≡ take (n - k) (drop k zs) = λ zs. ap (λ i. drop k (take i zs)) total ∙ drop-take k (n - k) zs in
     sym (parts xs) ∙ (ap (drop k) same ∙ parts ys)
 
-pub take_take : (n m : ℕ) (xs : List ℕ) → n ≤ m → take n (take m xs) ≡ take n xs
-take_take zero m xs le = refl
-take_take (suc n) zero xs le = absurd (omega (arith, le))
-take_take (suc n) (suc m) [] le = refl
-take_take (suc n) (suc m) (x ∷ xs) le = ap (λ (ys : List ℕ). x ∷ ys) (take_take n m xs (omega (arith, le)))
-
-take_past : (n : ℕ) (xs : List ℕ) → length xs ≤ n → take n xs ≡ xs
-take_past zero [] le = refl
-take_past zero (x ∷ xs) le = absurd (omega (arith, le))
-take_past (suc n) [] le = refl
-take_past (suc n) (x ∷ xs) le = ap (λ (ys : List ℕ). x ∷ ys) (take_past n xs (omega (arith, le)))
-
 -- bytes that agree past the end are the same
 pub all_same : (xs ys : List ℕ) (n : ℕ) → length xs < n → take n xs ≡ take n ys → ys ≡ xs
 all_same xs ys n lt same =
-    let whole : take n xs ≡ xs = take_past n xs (omega (arith, lt)) in
+    let whole : take n xs ≡ xs = take_all n xs (omega (arith, lt)) in
     let size : min n (length ys) ≡ length xs = sym (length-take n ys) ∙ (ap length (sym same) ∙ ap length whole) in
-    sym (take_past n ys (omega (arith, size, lt))) ∙ (sym same ∙ whole)
+    sym (take_all n ys (omega (arith, size, lt))) ∙ (sym same ∙ whole)
 
 -- a run is no shorter in more bytes
 pub run_take : (p : ℕ → Bool) (m : ℕ) (xs : List ℕ) → prefix_len p (take m xs) ≤ prefix_len p xs

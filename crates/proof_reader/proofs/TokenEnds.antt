@@ -1,5 +1,5 @@
 -- Lines whose bytes agree past the token at a place begin with the same lexemes.
-use Rattle.std.proofs.Common.{◌≡◌, ℕ, zero, suc, ◌+◌, ◌-◌, ◌<◌, ◌≤◌, ◌==◌, ◌||◌, min, Bool, true, false, cond, not, List, [], ◌∷◌, ◌++◌, length, take, drop, refl, sym, ap, subst, ◌∙◌, arith, ⊎_elim}
+use Rattle.std.proofs.Common.{◌≡◌, ℕ, zero, suc, ◌+◌, ◌-◌, ◌<◌, ◌≤◌, ◌==◌, ◌||◌, min, Bool, true, false, cond, not, List, [], ◌∷◌, ◌++◌, length, take, drop, refl, sym, ap, subst, ◌∙◌, arith, ⊎_elim, take-take}
 use Rattle.std.proofs.lemmas.List.{drop-drop, drop-take, length-take}
 use Rattle.net_core.proofs.Library.{cases_lt}
 use Rattle.net_core.specs.Terms.{is_space, is_word_byte}
@@ -8,7 +8,7 @@ use Rattle.snd_tokens.specs.declared.token.TokenKind.TheVariants as kinds
 use Rattle.snd_tokens.specs.Terms.{Text, WordAt, OpenAt, CloseAt, EndAt, begun, extent, run_length, starts_token, text_from, text_of, token_bytes, token_of, tokens_from, tokens_past}
 use Rattle.text_kit.specs.Places.{EndsBefore, place}
 use Rattle.text_kit.proofs.Lemmas.{files_agree, Same, agree_same, past}
-use Rattle.proof_reader.proofs.Places.{end_same, line_after, line_end, line_rises, line_text, run_take, take_take}
+use Rattle.proof_reader.proofs.Places.{end_same, line_after, line_end, line_rises, line_text, run_take}
 
 end_place : (c p : ℕ) → place (past c (EndAt p)) ≡ p
 end_place zero p = refl
@@ -91,7 +91,7 @@ line_same xs ys p at n c lt within same long less run here =
     let later : p + 1 ≤ at = omega (arith, line_after p xs c lt, here) in
     let size : length (take e xs) ≡ min e (length xs) = length-take e xs in
     let long_too : n ≤ f = ⊎_elim (λ short. absurd (omega (arith, end_same ys xs p n (sym same) short, short, long))) (λ h. h) (cases_lt f n) in
-    let both : take n (take e xs) ≡ take n (take f ys) = take_take n e xs long ∙ (same ∙ sym (take_take n f ys long_too)) in
+    let both : take n (take e xs) ≡ take n (take f ys) = take-take n e xs long ∙ (same ∙ sym (take-take n f ys long_too)) in
     let total : e ≡ at + (e - at) = omega (arith, less, long) in
     let cut : drop at (take e xs) ≡ take (e - at) (drop at xs) = ap (λ (k : ℕ). drop at (take k xs)) total ∙ drop-take at (e - at) xs in
     let shorter : run_length (drop at (take e xs)) ≤ run_length (drop at xs) =
