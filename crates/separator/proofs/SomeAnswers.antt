@@ -13,7 +13,7 @@ use Rattle.separator.proofs.Answering.{answer_later}
 use Rattle.separator.proofs.Seeing.{get_more}
 
 -- an item of two lists is one of the first, or one of the second
-get_both : {X : Type 0} (xs ys : List X) (i : ℕ) (c : X) → slice_get (xs ++ ys) i ≡ Some c
+pub get_both : {X : Type 0} (xs ys : List X) (i : ℕ) (c : X) → slice_get (xs ++ ys) i ≡ Some c
     → ((i < length xs) × (slice_get xs i ≡ Some c)) ⊎ ((j : ℕ) × (i ≡ length xs + j) × (slice_get ys j ≡ Some c))
 get_both [] ys i c at = inr (i, omega arith, at)
 get_both (x ∷ xs) ys zero c at = inl (omega arith, at)
