@@ -1,5 +1,5 @@
 -- turns of the rounds
-use Rattle.std.proofs.Common.{◌≡◌, ℕ, zero, suc, ◌+◌, ◌-◌, ◌*◌, ◌^◌, ◌<◌, ◌≤◌, ◌⊎◌, inl, inr, ⊎_elim, List, [], ◌∷◌, ◌++◌, All, AllPairs, Option, Some, None, get_or, length, min, take, slice_get, refl, sym, ap, subst, ◌∙◌, arith, length-append, length-take}
+use Rattle.std.proofs.Common.{◌≡◌, ℕ, zero, suc, ◌+◌, ◌-◌, ◌*◌, ◌^◌, ◌<◌, ◌≤◌, inl, inr, ⊎_elim, List, [], ◌∷◌, ◌++◌, All, AllPairs, Option, Some, None, get_or, length, min, take, slice_get, refl, sym, ap, subst, ◌∙◌, arith, length-append, length-take}
 use Rattle.net_core.proofs.Library.{ints, All-append, All-take, All-weaker, Contains-get_or}
 use Rattle.plan_terms.specs.Terms.{Evidence, Route, Master, Entry, Caps, CutLine, Case, graph_in, AreDemands, Joins, IsModule, IsNetwork, IsCut, Carries, Violates, HasShortLengths}
 use Rattle.module_prices.specs.declared.cheapest.UnitPair.{UnitPair}
@@ -11,6 +11,7 @@ use Rattle.plan_types.specs.declared.quality.Share.{Share}
 use Rattle.route_law.specs.Terms.{flows_times, IsRouteEvidence}
 use Rattle.route_law.proofs.Lemmas.{divided_are_wide, divided_are_carried, divided_are_violated}
 use Rattle.separator.specs.Terms.{IsEvidenceHere, IsRouted, IsSeparatingCut}
+use Rattle.separator.proofs.Lemmas.{get_both}
 use Rattle.master_law.specs.Terms.{IsLeastShare, IsMasterEvidence, IsSameCut, AreUnitPairs, share_caps, share_cost}
 use Rattle.master_bound.specs.Answers.{IsBestOf, IsEvidenceOf}
 use Rattle.master_bound.specs.declared.answer.Best.{Best}
@@ -44,14 +45,6 @@ get_take (suc n) [] i x at = at
 get_take (suc n) (y ∷ ys) zero x at = at
 get_take (suc n) (y ∷ ys) (suc i) x at = get_take n ys i x at
 
-get_either : {X : Type 0} (xs ys : List X) (i : ℕ) (x : X) → slice_get (xs ++ ys) i ≡ Some x → ((i < length xs) × (slice_get xs i ≡ Some x)) ⊎ ((j : ℕ) × (i ≡ length xs + j) × (slice_get ys j ≡ Some x))
-get_either [] ys i x at = inr (i, omega arith, at)
-get_either (y ∷ xs) ys zero x at = inl (omega arith, at)
-get_either (y ∷ xs) ys (suc i) x at = ⊎_elim
-    (λ l. inl (omega (arith, l.0), l.1))
-    (λ r. inr (r.0, omega (arith, r.1), r.2))
-    (get_either xs ys i x at)
-
 stand_take : (h : List Entry) (n : ℕ) (lines : List CutLine) (spots : List Spot) → StandAtSpots h lines spots → StandAtSpots h (take n lines) (take n spots)
 stand_take h n lines spots s = record {
   count = length-take n spots ∙ (ap (min n) s.count ∙ sym (length-take n lines));
@@ -65,14 +58,14 @@ stand_append h xs ys ss ts first second = record {
       (λ (front : (i < length xs) × (slice_get xs i ≡ Some line)). ⊎_elim
       (λ (there : (i < length ss) × (slice_get ss i ≡ Some spot)). first.each i line spot front.1 there.1)
       (λ (following : (j : ℕ) × (i ≡ length ss + j) × (slice_get ts j ≡ Some spot)). absurd (let a = first.count in omega (arith, front.0, following.1, a)))
-      (get_either ss ts i spot two))
+      (get_both ss ts i spot two))
       (λ (back : (j : ℕ) × (i ≡ length xs + j) × (slice_get ys j ≡ Some line)). ⊎_elim
       (λ (there : (i < length ss) × (slice_get ss i ≡ Some spot)). absurd (let a = first.count in omega (arith, there.0, back.1, a)))
       (λ (following : (j : ℕ) × (i ≡ length ss + j) × (slice_get ts j ≡ Some spot)).
       let same : following.0 ≡ back.0 = let a = first.count in omega (arith, back.1, following.1, a) in
       second.each back.0 line spot back.2 (subst (λ j. slice_get ts j ≡ Some spot) same following.2))
-      (get_either ss ts i spot two))
-      (get_either xs ys i line one);
+      (get_both ss ts i spot two))
+      (get_both xs ys i line one);
 }
 
 module _ (p : Case) (pairs : List UnitPair) where
