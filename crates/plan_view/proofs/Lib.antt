@@ -1,6 +1,6 @@
 mod Firsts
 mod LineSums
 mod Plans
-mod RowLists
+pub mod RowLists
 mod Rounding
 mod Sums

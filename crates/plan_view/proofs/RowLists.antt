@@ -9,7 +9,7 @@ use Rattle.plan_view.specs.declared.rows.LoadRow.{LoadRow}
 use Rattle.plan_view.specs.declared.rows.StateRow.{StateRow}
 
 -- what is at a place of a list with one item more
-pushed : {X : Type 0} (xs : List X) (x : X) (k : ℕ) (y : X) → slice_get (xs ++ x ∷ []) k ≡ Some y → (slice_get xs k ≡ Some y) ⊎ ((k ≡ length xs) × (x ≡ y))
+pub pushed : {X : Type 0} (xs : List X) (x : X) (k : ℕ) (y : X) → slice_get (xs ++ x ∷ []) k ≡ Some y → (slice_get xs k ≡ Some y) ⊎ ((k ≡ length xs) × (x ≡ y))
 pushed [] x zero y same = inr (refl, let e : Some x ≡ Some y = same in cc e)
 pushed [] x (suc k) y same = absurd (let e : None ≡ Some y = same in cc e)
 pushed (z ∷ xs) x zero y same = inl same
