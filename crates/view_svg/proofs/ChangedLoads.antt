@@ -1,18 +1,12 @@
 -- loads of flows, one link after another
-use Rattle.std.proofs.Common.{◌≡◌, ℕ, zero, suc, ◌+◌, ◌*◌, ◌^◌, ◌≤◌, List, [], ◌∷◌, ◌++◌, None, Some, ◌⊎◌, inl, inr, if◌then◌else◌, ap, arith, get_or, length, length-append, not, refl, slice_get, slice_index, subst, sym, ⊎_elim, mul-le-mul}
+use Rattle.std.proofs.Common.{◌≡◌, ℕ, ◌+◌, ◌*◌, ◌^◌, ◌≤◌, List, [], ◌∷◌, ◌++◌, if◌then◌else◌, arith, get_or, length, length-append, not, refl, slice_index, subst, sym, ⊎_elim, mul-le-mul}
 use Rattle.std.proofs.lemmas.List.Filters.{sum_by-filter_both}
 use Rattle.net_core.proofs.Library.{cases_lt, get_or_past, slice_get-get_or, slice_get_within, list_any}
 use Rattle.plan_terms.specs.Terms.{Case, Flow, Routing, capacities, load, names_link}
 use Rattle.plan_types.specs.declared.plan.Plan.{Plan}
+use Rattle.plan_view.proofs.RowLists.{pushed}
 use Rattle.plan_view.specs.Terms.{IsCeiling, IsSoundPlan, den_in, goes_as, load_in}
 use Rattle.view_svg.specs.Changes.{AreRoundedLoads, changed_flows}
-
--- what is at a place of a list with one amount more
-pushed : (xs : List ℕ) (x k y : ℕ) → slice_get (xs ++ x ∷ []) k ≡ Some y → (slice_get xs k ≡ Some y) ⊎ ((k ≡ length xs) × (x ≡ y))
-pushed [] x zero y same = inr (refl, let e : Some x ≡ Some y = same in cc e)
-pushed [] x (suc k) y same = absurd (let e : None ≡ Some y = same in cc e)
-pushed (z ∷ xs) x zero y same = inl same
-pushed (z ∷ xs) x (suc k) y same = ⊎_elim (λ h. inl h) (λ h. inr (ap suc h.0, h.1)) (pushed xs x k y same)
 
 pub loads_none : (flows : List Flow) (den : ℕ) → AreRoundedLoads flows den 0 []
 loads_none flows den = record { long = refl; each = λ e amount there. absurd (let lt = slice_get_within [] e amount there in omega (arith, lt)) }
