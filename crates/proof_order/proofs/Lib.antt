@@ -1,3 +1,3 @@
 mod Moves
 pub mod NamesKept
-mod Placed
+pub mod Placed

@@ -68,7 +68,7 @@ moved_at to [] k l at = absurd (cc at)
 moved_at to (x ∷ ls) zero l at = let same : x ≡ l = cc at in ap (λ y. Some (inr (moved_line to y))) same
 moved_at to (x ∷ ls) (suc k) l at = moved_at to ls k l at
 
-source_at : (es : List Entry) (n : ℕ) (e : Entry) → slice_get es n ≡ Some e → slice_get (map source_of es) n ≡ Some (source_of e)
+pub source_at : (es : List Entry) (n : ℕ) (e : Entry) → slice_get es n ≡ Some e → slice_get (map source_of es) n ≡ Some (source_of e)
 source_at [] n e at = absurd (cc at)
 source_at (x ∷ es) zero e at = let same : x ≡ e = cc at in ap (λ y. Some (source_of y)) same
 source_at (x ∷ es) (suc n) e at = source_at es n e at
@@ -91,7 +91,7 @@ module _ (p : Case) where
       let same : (b - a) + a ≡ b = omega (arith, le) in
       subst (λ n. names_among p sources n robust i l) same (names_more sources a (b - a) robust i l names)
 
-  names_below : (sources : List Source) (n : ℕ) (robust : Bool) (i : ℕ) (l : Inequality) → names_among p sources n robust i l → i < n
+  pub names_below : (sources : List Source) (n : ℕ) (robust : Bool) (i : ℕ) (l : Inequality) → names_among p sources n robust i l → i < n
   names_below sources zero robust i l names = absurd names
   names_below sources (suc n) robust i l (inl before) = let lt = names_below sources n robust i l before in omega (arith, lt)
   names_below sources (suc n) robust i l (inr here) = omega (arith, here.0)
