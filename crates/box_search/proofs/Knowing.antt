@@ -14,6 +14,7 @@ use Rattle.box_search.specs.declared.known.Known.{Known}
 use Rattle.proof_order.specs.Orders.{cuts_among, is_cut_entry, lines_among, source_of}
 use Rattle.proof_order.specs.declared.entry.Entry.{Entry}
 use Rattle.proof_order.specs.declared.entry.Entry.TheVariants as entry
+use Rattle.proof_order.proofs.NamesKept.{source_at}
 use Rattle.box_search.specs.Searches.{IsKnown, IsSoundEntry, aimed}
 
 -- ---- entries
@@ -40,11 +41,6 @@ pub entry_at : (cuts : List CutLine) (i : ℕ) (cut : CutLine) → slice_get cut
 entry_at [] i cut at = absurd (cc at)
 entry_at (c ∷ cs) zero cut at = let same : c ≡ cut = cc at in ap (λ (x : CutLine). Some (entry.Cut x)) same
 entry_at (c ∷ cs) (suc i) cut at = entry_at cs i cut at
-
-source_at : (es : List Entry) (i : ℕ) (e : Entry) → slice_get es i ≡ Some e → slice_get (map source_of es) i ≡ Some (source_of e)
-source_at [] i e at = absurd (cc at)
-source_at (x ∷ es) zero e at = let same : x ≡ e = cc at in ap (λ (y : Entry). Some (source_of y)) same
-source_at (x ∷ es) (suc i) e at = source_at es i e at
 
 -- an entry more of those that are left
 pub entries_more : (entries all : List Entry) (left rest : List CutLine) (cut : CutLine) → left ≡ cut ∷ rest → entries ++ map entry.Cut left ≡ all

@@ -1,4 +1,5 @@
 -- The lemmas of other crates that crates above cite, passed on from one place. Declares nothing.
 pub use Rattle.plan_swaps.proofs.Lemmas.{routed_with}
 pub use Rattle.plan_swaps.proofs.Swapped.{plan_carries, routing_of_kept}
-pub use Rattle.proof_order.proofs.NamesKept.{names_are_kept}
+pub use Rattle.proof_order.proofs.NamesKept.{names_are_kept, names_below}
+pub use Rattle.proof_order.proofs.Placed.{cuts_append}
