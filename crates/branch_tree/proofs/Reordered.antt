@@ -1,11 +1,12 @@
 -- nodes by the indices of a proof, and what these name
-use Rattle.std.proofs.Common.{◌≡◌, ◌∙◌, ℕ, zero, suc, ◌-◌, ◌<◌, inl, inr, Bool, true, List, [], ◌∷◌, refl, ap, sym, subst, arith}
+use Rattle.std.proofs.Common.{◌≡◌, ◌∙◌, ℕ, zero, suc, ◌-◌, inl, inr, Bool, true, List, [], ◌∷◌, refl, ap, sym, subst, arith}
 use Rattle.plan_terms.specs.Terms.{Case, Link}
 use Rattle.plan_terms.proofs.Lemmas.{bound_unique}
 use Rattle.line_check.specs.Terms.{AreNamedBy, WeightedLine, IsMadeOf, IsTableOver, Naming, Source, divided_line, names_among, Multiplier}
 use Rattle.line_check.proofs.SameTables.{table_same}
 use Rattle.tree_check.specs.Terms.{HasBoxValue, IsBoxValue, value_gains, value_losses, HoldsNode, TreeBox, sides_of, Inequality, Divided, Table, Plain, Failing}
 use Rattle.box_search.specs.Terms.{BoxCert, Node, Split, Closed, Empty, Spent, Stuck, is_split, moved_certificate, moved_multipliers, moved_node}
+use Rattle.box_search.proofs.Lemmas.{names_below}
 
 -- ---- moved nodes
 
@@ -83,16 +84,11 @@ made_once p names once robust (inr (Table index Failing weights)) a b one two =
     table_same p two.1.0 Failing weights a b (subst (λ (over : Inequality). IsTableOver p over Failing weights a) same one.1.2) two.1.2
 
 module _ (p : Case) (sources : List Source) where
-  below : (n : ℕ) (robust : Bool) (i : ℕ) (line : Inequality) → names_among p sources n robust i line → i < n
-  below zero robust i line names = absurd names
-  below (suc n) robust i line (inl earlier) = let lt = below n robust i line earlier in omega (arith, lt)
-  below (suc n) robust i line (inr here) = omega (arith, here.0)
-
   pub names_once : (n : ℕ) (robust : Bool) (i : ℕ) (a b : Inequality) → names_among p sources n robust i a → names_among p sources n robust i b → a ≡ b
   names_once zero robust i a b one two = absurd one
   names_once (suc n) robust i a b (inl one) (inl two) = names_once n robust i a b one two
-  names_once (suc n) robust i a b (inl one) (inr two) = absurd (let lt = below n robust i a one in omega (arith, lt, two.0))
-  names_once (suc n) robust i a b (inr one) (inl two) = absurd (let lt = below n robust i b two in omega (arith, lt, one.0))
+  names_once (suc n) robust i a b (inl one) (inr two) = absurd (let lt = names_below p sources n robust i a one in omega (arith, lt, two.0))
+  names_once (suc n) robust i a b (inr one) (inl two) = absurd (let lt = names_below p sources n robust i b two in omega (arith, lt, one.0))
   names_once (suc n) robust i a b (inr one) (inr two) =
       let same : two.1.source ≡ one.1.source = let x = one.1.at in let y = two.1.at in cc (x, y) in
       made_once p (names_among p sources n) (names_once n) robust one.1.source a b one.1.is

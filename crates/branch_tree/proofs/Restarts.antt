@@ -9,7 +9,7 @@ use Rattle.box_search.specs.Terms.{IsCheaperPlan, BoxCert, Node, Proof, AreCheap
 use Rattle.box_search.specs.Terms.{IsSoundEntry, aimed, handed_in, most_entries, twig_node, IsRoutedPlan, IsTestOf as IsAbleTestOf}
 use Rattle.box_search.specs.Terms.{cuts_among, moved_line, moved_node, place_of, Entry}
 use Rattle.box_search.specs.Terms.entry
-use Rattle.box_search.proofs.Lemmas.{routed_with}
+use Rattle.box_search.proofs.Lemmas.{cuts_append, routed_with}
 use Rattle.branch_tree.specs.Proving.{AreHandedCuts, IsProofOf}
 use Rattle.branch_tree.specs.inner.Growing.{IsGrownTree}
 use Rattle.branch_tree.specs.inner.Making.{AreFirstOf, IsProofMade, IsProofWith}
@@ -89,11 +89,6 @@ module _ (p : Case) (plan made : Plan) (c : Cheaper) (is : made ≡ record plan 
       (cheaper_both p plan made swapped made_cheaper further, omega (arith, cost, less, more))
 
 -- ---- the handed-in cuts
-
-cuts_append : (es fs : List Entry) → cuts_among (es ++ fs) ≡ cuts_among es ++ cuts_among fs
-cuts_append [] fs = refl
-cuts_append (entry.Cut c ∷ es) fs = ap (λ (rest : List CutLine). c ∷ rest) (cuts_append es fs)
-cuts_append (entry.Line l ∷ es) fs = cuts_append es fs
 
 pub cuts_sound : (p : Case) (es : List Entry) → All (IsSoundEntry p) es → All (IsCut p) (cuts_among es)
 cuts_sound p [] all = All-nil (IsCut p)
