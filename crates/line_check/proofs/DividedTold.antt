@@ -10,7 +10,7 @@ use Rattle.line_check.specs.declared.inequality.Inequality.{Inequality}
 use Rattle.line_check.specs.declared.tested_lines.Tested.{Tested}
 use Rattle.line_check.specs.inner.Dividing.{AreDividedCoefs, KeepsLimits}
 
-same_weighted : (t : WeightedLine) (line : Inequality) (num : ℕ) → t.line ≡ line → t.num ≡ num → t ≡ record { line = line; num = num }
+pub same_weighted : (t : WeightedLine) (line : Inequality) (num : ℕ) → t.line ≡ line → t.num ≡ num → t ≡ record { line = line; num = num }
 same_weighted t line num its own = ap (λ (l : Inequality). record { line = l; num = t.num }) its ∙ ap (λ (n : ℕ). record { line = line; num = n }) own
 
 -- tests say so of the line of an index

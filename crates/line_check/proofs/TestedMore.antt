@@ -14,7 +14,7 @@ use Rattle.line_check.specs.declared.tested_lines.Tested.{Tested}
 
 -- ---- what is made of lines is made under each naming that names these lines
 
-named_under : (names others : ℕ → Inequality → Type 0) → ((i : ℕ) (l : Inequality) → names i l → others i l)
+pub named_under : (names others : ℕ → Inequality → Type 0) → ((i : ℕ) (l : Inequality) → names i l → others i l)
     → (ms : List Multiplier) (terms : List WeightedLine) → AreNamedBy names ms terms → AreNamedBy others ms terms
 named_under names others to [] [] named = tt
 named_under names others to [] (t ∷ ts) named = absurd named
