@@ -6,15 +6,14 @@ use Rattle.plan_terms.proofs.Lemmas.{bound_unique}
 use Rattle.plan_terms.specs.Terms.{Case, Link}
 use Rattle.line_check.specs.declared.inequality.Inequality.{Inequality}
 use Rattle.line_check.specs.declared.tested_lines.Tested.{Tested}
+use Rattle.line_check.proofs.DividedTold.{same_weighted}
+use Rattle.line_check.proofs.TestedMore.{named_under}
 use Rattle.tree_check.specs.BoxValues.{HasBoxValue, IsBoxValue, value_gains, value_losses}
 use Rattle.tree_check.specs.Proofs.{HasOpenValue, HoldsNode}
 use Rattle.tree_check.specs.Trees.{TreeBox}
 use Rattle.tree_check.specs.declared.proof.BoxCert.{BoxCert}
 use Rattle.tree_check.specs.declared.proof.Node.{Node}
 use Rattle.tree_check.specs.declared.proof.Node.TheVariants.{Split, Closed, Empty, Spent, Stuck}
-
-same_weighted : (t : WeightedLine) (line : Inequality) (num : ℕ) → t.line ≡ line → t.num ≡ num → t ≡ record { line = line; num = num }
-same_weighted t line num its own = ap (λ (l : Inequality). record { line = l; num = t.num }) its ∙ ap (λ (n : ℕ). record { line = line; num = n }) own
 
 module _ (tested : List Tested) where
   -- the index of a line that holds names it
@@ -66,14 +65,8 @@ module _ (tested : List Tested) where
 -- ---- certificates and nodes by other names of their lines
 
 module _ (a b : ℕ → Inequality → Type 0) (to : (i : ℕ) (line : Inequality) → a i line → b i line) where
-  named_map : (ms : List Multiplier) (terms : List WeightedLine) → AreNamedBy a ms terms → AreNamedBy b ms terms
-  named_map [] [] named = tt
-  named_map [] (t ∷ ts) named = absurd named
-  named_map (m ∷ ms) [] named = absurd named
-  named_map (m ∷ ms) (t ∷ ts) named = ((to m.cut t.line named.0.0, named.0.1), named_map ms ts named.1)
-
   pub value_map : (links : List Link) (box : TreeBox) (cert : BoxCert) (value : ℕ) → HasBoxValue a links box cert value → HasBoxValue b links box cert value
-  value_map links box cert value has = record { terms = has.terms; named = named_map cert.lines has.terms has.named; is = has.is }
+  value_map links box cert value has = record { terms = has.terms; named = named_under a b to cert.lines has.terms has.named; is = has.is }
 
   -- a node that holds
   pub holds_map : (p : Case) (cost : ℕ) (box : TreeBox) (node : Node) → HoldsNode a p cost box node → HoldsNode b p cost box node
