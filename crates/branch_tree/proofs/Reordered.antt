@@ -3,6 +3,7 @@ use Rattle.std.proofs.Common.{◌≡◌, ◌∙◌, ℕ, zero, suc, ◌-◌, inl
 use Rattle.plan_terms.specs.Terms.{Case, Link}
 use Rattle.plan_terms.proofs.Lemmas.{bound_unique}
 use Rattle.line_check.specs.Terms.{AreNamedBy, WeightedLine, IsMadeOf, IsTableOver, Naming, Source, divided_line, names_among, Multiplier}
+use Rattle.line_check.proofs.DividedTold.{same_weighted}
 use Rattle.line_check.proofs.SameTables.{table_same}
 use Rattle.tree_check.specs.Terms.{HasBoxValue, IsBoxValue, value_gains, value_losses, HoldsNode, TreeBox, sides_of, Inequality, Divided, Table, Plain, Failing}
 use Rattle.box_search.specs.Terms.{BoxCert, Node, Split, Closed, Empty, Spent, Stuck, is_split, moved_certificate, moved_multipliers, moved_node}
@@ -45,10 +46,6 @@ moved_split to (Stuck cert evidence) = refl
 
 -- ---- an index names one line
 
-same_term : (t : WeightedLine) (line : Inequality) (num : ℕ) → t.line ≡ line → t.num ≡ num → t ≡ record { line = line; num = num }
-same_term t line num its own =
-    ap (λ (l : Inequality). record { line = l; num = t.num }) its ∙ ap (λ (n : ℕ). record { line = line; num = n }) own
-
 module _ (names : ℕ → Inequality → Type 0) (once : (i : ℕ) (a b : Inequality) → names i a → names i b → a ≡ b) where
   named_once : (ms : List Multiplier) (ts us : List WeightedLine) → AreNamedBy names ms ts → AreNamedBy names ms us → ts ≡ us
   named_once [] [] [] one two = refl
@@ -59,7 +56,7 @@ module _ (names : ℕ → Inequality → Type 0) (once : (i : ℕ) (a b : Inequa
   named_once (m ∷ ms) (t ∷ ts) (u ∷ us) one two =
       let line : t.line ≡ u.line = once m.cut t.line u.line one.0.0 two.0.0 in
       let num : t.num ≡ u.num = sym one.0.1 ∙ two.0.1 in
-      let head : t ≡ u = same_term t u.line u.num line num in
+      let head : t ≡ u = same_weighted t u.line u.num line num in
       ap (λ (x : WeightedLine). x ∷ ts) head ∙ ap (λ (xs : List WeightedLine). u ∷ xs) (named_once ms ts us one.1 two.1)
 
   -- so a certificate has one value
