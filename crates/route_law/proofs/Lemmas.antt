@@ -3,7 +3,7 @@ pub use Rattle.route_law.proofs.Carrying.{duals_below, flows_carry}
 pub use Rattle.route_law.proofs.Divided.{divided_are_wide}
 pub use Rattle.route_law.proofs.Kept.{link_prices_are_violated, violated_carries_nothing}
 pub use Rattle.route_law.proofs.Lowest.{carried_lowest}
-pub use Rattle.route_law.proofs.Meeting.{all_gained, some_left}
+pub use Rattle.route_law.proofs.Meeting.{all_gained, below_term, some_left}
 pub use Rattle.route_law.proofs.Multiples.{divided_are_carried, divided_are_violated}
 pub use Rattle.route_law.proofs.Packing.{bound_nonneg, no_slack, program_packing, route_packing}
 pub use Rattle.route_law.proofs.Pushed.{flows_pass, flows_push, flows_slack}

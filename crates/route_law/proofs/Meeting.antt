@@ -14,7 +14,7 @@ left_of (LinkSlack link) = 0
 left_of (DemandSlack demand) = 1
 left_of (Carry demand path) = 0
 
-below_term : (m : ℕ) (f : ℕ → ℕ) (i : ℕ) → i < m → f i ≤ sum_below m f
+pub below_term : (m : ℕ) (f : ℕ → ℕ) (i : ℕ) → i < m → f i ≤ sum_below m f
 below_term zero f i l = absurd (omega (arith, l))
 below_term (suc m) f i l = ⊎_elim
     (λ lt. omega (arith, below_term m f i lt))
