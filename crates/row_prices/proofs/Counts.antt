@@ -5,7 +5,7 @@ use Rattle.plan_terms.specs.Terms.{RouteColumn, LinkSlack, DemandSlack, Carry, L
 use Rattle.simplex_law.specs.Terms.{int_sum}
 use Rattle.simplex_law.proofs.Lemmas.{sum-same}
 use Rattle.route_law.specs.Terms.{beside}
-use Rattle.route_law.proofs.Lemmas.{beside_after, sum-pos}
+use Rattle.route_law.proofs.Lemmas.{below_term, beside_after, sum-pos}
 use Rattle.row_prices.proofs.Columns.{name_entry}
 
 abbrev one_if : Bool → ℕ
@@ -57,19 +57,12 @@ below_ones (suc n) f low = omega (arith, low n, below_ones n f low)
 pub standing_most : (g : Graph) (names : ℕ → RouteColumn) (n k : ℕ) → standing g names n k ≤ n
 standing_most g names n k = below_ones n (λ j. name_count g (names j) k) (λ j. count_most g (names j) k)
 
-term_below : (n i : ℕ) (f : ℕ → ℕ) → i < n → f i ≤ sum_below n f
-term_below zero i f l = absurd (omega (arith, l))
-term_below (suc n) i f l = ⊎_elim
-    (λ lt. omega (arith, term_below n i f lt))
-    (λ ge. let e : i ≡ n = omega (arith, ge, l) in omega (arith, ap f e))
-    (cases_lt i n)
-
 -- a path of a demand is in the demand's row
 pub some_standing : (g : Graph) (names : ℕ → RouteColumn) (n j d : ℕ) (path : List LinkId) → j < n → names j ≡ Carry d path → 0 < standing g names n (length g.links + d)
 some_standing g names n j d path l is =
     let one : name_count g (names j) (length g.links + d) ≡ 1 =
     ap (λ name. name_count g name (length g.links + d)) is ∙ (beside_after (length g.links) (λ e. one_if (names_link e path)) (λ q. one_if (eqb d q)) d ∙ ap one_if (eq-eqb d d refl)) in
-    omega (arith, one, term_below n j (λ i. name_count g (names i) (length g.links + d)) l)
+    omega (arith, one, below_term n (λ i. name_count g (names i) (length g.links + d)) j l)
 
 -- the place of the greatest of some numbers
 pub greatest_place : (n : ℕ) (f : ℕ → ℤ) → 0 < n → (t : ℕ) × (t < n) × ((k : ℕ) → k < n → f k ≤ℤ f t)
