@@ -9,6 +9,7 @@ use Rattle.branch_tree.specs.declared.choice.Choice.{Choice}
 use Rattle.branch_tree.specs.inner.Choosing.{HasFreePlace, IsSplittable, IsTriable}
 use Rattle.branch_tree.specs.inner.Growing.{IsChoiceOf}
 use Rattle.box_search.proofs.FreeValues.{free_value}
+use Rattle.box_search.proofs.Lemmas.{below_term}
 use Rattle.box_search.proofs.LeastCosts.{free_reaches, total_least}
 
 -- ---- what may be tried is a choice
@@ -29,16 +30,9 @@ choice_of links cost n box c low is = record {
 
 -- ---- the first module of several counts, at its least count
 
-term_below : (n i : ℕ) (f : ℕ → ℕ) → i < n → f i ≤ sum_below n f
-term_below zero i f lt = absurd (omega (arith, lt))
-term_below (suc n) i f lt = ⊎_elim
-    (λ same. omega (arith, ap f same))
-    (λ other. omega (arith, term_below n i f (omega (arith, lt, other))))
-    (cases_eq i n)
-
 over_term : (links : List Link) (f : ℕ → ℕ → ℕ) (e m : ℕ) → e < length links → m < module_number links e → f e m ≤ over_modules links f
 over_term links f e m link inside =
-    omega (arith, term_below (module_number links e) m (f e) inside, term_below (length links) e (λ k. sum_below (module_number links k) (f k)) link)
+    omega (arith, below_term (module_number links e) (f e) m inside, below_term (length links) (λ k. sum_below (module_number links k) (f k)) e link)
 
 -- a module of a box is one of the network
 of_network : (links : List Link) (box : TreeBox) (e m : ℕ) → AreCounts links (least_counts box) → e < length box → m < length (spans_of box e) → (e < length links) × (m < module_number links e)
