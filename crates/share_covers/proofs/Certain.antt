@@ -1,6 +1,7 @@
 -- that a routing carries demands follows from what is known to hold without a witness: a path's nodes are told by its links
 use Rattle.std.proofs.Common.{◌≡◌, ◌≢◌, ◌∙◌, ℕ, ◌==◌, Bool, cond, if◌then◌else◌, List, [], ◌∷◌, Option, None, Some, inl, inr, ⊎_elim, slice_get, sym, ap, subst, refl, eq-eqb, ne_eqb}
 use Rattle.net_core.proofs.Library.{∥∥₁_elim, ∥∥₁_map, props, cases_eq, AllByRecursion, option_map_or}
+use Rattle.flow_mending.proofs.Lemmas.{joins_told}
 use Rattle.plan_terms.specs.Terms.{Demand, LinkId, Link, Flow, Routing, Graph, HasEnds, Joins, Carries, IsFlow, IsPath, Leads, AreDifferent, last_node}
 
 -- ---- links
@@ -19,33 +20,7 @@ ends_other : (l : Link) (a c : ℕ) → HasEnds l a c → other_end l a ≡ c
 ends_other l a c (inl h) = ap (λ (b : Bool). cond b l.b.0 l.a.0) (eq-eqb l.a.0 a h.0) ∙ h.1
 ends_other l a c (inr h) = sym (there_and_back l a h.0) ∙ h.1
 
-ends_certain : (l : Link) (x y : ℕ) → ∥ HasEnds l x y ∥₁ → HasEnds l x y
-ends_certain l x y told =
-    let other : other_end l x ≡ y = ∥∥₁_elim told (hlevel props) (ends_other l x y) in
-    ⊎_elim
-    (λ same. inl (same, sym (ap (λ (b : Bool). cond b l.b.0 l.a.0) (eq-eqb l.a.0 x same)) ∙ other))
-    (λ differ. inr (∥∥₁_elim told (hlevel props) (λ is. ⊎_elim (λ i. absurd (differ i.0)) (λ i. i.0) is), sym (ap (λ (b : Bool). cond b l.b.0 l.a.0) (ne_eqb l.a.0 x differ)) ∙ other))
-    (cases_eq l.a.0 x)
-
-one_link : (l k : Link) (o : Option Link) → o ≡ Some l → o ≡ Some k → l ≡ k
-one_link l k o a b = cc (a, b)
-
 module _ (g : Graph) where
-  joins_at : (e x y : ℕ) (o : Option Link) → slice_get g.links e ≡ o → ∥ Joins g e x y ∥₁ → Joins g e x y
-  joins_at e x y None none told = absurd (∥∥₁_elim told (hlevel props) (λ (j : Joins g e x y). let at = j.survives.at in absurd cc (at, none)))
-  joins_at e x y (Some l) at told = record {
-    survives = record {
-      link = l;
-      at = at;
-      has_module = ∥∥₁_elim told (hlevel props) (λ (j : Joins g e x y). subst (λ (k : Link). k.modules ≢ []) (one_link j.survives.link l (slice_get g.links e) j.survives.at at) j.survives.has_module);
-      unfailed = ∥∥₁_elim told (hlevel props) (λ (j : Joins g e x y). j.survives.unfailed);
-    };
-    ends = ends_certain l x y (∥∥₁_map told (λ (j : Joins g e x y). subst (λ (k : Link). HasEnds k x y) (one_link j.survives.link l (slice_get g.links e) j.survives.at at) j.ends));
-  }
-
-  joins_certain : (e x y : ℕ) → ∥ Joins g e x y ∥₁ → Joins g e x y
-  joins_certain e x y told = joins_at e x y (slice_get g.links e) refl told
-
   -- ---- paths
 
   -- the node that a link leads to
@@ -70,7 +45,7 @@ module _ (g : Graph) where
 
   leads_certain : (a : ℕ) (es : List LinkId) (cs : List ℕ) → ∥ Leads (Joins g) a es cs ∥₁ → Leads (Joins g) a es cs
   leads_certain a [] [] told = tt
-  leads_certain a (e ∷ es) (c ∷ cs) told = (joins_certain e.0 a c (∥∥₁_map told (λ is. is.0)), leads_certain c es cs (∥∥₁_map told (λ is. is.1)))
+  leads_certain a (e ∷ es) (c ∷ cs) told = (joins_told g e.0 a c (∥∥₁_map told (λ is. is.0)), leads_certain c es cs (∥∥₁_map told (λ is. is.1)))
   leads_certain a [] (c ∷ cs) told = absurd (∥∥₁_elim told (hlevel props) (λ is. is))
   leads_certain a (e ∷ es) [] told = absurd (∥∥₁_elim told (hlevel props) (λ is. is))
 
