@@ -14,7 +14,7 @@ pub least_flows : (joins : ℕ → ℕ → ℕ → Type 0) (lengths : List ℕ) 
 least_flows joins lengths demands r least k d lt = least_flow joins lengths demands (get_or r.flows k d) (least.each k d lt)
 
 -- flows of ever later demands
-ordered_at : (flows : List Flow) (i : ℕ) (d : Flow) → AllPairs (λ f g. f.demand < g.demand) flows → i < length flows → i ≤ (get_or flows i d).demand
+pub ordered_at : (flows : List Flow) (i : ℕ) (d : Flow) → AllPairs (λ f g. f.demand < g.demand) flows → i < length flows → i ≤ (get_or flows i d).demand
 ordered_at flows zero d ordered lt = omega arith
 ordered_at flows (suc i) d ordered lt =
     let before : i ≤ (get_or flows i d).demand = ordered_at flows i d ordered (omega (arith, lt)) in
