@@ -1,8 +1,9 @@
 -- the plan of a fallback plan and a certified bound is in form and in lowest terms
-use Rattle.std.proofs.Common.{◌≡◌, ◌≢◌, ℕ, zero, suc, ◌+◌, ◌*◌, ◌^◌, ◌<◌, ◌≤◌, Bool, true, false, if◌then◌else◌, List, [], ◌∷◌, ◌++◌, All, AllPairs, Some, get_or, length, slice_get, sym, subst, arith, zip, append_assoc}
+use Rattle.std.proofs.Common.{◌≡◌, ◌≢◌, ℕ, ◌+◌, ◌*◌, ◌^◌, ◌<◌, ◌≤◌, Bool, true, false, if◌then◌else◌, List, [], ◌∷◌, ◌++◌, All, AllPairs, Some, get_or, length, slice_get, sym, subst, arith, zip, append_assoc}
 use Rattle.net_core.proofs.Library.{◌∣◌, eq-one_of_dvd-one, All-cons, All-nil, All-weaker, All-head, All-tail, sum_by-cons, slice_get_within, get_or_from_slice_get, new_name}
 use Rattle.plan_terms.specs.Terms.{Demand, LinkId, Link, Module, Flow, Routing, AreDemands, IsDemand, Graph, Joins, IsLink, IsModule, IsNetwork, installs, link_cost, modules_cost, total_cost, IsLeastFlow, IsLeastRouting, IsPath, Leads, last_node}
 use Rattle.plan_terms.proofs.Lemmas.{product_below}
+use Rattle.module_choice.proofs.Carrying.{ordered_at}
 use Rattle.plan_report.specs.Terms.{IsDemandInForm, IsFlowInForm, IsPathInForm, IsRoutingInForm}
 use Rattle.route_law.specs.Terms.{IsLowestRouting}
 use Rattle.text_kit.specs.Terms.{ComeAfter}
@@ -32,18 +33,10 @@ module _ (g : Graph) where
 
 -- ---- routings
 
--- places that rise are no less than their numbers
-rising : (flows : List Flow) (f : Flow) → AllPairs (λ x y. x.demand < y.demand) flows → (i : ℕ) → i < length flows → i ≤ (get_or flows i f).demand
-rising flows f up zero lt = omega arith
-rising flows f up (suc i) lt =
-    let before = rising flows f up i (omega (arith, lt)) in
-    let more : (get_or flows i f).demand < (get_or flows (suc i) f).demand = up i (suc i) f (omega arith) lt in
-    omega (arith, before, more)
-
 few_flows : (n : ℕ) (flows : List Flow) → AllPairs (λ x y. x.demand < y.demand) flows → All (λ f. f.demand < n) flows → length flows ≤ n
 few_flows n [] up all = omega arith
 few_flows n (f ∷ fs) up all =
-    let last = rising (f ∷ fs) f up (length fs) (omega arith) in
+    let last = ordered_at (f ∷ fs) (length fs) f up (omega arith) in
     let below : (get_or (f ∷ fs) (length fs) f).demand < n = all (length fs) f (omega arith) in
     omega (arith, last, below)
 
