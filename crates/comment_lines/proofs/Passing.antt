@@ -62,7 +62,7 @@ tokens_same (b ∷ xs) more zero at none le =
     ∙ ap (λ (ts : List Token). begun at b (xs ++ 10 ∷ []) ++ ts) (tokens_same xs more n (at + 1) none (extent_within b xs [])))
 tokens_same (b ∷ xs) more (suc skip) at none le = tokens_same xs more skip (at + 1) none (omega (arith, le))
 
-line_long : (text more : List ℕ) → IsOneLine text → line_length (text ++ 10 ∷ more) ≡ length text
+pub line_long : (text more : List ℕ) → IsOneLine text → line_length (text ++ 10 ∷ more) ≡ length text
 line_long [] more one = refl
 line_long (b ∷ text) more one =
     let parts = and_parts (not (b == 10)) (list_all (λ x. not (x == 10)) text) one in
