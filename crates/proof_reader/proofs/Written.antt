@@ -1,12 +1,13 @@
 -- Comment lines that were put below a text are comments of their items.
-use Rattle.std.proofs.Common.{◌≡◌, ℕ, ◌+◌, ◌≤◌, ◌==◌, Bool, cond, not, List, [], ◌∷◌, ◌++◌, length, take, drop, refl, sym, ap, subst, ◌∙◌, arith, length-drop, length-append, append_assoc, flat_map, All}
+use Rattle.std.proofs.Common.{◌≡◌, ℕ, ◌+◌, ◌≤◌, ◌==◌, List, [], ◌∷◌, ◌++◌, length, take, drop, refl, sym, ap, subst, ◌∙◌, arith, length-drop, length-append, append_assoc, flat_map, All}
 use Rattle.std.proofs.lemmas.List.{drop-drop, drop-take, length-take}
 use Rattle.std.proofs.Math.Seq.{drop-append_seam}
-use Rattle.net_core.proofs.Library.{AllByRecursion, All-head, All-tail, list_all, and_parts}
+use Rattle.net_core.proofs.Library.{AllByRecursion, All-head, All-tail}
 use Rattle.net_core.specs.Terms.{is_space}
 use Rattle.snd_tokens.specs.Terms.{line_length, run_length, Text, EndAt, text_from}
 use Rattle.text_kit.specs.Terms.{Item, Begins, IsMadeOf, IsWritable, word_of}
 use Rattle.text_kit.proofs.Lemmas.{from_is, item_begins, space_passed, text_ends, drop_first, take_first}
+use Rattle.comment_lines.proofs.Passing.{line_long}
 use Rattle.comment_lines.specs.Comments.{AddsLines, IsOneLine, comment_line, spaced_items}
 use Rattle.proof_reader.specs.CommentTexts.{AreCommentsOf, Comments, CommentAt, comments_from}
 use Rattle.proof_reader.proofs.Scanning.{comments_end, comments_hash, comments_space}
@@ -24,13 +25,6 @@ spaced_begins (i ∷ is) whole at all within e =
     subst (λ (t : Text). Begins (i ∷ is) t (EndAt (length whole))) (sym p.0) (item_begins i is whole (at + 1) (spaced_items is) (spaced_stop is) all.0 p.1 (λ next le d. spaced_begins is whole next all.1 le d))
 
 -- ---- lines
-
-line_long : (text more : List ℕ) → IsOneLine text → line_length (text ++ 10 ∷ more) ≡ length text
-line_long [] more one = refl
-line_long (b ∷ text) more one =
-    let parts = and_parts (not (b == 10)) (list_all (λ x. not (x == 10)) text) one in
-    let rest = line_long text more parts.1 in
-    ap (λ (v : Bool). cond v (1 + line_length (text ++ 10 ∷ more)) 0) parts.0 ∙ omega (arith, rest)
 
 -- a line, and what comes after it
 record LineThere (whole : List ℕ) (at : ℕ) (items : List Item) (bytes : List ℕ) : Type 0 where
