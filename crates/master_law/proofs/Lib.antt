@@ -1,3 +1,4 @@
+pub mod Capacities
 pub mod Certified
 pub mod Columns
 pub mod Examples
