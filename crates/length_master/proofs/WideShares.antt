@@ -1,5 +1,5 @@
 -- prices of the links' capacity that pass the test are those of a least share
-use Rattle.std.proofs.Common.{◌≡◌, ℕ, zero, suc, ◌+◌, ◌*◌, ◌<◌, List, [], ◌∷◌, All, length, map, replicate, slice_index, refl, sym, ap, ◌∙◌, subst, arith, unsigned_abs, ℤ, pos, ◌*ℤ◌, ◌<ℤ◌, ◌≤ℤ◌}
+use Rattle.std.proofs.Common.{◌≡◌, ℕ, zero, suc, ◌+◌, ◌*◌, ◌<◌, List, All, length, map, replicate, slice_index, refl, sym, ap, ◌∙◌, subst, arith, unsigned_abs, ℤ, pos, ◌*ℤ◌, ◌<ℤ◌, ◌≤ℤ◌}
 use Rattle.std.proofs.lemmas.Grind.{same_number_lists}
 use Rattle.net_core.proofs.Library.{All-get_or, get_or-map, get_or-replicate, ints, length-map, length-replicate, unsigned_abs-mul, *ℤ-zero, ◌∣◌, get_or-map-range_with_len, length-map-range_with_len, range_with_len}
 use Rattle.checked_fraction.specs.Terms.{IsInLowestTerms, num}
@@ -13,6 +13,7 @@ use Rattle.simplex_law.specs.Terms.{dot}
 use Rattle.simplex_law.proofs.Lemmas.{dot-same, dot-times, le_cancel, le_times, moved_out, some_lowest, times_nonneg}
 use Rattle.simplex_law.proofs.Rows.{IsMultiple}
 use Rattle.master_law.specs.Terms.{AreUnitPairs, IsLeastShare, cut_entry, cut_gain, share_capacities, share_caps, unit_capacities}
+use Rattle.master_law.proofs.Capacities.{share_at, share_count}
 use Rattle.master_bound.specs.Answers.{cut_at}
 use Rattle.length_master.specs.declared.slot.Slot.{Slot}
 use Rattle.length_master.specs.declared.slot.Slot.TheVariants.{Slack, Cut}
@@ -42,27 +43,6 @@ pub ones_are : (n : ℕ) (unit : UnitPair) (ones : List UnitPair) → unit.capac
 ones_are n unit ones is same e l =
     subst (λ xs. slice_index (unit_capacities xs) e ≡ 1) (sym same)
     (get_or-map (λ (p : UnitPair). p.capacity) (replicate n unit) e unit 0 (subst (λ m. e < m) (sym (length-replicate n unit)) l) ∙ (ap (λ (p : UnitPair). p.capacity) (get_or-replicate n e unit unit l) ∙ is))
-
--- a link's capacity in a share
-capacity_in : (scale : ℕ) (links : List Link) (pairs : List UnitPair) (units : List ℕ) (e : ℕ) → length pairs ≡ length links → length units ≡ length links
-    → slice_index (share_capacities links pairs (record { scale = scale; units = units })) e
-    ≡ slice_index (map (λ l. l.fixed) links) e * scale + slice_index (unit_capacities pairs) e * slice_index units e
-capacity_in scale [] [] [] e cp cu = omega arith
-capacity_in scale [] (p ∷ ps) units e cp cu = absurd (omega (arith, cp))
-capacity_in scale [] [] (u ∷ us) e cp cu = absurd (omega (arith, cu))
-capacity_in scale (l ∷ ls) [] units e cp cu = absurd (omega (arith, cp))
-capacity_in scale (l ∷ ls) (p ∷ ps) [] e cp cu = absurd (omega (arith, cu))
-capacity_in scale (l ∷ ls) (p ∷ ps) (u ∷ us) zero cp cu = refl
-capacity_in scale (l ∷ ls) (p ∷ ps) (u ∷ us) (suc e) cp cu = capacity_in scale ls ps us e (omega (arith, cp)) (omega (arith, cu))
-
-capacities_count : (scale : ℕ) (links : List Link) (pairs : List UnitPair) (units : List ℕ) → length pairs ≡ length links → length units ≡ length links
-    → length (share_capacities links pairs (record { scale = scale; units = units })) ≡ length links
-capacities_count scale [] [] [] cp cu = refl
-capacities_count scale [] (p ∷ ps) units cp cu = absurd (omega (arith, cp))
-capacities_count scale [] [] (u ∷ us) cp cu = absurd (omega (arith, cu))
-capacities_count scale (l ∷ ls) [] units cp cu = absurd (omega (arith, cp))
-capacities_count scale (l ∷ ls) (p ∷ ps) [] cp cu = absurd (omega (arith, cu))
-capacities_count scale (l ∷ ls) (p ∷ ps) (u ∷ us) cp cu = let rest = capacities_count scale ls ps us (omega (arith, cp)) (omega (arith, cu)) in omega (arith, rest)
 
 -- what a link has at its price, all times, is what its units give, g times
 given_times : (all g fixed capacity price den units scale part : ℕ) → all * den ≡ g * scale → price * part ≡ g * units → (0 < capacity → part * capacity ≡ all)
@@ -208,7 +188,7 @@ module _ (links : List Link) (pairs : List UnitPair) (cuts : List CutLine) (soun
       given_times all g (slice_index (map (λ l. l.fixed) links) e) (slice_index (unit_capacities pairs) e) (unsigned_abs (u e)) (unsigned_abs duals.den) (unit_of e) (unsigned_abs over) (parts e)
       same_scale (same_units e l) ((many links pairs cuts sound units bound).each e l)
       ∙ ap (λ t. g * t) (ap (λ t. slice_index (map (λ l. l.fixed) links) e * unsigned_abs over + slice_index (unit_capacities pairs) e * t) (sym (unit_at e l))
-      ∙ sym (capacity_in (unsigned_abs over) links pairs share.units e units.count (length-map-range_with_len unit_of 0 n)))
+      ∙ sym (share_at (unsigned_abs over) links pairs share.units e units.count (length-map-range_with_len unit_of 0 n)))
 
   same_nums : map (λ x. all * x) (capacities_over links pairs duals).nums ≡ map (λ x. g * x) (share_capacities links pairs share)
   same_nums = same_number_lists _ _ (left_count ∙ sym right_count) (λ k l.
@@ -219,7 +199,7 @@ module _ (links : List Link) (pairs : List UnitPair) (cuts : List CutLine) (soun
       ∙ sym (get_or-map (λ x. g * x) (share_capacities links pairs share) k 0 0 (subst (λ m. k < m) (sym whole_count) inside)))))
     where
       whole_count : length (share_capacities links pairs share) ≡ n
-      whole_count = capacities_count (unsigned_abs over) links pairs share.units units.count (length-map-range_with_len unit_of 0 n)
+      whole_count = share_count links pairs share units.count (length-map-range_with_len unit_of 0 n)
 
       left_count : length (map (λ x. all * x) (capacities_over links pairs duals).nums) ≡ n
       left_count = length-map (capacities_over links pairs duals).nums (λ x. all * x) ∙ length-map-range_with_len (given_at links pairs duals) 0 n
