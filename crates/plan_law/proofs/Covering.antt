@@ -5,18 +5,8 @@ use Rattle.module_prices.specs.declared.cheapest.UnitPair.{UnitPair}
 use Rattle.plan_terms.specs.Terms.{Demand, Link, Flow, Routing, graph_in, Joins, names_link, sum_below, capacities, modules_capacity, sent, load, IsFlow, Carries}
 use Rattle.plan_terms.proofs.Lemmas.{fixed_of, all_carried, all_weaker}
 use Rattle.master_law.specs.Terms.{unit_capacities, share_capacities}
+use Rattle.master_law.proofs.Capacities.{share_at}
 use Rattle.plan_law.specs.Laws.{CoversCarry}
-
--- a link's capacity in a share
-capacity_at : (scale : ℕ) (links : List Link) (pairs : List UnitPair) (units : List ℕ) (e : ℕ) → length pairs ≡ length links → length units ≡ length links
-    → slice_index (share_capacities links pairs (record { scale = scale; units = units })) e ≡ slice_index (fixed_of links) e * scale + slice_index units e * slice_index (unit_capacities pairs) e
-capacity_at scale [] [] [] e cp cu = omega arith
-capacity_at scale [] (p ∷ ps) units e cp cu = absurd (omega (arith, cp))
-capacity_at scale [] [] (u ∷ us) e cp cu = absurd (omega (arith, cu))
-capacity_at scale (l ∷ ls) [] units e cp cu = absurd (omega (arith, cp))
-capacity_at scale (l ∷ ls) (p ∷ ps) [] e cp cu = absurd (omega (arith, cu))
-capacity_at scale (l ∷ ls) (p ∷ ps) (u ∷ us) zero cp cu = omega arith
-capacity_at scale (l ∷ ls) (p ∷ ps) (u ∷ us) (suc e) cp cu = capacity_at scale ls ps us e (omega (arith, cp)) (omega (arith, cu))
 
 -- what flows over a link is no more than all flows
 load_low : (flows : List Flow) (e : ℕ) → load flows e ≤ sum_by (λ f. f.num * 1) flows
@@ -97,9 +87,9 @@ covers_carry p pairs share counts s r units demands proper covers c = record {
         let counts_is : slice_get counts e ≡ Some c_at = slice_get-get_or counts e [] in_counts in
         let cover = covers.each e l pair c_at l_is (slice_get-get_or pairs e no_pair in_pairs) counts_is in
         let nums_is : slice_index (share_capacities p.links pairs share) e ≡ l.fixed * share.scale + slice_index share.units e * pair.capacity =
-        capacity_at share.scale p.links pairs share.units e units.count proper.long
-        ∙ (ap (λ n. n * share.scale + slice_index share.units e * slice_index (unit_capacities pairs) e) (get_or-map (λ (k : Link). k.fixed) p.links e no_link 0 lt)
-        ∙ ap (λ n. l.fixed * share.scale + slice_index share.units e * n) (get_or-map (λ (q : UnitPair). q.capacity) pairs e no_pair 0 in_pairs)) in
+        share_at share.scale p.links pairs share.units e units.count proper.long
+        ∙ (ap (λ n. n * share.scale + slice_index (unit_capacities pairs) e * slice_index share.units e) (get_or-map (λ (k : Link). k.fixed) p.links e no_link 0 lt)
+        ∙ (ap (λ n. l.fixed * share.scale + n * slice_index share.units e) (get_or-map (λ (q : UnitPair). q.capacity) pairs e no_pair 0 in_pairs) ∙ omega arith)) in
         let installed : slice_index (capacities p.links counts) e ≡ l.fixed + modules_capacity l.modules c_at = installed_at p.links counts e l c_at l_is counts_is in
         enough (load r.flows e) (slice_index (share_capacities p.links pairs share) e) (sum_by (λ f. f.num * 1) r.flows) share.scale r.den l.fixed (slice_index share.units e) pair.capacity cover.0 (sum_by (λ d. d.need) p.demands) (slice_index (capacities p.links counts) e)
         (c.within e) (load_low r.flows e) (all_sent (Joins (graph_in p s)) p.demands share.scale (share_capacities p.links pairs share) r c) demands.total nums_is cover.1.enough (omega (arith, installed, cover.2.reaches.reached))
@@ -109,5 +99,5 @@ covers_carry p pairs share counts s r units demands proper covers c = record {
         let fixed = past (fixed_of p.links) e (subst (λ n. n ≤ e) (sym (length-map p.links (λ l. l.fixed))) ge) in
         let unit = past share.units e (subst (λ n. n ≤ e) (sym proper.long) ge) in
         let none : slice_index (share_capacities p.links pairs share) e ≡ 0 =
-        omega (arith, capacity_at share.scale p.links pairs share.units e units.count proper.long, ap (λ n. n * share.scale) fixed, ap (λ n. n * slice_index (unit_capacities pairs) e) unit) in
+        omega (arith, share_at share.scale p.links pairs share.units e units.count proper.long, ap (λ n. n * share.scale) fixed, ap (λ n. slice_index (unit_capacities pairs) e * n) unit) in
         omega (arith, c.within e, ap (λ n. n * r.den) none)

@@ -1,22 +1,15 @@
 -- no certificate has a greater raw value than a tight plan: its share is carried in each state, so it violates no cut
-use Rattle.std.proofs.Common.{◌≡◌, ℕ, ◌*◌, ◌<◌, ◌≤◌, List, [], ◌∷◌, length, get_or, refl, sym, ap, arith, subst, mul-le-mul_left}
+use Rattle.std.proofs.Common.{◌≡◌, ℕ, ◌*◌, ◌<◌, ◌≤◌, List, [], length, get_or, sym, ap, arith, subst, mul-le-mul_left}
 use Rattle.net_core.proofs.Library.{slice_get-get_or, le_of_mul-le-mul_left}
 use Rattle.module_prices.specs.declared.cheapest.UnitPair.{UnitPair}
-use Rattle.plan_terms.specs.Terms.{Link, CutLine, Routing, Case, graph_in, IsCut, raw_value, Violates}
+use Rattle.plan_terms.specs.Terms.{CutLine, Routing, Case, graph_in, IsCut, raw_value, Violates}
 use Rattle.plan_types.specs.declared.quality.Fractional.{Fractional}
 use Rattle.route_law.proofs.Lemmas.{violated_carries_nothing}
-use Rattle.master_law.specs.Terms.{share_capacities, share_caps, share_cost}
+use Rattle.master_law.specs.Terms.{share_caps, share_cost}
+use Rattle.master_law.proofs.Capacities.{share_count}
 use Rattle.master_law.proofs.Greatest.{unviolated_raw}
 use Rattle.plan_law.specs.Laws.{TightIsGreatest}
 use Rattle.plan_law.specs.TightPlans.{AreCarriedByShare}
-
--- a share gives each link a capacity
-share_count : (scale : ℕ) (links : List Link) (pairs : List UnitPair) (units : List ℕ) → length pairs ≡ length links → length units ≡ length links
-    → length (share_capacities links pairs (record { scale = scale; units = units })) ≡ length links
-share_count scale [] pairs units cp cu = refl
-share_count scale (l ∷ ls) [] units cp cu = absurd (omega (arith, cp))
-share_count scale (l ∷ ls) (p ∷ ps) [] cp cu = absurd (omega (arith, cu))
-share_count scale (l ∷ ls) (p ∷ ps) (u ∷ us) cp cu = omega (arith, share_count scale ls ps us (omega (arith, cp)) (omega (arith, cu)))
 
 -- a share that is carried in each state violates no cut
 carried_violates_none : (p : Case) (pairs : List UnitPair) (fractional : Fractional) (cut : CutLine) → length pairs ≡ length p.links → length fractional.share.units ≡ length p.links
@@ -25,7 +18,7 @@ carried_violates_none p pairs fractional cut count long carried is violated =
     let s = cut.state.0 in
     let at = slice_get-get_or fractional.routings s no_routing (subst (λ n. s < n) (sym carried.states) (omega (arith, is.listed_state))) in
     violated_carries_nothing (graph_in p s) p.demands (share_caps p.links pairs fractional.share) (get_or fractional.routings s no_routing) cut
-    (share_count fractional.share.scale p.links pairs fractional.share.units count long) is.kept is.right (carried.each s (get_or fractional.routings s no_routing) at) violated
+    (share_count p.links pairs fractional.share count long) is.kept is.right (carried.each s (get_or fractional.routings s no_routing) at) violated
   where
     no_routing : Routing
     no_routing = record { den = 0; flows = [] }
