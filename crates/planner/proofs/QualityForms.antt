@@ -1,12 +1,13 @@
 -- shares, capacities and routings are in form
-use Rattle.std.proofs.Common.{ℕ, ◌+◌, ◌*◌, ◌^◌, ◌<◌, ◌≤◌, ⊎_elim, List, [], ◌∷◌, All, get_or, length, zip, ◌∙◌, arith}
-use Rattle.net_core.proofs.Library.{length-map, length-zip, All-cons, All-contains, All-head, All-nil, All-tail, All-weaker, slice_get-get_or, slice_get_within}
+use Rattle.std.proofs.Common.{ℕ, ◌+◌, ◌*◌, ◌^◌, ◌<◌, ◌≤◌, ⊎_elim, List, [], ◌∷◌, All, get_or, length, arith}
+use Rattle.net_core.proofs.Library.{All-cons, All-contains, All-head, All-nil, All-tail, All-weaker, slice_get-get_or, slice_get_within}
 use Rattle.plan_terms.specs.Terms.{Demand, Link, Module, Caps, Flow, Routing, AreDemands, Graph, Joins, IsModule, IsNetwork, AreCounts, AreWithinLimits, capacities, IsFlow, IsUnitPair}
 use Rattle.module_prices.specs.declared.cheapest.UnitPair.{UnitPair}
 use Rattle.plan_terms.proofs.Lemmas.{product_below}
 use Rattle.plan_report.specs.Terms.{AreCapsInForm, IsFlowInForm, IsRoutingInForm, IsShareInForm, Share}
 use Rattle.share_covers.specs.Terms.{IsRouted}
 use Rattle.master_law.specs.Terms.{AreUnitPairs, IsPairOfLink, share_capacities, share_caps}
+use Rattle.master_law.proofs.Capacities.{share_count}
 use Rattle.share_covers.specs.InstalledRoutes.{installed_caps}
 use Rattle.planner.proofs.BestBounds.{lowest_small}
 use Rattle.planner.proofs.InForm.{of_list, path_in_form}
@@ -65,8 +66,7 @@ share_caps_form nodes links pairs share net units form = record {
   positive = form.positive;
   scale = form.scale;
   nums = record {
-    long = length-map (zip links (zip pairs share.units)) (λ r. r.0.fixed * share.scale + r.1.0.capacity * r.1.1)
-        ∙ omega (arith, units.count, form.units.long, length-zip pairs share.units, length-zip links (zip pairs share.units));
+    long = share_count links pairs share units.count form.units.long;
     each = share_low share.scale links pairs share.units form.scale (λ k d lt. (net.sound k d lt).fixed) (pairs_small links pairs (λ k d lt. (net.sound k d lt).each) units) form.units.each;
   };
 }
