@@ -9,6 +9,7 @@ use Rattle.plan_types.specs.declared.quality.Quality.{Quality}
 use Rattle.plan_types.specs.declared.quality.Quality.TheVariants.{Tight, Loose}
 use Rattle.route_law.proofs.Lemmas.{divided_are_violated}
 use Rattle.master_law.specs.Terms.{AreUnitPairs, IsLeastShare, share_capacities, share_caps}
+use Rattle.master_law.proofs.Capacities.{share_count}
 use Rattle.master_law.proofs.PairsOnce.{links_once}
 use Rattle.master_bound.specs.declared.answer.Best.{Best}
 use Rattle.length_master.specs.WideShares.{AreLeastCaps}
@@ -24,7 +25,6 @@ use Rattle.plan_rounds.specs.declared.shares.ShareCaps.{ShareCaps}
 use Rattle.plan_rounds.specs.declared.rounds.Turn.{Turn}
 use Rattle.plan_rounds.specs.declared.rounds.Turn.TheVariants.{Further, Last}
 use Rattle.plan_rounds.specs.declared.sorted_answers.Answered.{Answered}
-use Rattle.plan_rounds.proofs.Sharing.{capacities_count}
 use Rattle.plan_rounds.proofs.Turning.{GivesNoLess, IsWorking, divided_gives, further_room, listed_round, proper, round, taken_few, taken_some, working_ends, working_on}
 
 module _ (p : Case) (pairs : List UnitPair) where
@@ -56,7 +56,7 @@ module _ (p : Case) (pairs : List UnitPair) where
   least_count lines caps is =
       sym (length-map caps.nums (λ n. is.factor * n))
       ∙ (ap (λ k. length k.nums) is.same
-      ∙ (length-map (share_capacities p.links is.pairs is.share) (λ n. is.of_share * n) ∙ capacities_count p.links is.pairs is.share is.units.count is.least.count))
+      ∙ (length-map (share_capacities p.links is.pairs is.share) (λ n. is.of_share * n) ∙ share_count p.links is.pairs is.share is.units.count is.least.count))
 
   pub divided_least : (caps : Caps) (c : ShareCaps) (share : Share) → IsDividedCaps caps c → GivesNoLess p pairs caps share → GivesNoLess p pairs c.divided share
   divided_least caps c share is gives line violated = gives line (divided_gives p pairs caps c line is violated)

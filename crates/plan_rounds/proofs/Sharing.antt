@@ -5,6 +5,7 @@ use Rattle.plan_terms.specs.Terms.{Caps, Link}
 use Rattle.module_prices.specs.declared.cheapest.UnitPair.{UnitPair}
 use Rattle.plan_types.specs.declared.quality.Share.{Share}
 use Rattle.master_law.specs.Terms.{share_capacities, share_caps}
+use Rattle.master_law.proofs.Capacities.{share_count}
 use Rattle.plan_rounds.specs.inner.Sharing.{DividesAll, IsDividedCaps, IsDividedShare}
 use Rattle.plan_rounds.specs.declared.shares.ShareCaps.{ShareCaps}
 
@@ -30,11 +31,6 @@ number_more links pairs share e l p u same units inside =
     here : get_or rows e (l, (p, u)) ≡ (get_or links e l, (get_or pairs e p, get_or share.units e u))
     here = get_or-zip links (zip pairs share.units) e (l, (p, u)) inside in_pairs
         ∙ ap (λ q. (get_or links e l, q)) (get_or-zip pairs share.units e (p, u) (omega (arith, inside, same)) (omega (arith, inside, units)))
-
-pub capacities_count : (links : List Link) (pairs : List UnitPair) (share : Share) → length pairs ≡ length links → length share.units ≡ length links → length (share_capacities links pairs share) ≡ length links
-capacities_count links pairs share same units =
-    length-map (zip links (zip pairs share.units)) (λ r. r.0.fixed * share.scale + r.1.0.capacity * r.1.1)
-    ∙ omega (arith, same, units, length-zip pairs share.units, length-zip links (zip pairs share.units))
 
 -- one number more
 pub divides_more : (scale : ℕ) (nums : List ℕ) (n g h d : ℕ) → n < length nums → DividesAll scale (take n nums) g → IsGcd g (get_or nums n d) h → DividesAll scale (take (n + 1) nums) h
@@ -76,4 +72,4 @@ pub divided_length : (caps : Caps) (c : ShareCaps) → IsDividedCaps caps c → 
 divided_length caps c is = sym (length-map c.divided.nums (λ n. c.divisor * n)) ∙ (ap (λ k. length k.nums) is.times ∙ ap (λ k. length k.nums) is.whole)
 
 pub divided_count : (links : List Link) (pairs : List UnitPair) (share : Share) (c : ShareCaps) → length pairs ≡ length links → length share.units ≡ length links → IsDividedShare links pairs share c → length c.divided.nums ≡ length links
-divided_count links pairs share c same units is = divided_length (share_caps links pairs share) c is ∙ capacities_count links pairs share same units
+divided_count links pairs share c same units is = divided_length (share_caps links pairs share) c is ∙ share_count links pairs share same units

@@ -1,7 +1,8 @@
 use Rattle.std.proofs.Common.{arith, ◌++◌, ◌∷◌, [], ◌≡◌, ◌+◌, ◌*◌, ◌∙◌, get_or, take, subst, sym, take_all}
 use Rattle.plan_terms.specs.Terms.{Link}
 use Rattle.master_law.specs.Terms.{share_capacities}
-use Rattle.plan_rounds.proofs.Sharing.{capacities_count, number_more}
+use Rattle.master_law.proofs.Capacities.{share_count}
+use Rattle.plan_rounds.proofs.Sharing.{number_more}
 use Rattle.plan_rounds.proofs.shares.share_numbers.Goals as goal
 
 pub loop-e-preserved : goal.loop-e-preserved
@@ -17,4 +18,4 @@ loop-e-preserved c =
     rw (c.in_ok-push.ensures.ok, c.share_number.ensures, c.items.ensures, c.loop-e.invariant) (sym here)
 
 pub returns : goal.returns
-returns c = c.loop-e.invariant ∙ take_all c.loop-e.e _ (omega (arith, c.loop-e-test.false, capacities_count c.args.links.now c.args.pairs.now c.args.share.now c.requires.pairs c.requires.count))
+returns c = c.loop-e.invariant ∙ take_all c.loop-e.e _ (omega (arith, c.loop-e-test.false, share_count c.args.links.now c.args.pairs.now c.args.share.now c.requires.pairs c.requires.count))
