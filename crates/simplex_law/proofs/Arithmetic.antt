@@ -50,6 +50,10 @@ times_nonpositive a b ha hb = subst (λ z. (a *ℤ b) ≤ℤ z) (*ℤ-zero a) (l
 pub times_less : (c a b : ℤ) → pos 0 <ℤ c → a <ℤ b → (c *ℤ a) <ℤ (c *ℤ b)
 times_less c a b pc l = omega (arith, ints, positive_product c (b -ℤ a) pc (omega (arith, ints, l)), minus_left b a c)
 
+-- a positive number isn't negative
+pub weaken : (x : ℤ) → pos 0 <ℤ x → pos 0 ≤ℤ x
+weaken x h = omega (arith, ints, h)
+
 -- a positive factor may be taken away
 pub lt_cancel : (g a b : ℤ) → pos 0 <ℤ g → (g *ℤ a) <ℤ (g *ℤ b) → a <ℤ b
 lt_cancel g a b pg h = by_lt_z a b (λ lt. lt)

@@ -1,5 +1,5 @@
 -- The lemmas that other crates cite, passed on from one place. Declares nothing.
-pub use Rattle.simplex_law.proofs.Arithmetic.{distribute_left, distribute_minus, le_cancel, le_times, lt_cancel, minus_left, moved_out, positive_cancel, swap_last, times_less, times_nonneg, times_nonpositive}
+pub use Rattle.simplex_law.proofs.Arithmetic.{distribute_left, distribute_minus, le_cancel, le_times, lt_cancel, minus_left, moved_out, positive_cancel, swap_last, times_less, times_nonneg, times_nonpositive, weaken}
 pub use Rattle.simplex_law.proofs.Bounds.{same_pick, sizes}
 pub use Rattle.simplex_law.proofs.Duality.{priced}
 pub use Rattle.simplex_law.proofs.Limited.{limited}

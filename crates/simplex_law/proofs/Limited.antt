@@ -5,7 +5,7 @@ use Rattle.simplex_law.specs.Sums.{dot}
 use Rattle.simplex_law.specs.Programs.{ColumnOf, IsPacking}
 use Rattle.simplex_law.specs.Bases.{Gains}
 use Rattle.simplex_law.specs.inner.Tableaux.{IsTableau}
-use Rattle.simplex_law.proofs.Arithmetic.{times_nonpositive, positive_cancel, le_cancel}
+use Rattle.simplex_law.proofs.Arithmetic.{times_nonpositive, positive_cancel, le_cancel, weaken}
 use Rattle.simplex_law.proofs.Sums.{sum-le, sum-none, dot-none-column}
 use Rattle.simplex_law.proofs.Filling.{fills}
 
@@ -24,9 +24,6 @@ limited m bound is_column basis nums den duals duals_den c packing columns is_c 
     let zero_price : dot m duals c.entry ≡ pos 0 = dot-none-column m duals c.entry no_entry in
     absurd (omega (arith, ints, less, zero_price, gains)))
   where
-    weaken : (x : ℤ) → pos 0 <ℤ x → pos 0 ≤ℤ x
-    weaken x h = omega (arith, ints, h)
-
     w : ℕ → ℤ
     w = s.filling.0
 

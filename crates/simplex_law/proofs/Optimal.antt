@@ -7,7 +7,7 @@ use Rattle.simplex_law.specs.Programs.{ColumnOf, IsSlack, slack_basis, IsProgram
 use Rattle.simplex_law.specs.Bases.{Gains}
 use Rattle.simplex_law.specs.Optima.{IsOptimum, IsGreatestGain}
 use Rattle.simplex_law.specs.inner.Tableaux.{IsTableau}
-use Rattle.simplex_law.proofs.Arithmetic.{moved_out, le_times, le_cancel}
+use Rattle.simplex_law.proofs.Arithmetic.{moved_out, le_times, le_cancel, weaken}
 use Rattle.simplex_law.proofs.Sums.{dot-unit}
 use Rattle.simplex_law.proofs.Duality.{packing_duality, equal_value}
 use Rattle.simplex_law.proofs.Filling.{filled_over}
@@ -65,9 +65,6 @@ greatest m bound slack is_listed basis values duals den duals_den o count column
 
     best : ℤ
     best = int_sum m (λ j. values j *ℤ (basis j).gain)
-
-    weaken : (x : ℤ) → pos 0 <ℤ x → pos 0 ≤ℤ x
-    weaken x h = omega (arith, ints, h)
 
     at_least : (x z : ℤ) → (x <ℤ z → ⊥) → z ≤ℤ x
     at_least x z never = by_lt_z x z (λ l. absurd (never l)) (λ h. h)

@@ -3,7 +3,7 @@ use Rattle.std.proofs.Common.{◌≡◌, ◌⊎◌, ℕ, zero, suc, ◌<◌, ◌
 use Rattle.net_core.proofs.Library.{*ℤ_comm, *ℤ-zero, ints, by_lt_z}
 use Rattle.checked_fraction.specs.Terms.{combined}
 use Rattle.simplex_law.specs.inner.Lexicographic.{IsLexNonneg, valued}
-use Rattle.simplex_law.proofs.Arithmetic.{distribute_minus, minus_left, swap_last, moved_out, times_negative, times_nonneg, times_less, positive_cancel, zero_cancel, lt_cancel}
+use Rattle.simplex_law.proofs.Arithmetic.{distribute_minus, minus_left, swap_last, moved_out, times_negative, times_nonneg, times_less, positive_cancel, zero_cancel, lt_cancel, weaken}
 use Rattle.checked_fraction.proofs.Products.{regroup, positive_product, cancelled}
 
 -- the first of n numbers that isn't 0 is positive
@@ -105,9 +105,6 @@ lex_sum (suc n) v x y g a b pg pa pb e hx hy =
     hy)
     hx
   where
-    weaken : (b : ℤ) → pos 0 <ℤ b → pos 0 ≤ℤ b
-    weaken b h = omega (arith, ints, h)
-
     first_nonneg : IsLexNonneg (suc n) y → pos 0 ≤ℤ y 0
     first_nonneg h = ⊎_elim (λ l. omega (arith, ints, l)) (λ z. omega (arith, ints, z.0)) h
 

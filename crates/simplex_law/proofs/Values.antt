@@ -6,7 +6,7 @@ use Rattle.simplex_law.specs.Sums.{int_sum, dot, unit_vector}
 use Rattle.simplex_law.specs.Programs.{ColumnOf, IsPacking}
 use Rattle.simplex_law.specs.Bases.{IsRow}
 use Rattle.simplex_law.specs.inner.Tableaux.{IsTableau, HasTableau}
-use Rattle.simplex_law.proofs.Arithmetic.{moved_out, le_times, times_nonneg, le_cancel}
+use Rattle.simplex_law.proofs.Arithmetic.{moved_out, le_times, times_nonneg, le_cancel, weaken}
 use Rattle.simplex_law.proofs.Sums.{dot-none-column, unit-same}
 use Rattle.simplex_law.proofs.Filling.{fills}
 use Rattle.simplex_law.proofs.Limited.{weight_positive}
@@ -50,9 +50,6 @@ sum_grows (suc n) o f high le = ⊎_elim
     (λ lt. omega (arith, ints, high n (omega arith), sum_grows n o f (λ k h. high k (omega (arith, h))) (omega (arith, lt))))
     (λ ge. let e : suc n ≡ o = omega (arith, le, ge) in subst (λ x. int_sum x f ≤ℤ int_sum (suc n) f) e (omega (arith, ints)))
     (cases_lt o (suc n))
-
-weaken : (x : ℤ) → pos 0 <ℤ x → pos 0 ≤ℤ x
-weaken x h = omega (arith, ints, h)
 
 -- a basic column has an entry
 basic_entry : {N : Type 0} (m : ℕ) (bound : ℕ → ℤ) (is_column : ColumnOf N → Type 0) (basis : ℕ → ColumnOf N) (nums : ℕ → ℕ → ℤ) (den duals : ℕ → ℤ) (duals_den : ℤ) (j : ℕ)
