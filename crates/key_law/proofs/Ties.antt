@@ -3,7 +3,7 @@ use Rattle.std.proofs.Common.{◌≡◌, ℕ, zero, suc, ◌<◌, ◌≤◌, ◌
 use Rattle.net_core.proofs.Library.{cases_lt, *ℤ_comm, *ℤ-zero, ints}
 use Rattle.checked_fraction.specs.Terms.{combined}
 use Rattle.simplex_law.specs.Terms.{dot, unit_vector, valued, IsNoLater}
-use Rattle.simplex_law.proofs.Lemmas.{distribute_minus, minus_left, times_nonneg, dot-none, unit-same, unit-other, dot-combined, lex_at, lex_rest, gone, over}
+use Rattle.simplex_law.proofs.Lemmas.{distribute_minus, minus_left, times_nonneg, dot-none, unit-same, unit-other, dot-combined, lex_at, lex_rest, gone, over, weaken}
 use Rattle.key_law.specs.Keys.{IsSpread}
 use Rattle.checked_fraction.proofs.Products.{positive_product}
 
@@ -58,9 +58,6 @@ module _ {links demands : ℕ} {keys : ℕ → ℕ → ℤ} (bound : ℕ → ℤ
     block_first none high pp pe = by_targets (λ f l. subst (λ x. pos 0 ≤ℤ ((p *ℤ (e *ℤ s f)) -ℤ (q *ℤ (d *ℤ x)))) (sym (none f l))
         (less (times_nonneg p (e *ℤ s f) (weaken p pp) (times_nonneg e (s f) (weaken e pe) (high f l)))))
       where
-        weaken : (x : ℤ) → pos 0 <ℤ x → pos 0 ≤ℤ x
-        weaken x h = omega (arith, ints, h)
-
         less : {x : ℤ} → pos 0 ≤ℤ x → pos 0 ≤ℤ (x -ℤ (q *ℤ (d *ℤ pos 0)))
         less {x} h = let z : q *ℤ (d *ℤ pos 0) ≡ pos 0 = ap (λ y. q *ℤ y) (*ℤ-zero d) ∙ *ℤ-zero q in omega (arith, ints, h, z)
 
