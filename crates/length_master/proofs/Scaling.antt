@@ -1,10 +1,10 @@
 -- rows of an inverse over lengths are rows of the inverse of the master program, up to positive numbers
 use Rattle.std.proofs.Common.{◌≡◌, ◌≢◌, ℕ, zero, suc, ◌*◌, ◌<◌, cond, eqb, mul-pos, refl, sym, ap, ◌∙◌, subst, ⊎_elim, arith, eq-eqb, ne_eqb, ℤ, pos, ◌*ℤ◌, ◌<ℤ◌, ◌≤ℤ◌}
-use Rattle.net_core.proofs.Library.{cases_eq, ints, *ℤ-zero, *ℤ_comm, pos-*ℤ-pos}
+use Rattle.net_core.proofs.Library.{cases_eq, *ℤ-zero, *ℤ_comm, pos-*ℤ-pos}
 use Rattle.checked_fraction.proofs.Products.{regroup}
 use Rattle.simplex_law.specs.Terms.{dot, int_sum, unit_vector}
 use Rattle.simplex_law.proofs.Duality.{equal_value}
-use Rattle.simplex_law.proofs.Lemmas.{dot-unit, le_cancel, sum-same, sum-times, sum-unit, swap_last, times_nonneg, unit-other}
+use Rattle.simplex_law.proofs.Lemmas.{dot-unit, le_cancel, sum-same, sum-times, sum-unit, swap_last, times_nonneg, unit-other, weaken}
 
 -- a number that the first n capacities divide, apart from those that are 0, with its parts
 pub record HasMultiple (n : ℕ) (c : ℕ → ℕ) : Type 0 where
@@ -116,6 +116,3 @@ worth_nonneg m i values y b basic den scale l above over high row fills =
     let one : int_sum m (λ j. values j *ℤ unit_vector i j) ≡ values i = sum-unit m i values l in
     let value : pos 0 ≤ℤ (den *ℤ values i) = times_nonneg den (values i) (weaken den above) high in
     le_cancel scale (pos 0) (dot m y b) over (subst (λ t. t ≤ℤ (scale *ℤ dot m y b)) (sym (*ℤ-zero scale)) (subst (λ t. pos 0 ≤ℤ t) (ap (λ t. den *ℤ t) (sym one) ∙ same) value))
-  where
-    weaken : (x : ℤ) → pos 0 <ℤ x → pos 0 ≤ℤ x
-    weaken x h = omega (arith, ints, h)

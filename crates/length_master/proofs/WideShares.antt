@@ -10,7 +10,7 @@ use Rattle.plan_terms.specs.Terms.{Caps, CutLine, Link, IsModule}
 use Rattle.plan_types.specs.declared.quality.Share.{Share}
 use Rattle.metric_cut.specs.Bounded.{HaveBound}
 use Rattle.simplex_law.specs.Terms.{dot}
-use Rattle.simplex_law.proofs.Lemmas.{dot-same, dot-times, le_cancel, le_times, moved_out, some_lowest, times_nonneg}
+use Rattle.simplex_law.proofs.Lemmas.{dot-same, dot-times, le_cancel, le_times, moved_out, some_lowest, times_nonneg, weaken}
 use Rattle.simplex_law.proofs.Rows.{IsMultiple}
 use Rattle.master_law.specs.Terms.{AreUnitPairs, IsLeastShare, cut_entry, cut_gain, share_capacities, share_caps, unit_capacities}
 use Rattle.master_law.proofs.Capacities.{share_at, share_count}
@@ -157,16 +157,13 @@ module _ (links : List Link) (pairs : List UnitPair) (cuts : List CutLine) (soun
   size : (x : ℤ) → pos 0 ≤ℤ x → x ≡ pos (unsigned_abs x)
   size x h = omega (arith, ints, h)
 
-  weaker : (x : ℤ) → pos 0 <ℤ x → pos 0 ≤ℤ x
-  weaker x h = omega (arith, ints, h)
-
   least : IsLeastShare links pairs cuts share
   least = record {
     basis = basis links pairs cuts sound units bound rows values den basic;
     duals = low_nums;
     den = over;
     best = best links pairs cuts sound units bound rows values den basic low_nums over lowest_share.4 low_high low_even low_priced;
-    scale = size over (weaker over lowest_share.4);
+    scale = size over (weaken over lowest_share.4);
     count = length-map-range_with_len unit_of 0 n;
     units = λ e l. size (low_nums e) (low_high e l) ∙ ap pos (sym (unit_at e l));
     lowest = λ d in_scale in_units. lowest_share.5 d in_scale (λ k l. subst (λ x. d ∣ x) (unit_at k l) (All-get_or (λ x. d ∣ x) share.units k 0 (subst (λ m. k < m) (sym (length-map-range_with_len unit_of 0 n)) l) in_units));
