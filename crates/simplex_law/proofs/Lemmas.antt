@@ -15,5 +15,5 @@ pub use Rattle.simplex_law.proofs.Sums.{dot-none, dot-none-column, dot-of-unit, 
 pub use Rattle.simplex_law.proofs.Tableaux.{IsTableau}
 pub use Rattle.simplex_law.proofs.Turned.{first_row, objective_row, other_row, rises, rises_to, turned, turned_raw}
 pub use Rattle.simplex_law.proofs.Unique.{dot_scaled, row_unique, same_tableau, valued_scaled, weights}
-pub use Rattle.simplex_law.proofs.Values.{row_value_low, row_value_nonneg, sum_grows, value_low}
+pub use Rattle.simplex_law.proofs.Values.{part_of_sum, row_value_low, row_value_nonneg, sum_grows, value_low}
 pub use Rattle.simplex_law.proofs.Widths.{inverse_row, large_part, last_row, wide_common, wide_duals, wide_multiple, wide_price, wide_product, wide_row, wide_sum, wide_value}
