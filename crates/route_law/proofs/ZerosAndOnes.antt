@@ -4,12 +4,12 @@ use Rattle.net_core.proofs.Library.{range_with_len, zero-*ℤ, eq-one_of_dvd-one
 use Rattle.std.proofs.lemmas.List.Kept.{AllPairs-cons}
 use Rattle.plan_terms.specs.Terms.{RouteColumn, Carry, Demand, LinkId, Link, Module, Caps, AreDemands, IsDemand, Graph, Joins, IsNetwork, IsLink, IsModule, names_link, IsPath, Leads, last_node}
 use Rattle.simplex_law.specs.Terms.{dot, unit_vector, ColumnOf, slack_basis, IsBest, IsFeasible}
-use Rattle.simplex_law.proofs.Lemmas.{times_nonneg, none_gains, slack_is, unit-same, unit-other, dot-unit, dot-of-unit}
+use Rattle.simplex_law.proofs.Lemmas.{times_nonneg, none_gains, part_of_sum, slack_is, unit-same, unit-other, dot-unit, dot-of-unit}
 use Rattle.route_law.specs.Laws.{ZerosAndOnesArePriced}
 use Rattle.route_law.specs.PricedLengths.{ArePricedLengths, ArePricedSomewhere}
 use Rattle.route_law.specs.RoutingPrograms.{scaled_need, path_entry, IsCarrying, route_rows, route_bound, route_slack, IsRouteColumn}
 use Rattle.route_law.proofs.Rows.{beside_first, beside_second, beside_each}
-use Rattle.route_law.proofs.TermSums.{dot-pair, dot-minus, term_le_sum, sum_of_ones}
+use Rattle.route_law.proofs.TermSums.{dot-pair, dot-minus, sum_of_ones}
 
 abbrev link_id : ℕ → LinkId
 link_id e = record { 0 = e }
@@ -239,9 +239,9 @@ module _ (xs : List ℕ) (low : (e : ℕ) → slice_index xs e ≤ 1) where
       let le : e < count_of xs = inside e (λ z. omega (arith, z, first.1)) in
       let entry_is : c.entry e ≡ pos 1 = is.entry e (omega (arith, le)) ∙ (beside_first (count_of xs) (λ k. cond (names_link k is.path) (pos 1) (pos 0)) (unit_vector is.place) e le ∙ ap (λ t. cond t (pos 1) (pos 0)) first.2) in
       let term : prices_of xs e *ℤ c.entry e ≡ pos 1 = ap (λ x. pos x *ℤ c.entry e) first.1 ∙ ap (λ y. pos 1 *ℤ y) entry_is in
-      let below = term_le_sum (rows_of xs) (λ k. prices_of xs k *ℤ c.entry k) e (omega (arith, le)) (λ k lk. times_nonneg (prices_of xs k) (c.entry k) (omega (arith, ints))
+      let below = part_of_sum (rows_of xs) e (λ k. prices_of xs k *ℤ c.entry k) (λ k lk. times_nonneg (prices_of xs k) (c.entry k) (omega (arith, ints))
       (subst (λ x. pos 0 ≤ℤ x) (sym (is.entry k lk)) (beside_each (λ z. pos 0 ≤ℤ z) (count_of xs) (λ i. cond (names_link i is.path) (pos 1) (pos 0)) (unit_vector is.place) k
-      (λ l. elim (names_link k is.path) as (λ t. pos 0 ≤ℤ cond t (pos 1) (pos 0)) [ true ↦ omega (arith, ints) | false ↦ omega (arith, ints) ]) (λ l. unit_nonneg is.place (k - count_of xs))))) in
+      (λ l. elim (names_link k is.path) as (λ t. pos 0 ≤ℤ cond t (pos 1) (pos 0)) [ true ↦ omega (arith, ints) | false ↦ omega (arith, ints) ]) (λ l. unit_nonneg is.place (k - count_of xs))))) (omega (arith, le)) in
       absurd (omega (arith, ints, below, term, is.gain, gains))
 
   best : IsBest (rows_of xs) (bound_of xs) (is_column xs) (basis_of xs) (prices_of xs) (pos 1)
