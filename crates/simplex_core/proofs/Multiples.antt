@@ -1,5 +1,5 @@
 -- least common multiples
-use Rattle.std.proofs.Common.{◌≡◌, ℕ, zero, suc, ◌+◌, ◌*◌, ◌/◌, ◌<◌, sym, ap, subst, ◌∙◌, arith, ⊎_elim}
+use Rattle.std.proofs.Common.{◌≡◌, ℕ, zero, suc, ◌+◌, ◌*◌, ◌/◌, ◌<◌, sym, ap, subst, ◌∙◌, arith, ⊎_elim, mul-pos}
 use Rattle.net_core.proofs.Library.{◌∣◌, IsGcd, cases_lt, dvd_trans, one-dvd, dvd-mul_left, dvd-mul_right, dvd_of_mul-dvd-mul_left, mul-dvd-mul_left, mul-dvd-mul_right, mul-div_cancel', positive_divisor}
 use Rattle.simplex_core.specs.Multiples.{IsLeastMultiple, HaveNoMultiple}
 use Rattle.simplex_core.specs.inner.Commons.{IsDenominator, HaveNoDenominator}
@@ -15,13 +15,8 @@ quotient_some g a p h = some (a / g) (mul-div_cancel' g h)
     some zero e = absurd (omega (arith, e))
     some (suc x) e = omega arith
 
-product_some : (a b : ℕ) → 0 < a → 0 < b → 0 < a * b
-product_some zero b p q = absurd (omega arith)
-product_some (suc a) zero p q = absurd (omega arith)
-product_some (suc a) (suc b) p q = omega arith
-
 pub multiple_some : (a b g : ℕ) → 0 < a → 0 < b → IsGcd a b g → 0 < a / g * b
-multiple_some a b g pa pb gcd = product_some (a / g) b (quotient_some g a pa gcd.0) pb
+multiple_some a b g pa pb gcd = mul-pos (quotient_some g a pa gcd.0) pb
 
 pub multiple_first : (a b g : ℕ) → IsGcd a b g → a ∣ a / g * b
 multiple_first a b g gcd =

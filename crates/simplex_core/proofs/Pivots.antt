@@ -1,27 +1,13 @@
 -- rows combined one after another
-use Rattle.std.proofs.Common.{◌≡◌, ◌≢◌, ℕ, ◌<◌, ◌+◌, List, length, Some, slice_get, slice_set, length-set, sym, ap, subst, ◌∙◌, arith, ⊎_elim, ℤ, pos, ◌-ℤ◌, ◌*ℤ◌, ◌<ℤ◌}
-use Rattle.net_core.proofs.Library.{*ℤ_comm, ints, cases_eq}
-use Rattle.checked_fraction.specs.Terms.{num, IsInLowestTerms, IsReduced, combined, IsTooWide}
+use Rattle.std.proofs.Common.{◌≡◌, ◌≢◌, ℕ, ◌<◌, ◌+◌, List, length, Some, slice_get, slice_set, length-set, sym, ap, subst, ◌∙◌, arith, ⊎_elim, ℤ, ◌*ℤ◌}
+use Rattle.net_core.proofs.Library.{cases_eq}
+use Rattle.checked_fraction.specs.Terms.{num, IsReduced, combined, IsTooWide}
 use Rattle.checked_fraction.specs.declared.row.Row.{Row}
 use Rattle.checked_fraction.specs.declared.wide.WideNumber.{WideNumber}
 use Rattle.simplex_core.specs.Tables.{nums_of, den_of, IsRectangle}
 use Rattle.simplex_core.specs.Turned.{IsCombinedRow, IsCombined, IsTooWideRow, IsTooWideAt, AreTurned, IsWideRow}
 use Rattle.simplex_core.specs.inner.Pivots.{CombinesAt, AreCombined}
 use Rattle.simplex_core.proofs.Lists.{get_same, get_other}
-use Rattle.checked_fraction.proofs.Products.{regroup}
-
-kept_number : (u d q w : ℤ) → u *ℤ (d *ℤ q) ≡ ((u *ℤ q) -ℤ (pos 0 *ℤ w)) *ℤ d
-kept_number u d q w =
-    let none : (u *ℤ q) -ℤ (pos 0 *ℤ w) ≡ u *ℤ q = omega (arith, ints) in
-    ap (λ s. u *ℤ s) (*ℤ_comm d q) ∙ (sym (regroup u q d) ∙ ap (λ s. s *ℤ d) (sym none))
-
--- a row whose product is 0 is combined as it is
-pub kept_row : (n : ℕ) (u w : ℕ → ℤ) (p d q : ℤ) → p ≡ pos 0 → pos 0 <ℤ d → IsInLowestTerms n u d → IsReduced n (combined u p w q) (d *ℤ q) u d
-kept_row n u w p d q none positive lowest = subst (λ p. IsReduced n (combined u p w q) (d *ℤ q) u d) (sym none) (record {
-  positive = positive;
-  same = λ k l. kept_number (u k) d q (w k);
-  lowest = lowest;
-})
 
 -- a row but row r is written combined
 pub combines_at : (m : ℕ) (old : List Row) (row new : Row) (products : List ℤ) (pivot : ℕ → ℤ) (q : ℤ) (r i : ℕ) → i < length old → i ≢ r → slice_get old i ≡ Some row → IsRectangle m old

@@ -2,14 +2,14 @@ use Rattle.std.proofs.Common.{length, arith, pos, ◌≡◌, ◌*ℤ◌}
 use Rattle.net_core.proofs.Library.{ints, on_ok_weaker, IfErr-weaker}
 use Rattle.checked_fraction.specs.Terms.{num, combined, IsTooWide}
 use Rattle.simplex_core.proofs.Divided.{factored}
-use Rattle.simplex_core.proofs.Pivots.{kept_row}
+use Rattle.checked_fraction.proofs.Reduced.{unmixed}
 use Rattle.simplex_core.proofs.pivot.combine_row.Goals as goal
 
 pub returns-then-p-eq0-clause-reduced : goal.returns-then-p-eq0-clause-reduced
 returns-then-p-eq0-clause-reduced c =
     let row = c.args.row.now in
     let none : c.args.p.now ≡ pos 0 = omega (arith, ints, c.if-p-eq0.true) in
-    kept_row (length row.nums) (num row.nums) (num c.args.pivot.now.nums) c.args.p.now row.den c.args.q.now none row.positive row.lowest
+    unmixed (length row.nums) (num row.nums) (num c.args.pivot.now.nums) c.args.p.now c.args.q.now row.den none row.positive row.lowest
 
 pub returns-clause-reduced : goal.returns-clause-reduced
 returns-clause-reduced c = on_ok_weaker c.combine_by.result
