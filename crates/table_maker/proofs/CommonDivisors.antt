@@ -1,19 +1,9 @@
 -- numbers that divide others
-use Rattle.std.proofs.Common.{◌≡◌, ◌≢◌, ℕ, ◌+◌, ◌<◌, ◌≤◌, ⊎_elim, List, subst, sym, ap, ◌∙◌, arith}
-use Rattle.std.proofs.Math.Nat.{eq-zero_of_zero-dvd}
-use Rattle.net_core.proofs.Library.{cases_eq, cases_lt, dvd_trans, IsGcd, ◌∣◌}
+use Rattle.std.proofs.Common.{◌≡◌, ◌≢◌, ℕ, ◌+◌, ◌<◌, ⊎_elim, List, subst, sym, ap, ◌∙◌, arith}
+use Rattle.net_core.proofs.Library.{cases_eq, dvd_trans, IsGcd, ◌∣◌}
 use Rattle.plan_terms.specs.Terms.{Link}
 use Rattle.line_check.specs.Terms.{module_number, capped}
 use Rattle.line_check.specs.declared.inequality.Inequality.{Inequality}
-
--- what divides a positive number is positive
-pub divisor_positive : (n d : ℕ) → 0 < n → d ∣ n → 0 < d
-divisor_positive n d some divides = ⊎_elim
-    (λ (h : 0 < d). h)
-    (λ (h : d ≤ 0).
-    let nothing : d ≡ 0 = omega (arith, h) in
-    absurd (omega (arith, some, eq-zero_of_zero-dvd (subst (λ k. k ∣ n) nothing divides))))
-    (cases_lt 0 d)
 
 -- a module more
 pub gives_more : (f : ℕ → ℕ) (m gives common next : ℕ) → ((k : ℕ) → k < m → common ∣ f k) → gives ≡ f m → IsGcd common gives next → (k : ℕ) → k < m + 1 → next ∣ f k
