@@ -1,6 +1,6 @@
 -- the routings of a share, as those of counts that cover it
-use Rattle.std.proofs.Common.{◌≡◌, ℕ, zero, suc, ◌+◌, ◌*◌, ◌/◌, ◌^◌, ◌<◌, ◌≤◌, ◌∙◌, cond, eqb, List, [], ◌∷◌, ◌++◌, All, Option, None, Some, get_or, length, map, slice_get, slice_index, take, refl, sym, ap, subst, arith, eq-eqb, mul-le-mul_left}
-use Rattle.net_core.proofs.Library.{◌∣◌, ∥∥₁_elim, ∥∥₁_map, props, All-map, dvd-mul_right, dvd_of_mul-dvd-mul_left, eq-one_of_dvd-one, get_or-le-sum_by, get_or_from_slice_get, le_of_dvd, le_of_mul-le-mul_left, length-map, map-append, mul-div_cancel', mul-dvd-mul_left, slice_get-get_or, slice_get_within, take_more}
+use Rattle.std.proofs.Common.{◌≡◌, ℕ, ◌+◌, ◌*◌, ◌/◌, ◌^◌, ◌<◌, ◌≤◌, ◌∙◌, cond, eqb, List, [], ◌∷◌, ◌++◌, All, Option, None, Some, get_or, length, map, slice_get, slice_index, take, refl, sym, ap, subst, arith, eq-eqb, mul-le-mul_left}
+use Rattle.net_core.proofs.Library.{◌∣◌, ∥∥₁_elim, ∥∥₁_map, props, All-map, dvd-mul_right, dvd_of_mul-dvd-mul_left, eq-one_of_dvd-one, get_or-le-sum_by, get_or_from_slice_get, le_of_dvd, le_of_mul-le-mul_left, length-map, map-append, mul-div_cancel', mul-dvd-mul_left, positive_factors, slice_get-get_or, slice_get_within, take_more}
 use Rattle.plan_terms.specs.Terms.{AreDemands, Caps, Carries, Case, Demand, Flow, Graph, IsDemand, Joins, Link, Routing, capacities, graph_in, sent}
 use Rattle.route_law.specs.Terms.{IsLowestRouting, flow_times, over_times}
 use Rattle.route_law.proofs.Lemmas.{carried_lowest}
@@ -86,12 +86,8 @@ pub most_same : (a b : ℕ) (links ls : List Link) (demands : List Demand) → a
 most_same a b links ls demands first same second = omega (arith, first, ap (λ (l : List Link). length l) same, second)
 
 -- a denominator over the scale is positive, and so is that of the routing
-right_positive : (s d : ℕ) → 0 < s * d → 0 < d
-right_positive s zero h = absurd (omega (arith, h))
-right_positive s (suc d) h = omega (arith)
-
 pub den_at_whole : (g : Graph) (demands : List Demand) (caps : Caps) (scale : ℕ) (r : Routing) → CarriesAtWhole g demands caps scale r → 0 < r.den
-den_at_whole g demands caps scale r is = let carries = is.carries in right_positive scale r.den carries.den
+den_at_whole g demands caps scale r is = let carries = is.carries in (positive_factors scale r.den carries.den).1
 
 module _ (g : Graph) (nodes : ℕ) (demands : List Demand) (sound : AreDemands nodes demands) where
   -- a flow is no more than its demand's need over the denominator
