@@ -1,6 +1,6 @@
 -- the bound of the best candidate is certified, and at least the own bound of each
-use Rattle.std.proofs.Common.{◌≡◌, ℕ, zero, suc, ◌-◌, ◌*◌, ◌^◌, ◌<◌, ◌≤◌, ⊎_elim, List, [], ◌∷◌, All, Some, get_or, length, slice_get, refl, sym, ap, subst, ◌∙◌, arith, mul-le-mul_left}
-use Rattle.net_core.proofs.Library.{◌∣◌, ∥∥₁_elim, ∥∥₁_map, props, All-nil, All-get_or, dvd-zero, get_or_from_slice_get, slice_get-get_or, slice_get_within, dvd-mul_left, eq-one_of_dvd-one, le_of_mul-le-mul_left, all_one}
+use Rattle.std.proofs.Common.{◌≡◌, ℕ, suc, ◌-◌, ◌*◌, ◌^◌, ◌<◌, ◌≤◌, ⊎_elim, List, [], ◌∷◌, All, Some, get_or, length, slice_get, refl, sym, ap, subst, ◌∙◌, arith, mul-le-mul_left}
+use Rattle.net_core.proofs.Library.{◌∣◌, ∥∥₁_elim, ∥∥₁_map, props, All-nil, All-get_or, dvd-zero, get_or_from_slice_get, slice_get-get_or, slice_get_within, dvd-mul_left, eq-one_of_dvd-one, le_of_mul-le-mul_left, all_one, positive_factors}
 use Rattle.std.proofs.lemmas.Nat.Gcd.{le_of_dvd}
 use Rattle.plan_terms.specs.Terms.{Entry, Link, CutLine, Case, IsNetwork, IsBound, IsLowest, IsCertificate, fixed_along, IsBestOwn, IsOwnBound}
 use Rattle.plan_terms.proofs.Lemmas.{bound_same, lowest_positive, alone, certificate_alone, empty_certificate, empty_raw, own_bound_unique, product_below, raw_alone}
@@ -61,17 +61,12 @@ lowest_small a b c d some low =
     let all : d * c ≤ d * a = omega (arith, more, low.same) in
     (le_of_mul-le-mul_left all (lowest_positive a b c d some low), den)
 
--- a product that isn't 0 has no factor 0
-factor_some : (a b : ℕ) → 0 < a * b → 0 < a
-factor_some zero b h = absurd (omega (arith, h))
-factor_some (suc a) b h = omega arith
-
 -- a positive fraction has a positive numerator
 raw_some : (num rest den raw raw_den : ℕ) → 0 < den → IsLowest (num * rest) den raw raw_den → 0 < raw → 0 < num
 raw_some num rest den raw raw_den positive low some =
     let left : raw * 1 ≤ raw * den = mul-le-mul_left raw positive in
     let all : 0 < num * rest * raw_den = omega (arith, left, low.same, some) in
-    factor_some num rest (factor_some (num * rest) raw_den all)
+    (positive_factors num rest (positive_factors (num * rest) raw_den all).0).0
 
 -- ---- certificates
 
