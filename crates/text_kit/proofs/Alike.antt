@@ -73,7 +73,7 @@ Rises (OpenAt p text) = (p < place text) × Rises text
 Rises (CloseAt p text) = (p < place text) × Rises text
 Rises (EndAt p) = Unit {0}
 
-rises_past : (c : ℕ) (t : Text) → Rises t → place t ≤ place (past c t)
+pub rises_past : (c : ℕ) (t : Text) → Rises t → place t ≤ place (past c t)
 rises_past zero t r = omega arith
 rises_past (suc c) (WordAt p w t) r = omega (arith, r.0, rises_past c t r.1)
 rises_past (suc c) (OpenAt p t) r = omega (arith, r.0, rises_past c t r.1)

@@ -1,7 +1,7 @@
 -- The lemmas that other crates cite, passed on from one place. Declares nothing.
 pub use Rattle.text_kit.proofs.Adding.{adds_all, adds_enclosed, adds_list, adds_more, adds_next, adds_section, adds_then, on_ok, writable}
 pub use Rattle.text_kit.proofs.After.{after_all, after_as, after_both, after_differ, all_after, differ_after}
-pub use Rattle.text_kit.proofs.Alike.{Rises, Same, agree_same, past, plus}
+pub use Rattle.text_kit.proofs.Alike.{Rises, Same, agree_same, past, plus, rises_past}
 pub use Rattle.text_kit.proofs.Amounts.{amount_again, amount_takes, lawful_amount, number_takes}
 pub use Rattle.text_kit.proofs.Files.{answer_first, answer_found, answer_only, fault_kept, file_read, first_spelled, found_spelled, only_spelled, spelled_faultless, spelled_read, written_is_read}
 pub use Rattle.text_kit.proofs.Lawful.{AnyText, IsEnd, Lawful, Starts, after_few, few_after, is_same, key_if, lawful_as, lawful_close, lawful_end, lawful_give, lawful_key, lawful_list, lawful_open, lawful_some, lawful_then, lawful_whole, lawful_word}
