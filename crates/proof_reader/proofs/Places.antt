@@ -3,9 +3,9 @@ use Rattle.std.proofs.Common.{◌≡◌, ℕ, zero, suc, ◌+◌, ◌-◌, ◌<�
 use Rattle.std.proofs.lemmas.List.{drop-take, get_or-take, length-take}
 use Rattle.net_core.proofs.Library.{prefix_len, prefix_len-le-length}
 use Rattle.net_core.specs.Terms.{is_space}
-use Rattle.snd_tokens.specs.Terms.{Text, WordAt, OpenAt, CloseAt, EndAt, line_length, text_from}
+use Rattle.snd_tokens.specs.Terms.{Text, line_length, text_from}
 use Rattle.text_kit.specs.Places.{place}
-use Rattle.text_kit.proofs.Lemmas.{run_same, take_less, Rises, past, file_rises}
+use Rattle.text_kit.proofs.Lemmas.{run_same, take_less, Rises, past, rises_past, file_rises}
 use Rattle.proof_reader.specs.CommentTexts.{Comments, CommentAt, OtherAt, NoneAt, comments_from}
 use Rattle.proof_reader.proofs.Scanning.{comments_end, comments_hash, comments_other, comments_space}
 
@@ -66,13 +66,6 @@ pub text_same : (xs ys : List ℕ) (p n : ℕ) → take n xs ≡ take n ys → l
 text_same xs ys p n same lt =
     ap (λ (k : ℕ). text_from (p + 1) (take k ys)) (end_same xs ys p n same lt)
     ∙ ap (λ (l : List ℕ). text_from (p + 1) l) (sym (take_less (line_end p xs) n xs ys (omega (arith, lt)) same))
-
-rises_past : (c : ℕ) (t : Text) → Rises t → place t ≤ place (past c t)
-rises_past zero t r = omega arith
-rises_past (suc c) (WordAt p w t) r = omega (arith, r.0, rises_past c t r.1)
-rises_past (suc c) (OpenAt p t) r = omega (arith, r.0, rises_past c t r.1)
-rises_past (suc c) (CloseAt p t) r = omega (arith, r.0, rises_past c t r.1)
-rises_past (suc c) (EndAt p) r = omega arith
 
 -- the words of a line are in the order of their places, behind its `#`
 pub line_rises : (p : ℕ) (bytes : List ℕ) → p < length bytes → Rises (line_text p bytes)
