@@ -1,6 +1,6 @@
 -- weak duality: no able counts cost less than the bound of a certificate
 use Rattle.std.proofs.Common.{◌≡◌, ℕ, suc, ◌+◌, ◌*◌, ◌≤◌, List, [], ◌∷◌, ◌++◌, length, All, Bool, true, false, if◌then◌else◌, Some, refl, sym, ap, subst, ◌∙◌, arith, map, sum_by, zip, slice_get, slice_index}
-use Rattle.net_core.proofs.Library.{sum_by-cons, recursion_from_All, dvd-add, dvd-zero, AllByRecursion, ◌∣◌, below-same, below-first, below-times, below-swapped, sums-le, sums-same, sums-equal, sums-times}
+use Rattle.net_core.proofs.Library.{sum_by-cons, recursion_from_All, dvd-add, dvd-zero, AllByRecursion, ◌∣◌, below-same, below-first, below-none, below-times, below-swapped, sums-le, sums-equal, sums-times}
 use Rattle.std.proofs.Math.Nat.{mul-le-mul_left, dvd-mul_right_of_dvd}
 use Rattle.net_core.specs.declared.network.Module.{Module}
 use Rattle.net_core.specs.declared.network.Link.{Link}
@@ -47,32 +47,25 @@ capacities_priced den unit (l ∷ ls) (c ∷ cs) shape priced =
 capacities_priced den unit [] (c ∷ cs) shape priced = absurd shape
 capacities_priced den unit (l ∷ ls) [] shape priced = absurd shape
 
--- what the pre-installed capacities give along lengths, link by link
-fixed_summed : (lengths : List ℕ) (links : List Link) → length lengths ≡ length links → fixed_along lengths links ≡ sum_below (length links) (λ e. slice_index lengths e * slice_index (fixed_of links) e)
-fixed_summed [] [] count = refl
-fixed_summed (x ∷ xs) (l ∷ ls) count =
-    omega (
-      arith,
-      fixed_summed xs ls (omega (arith, count)),
-      sum_by-cons (λ (p : ℕ × Link). p.0 * p.1.fixed) (x, l) (zip xs ls),
-      below-first (length ls) (λ e. slice_index (x ∷ xs) e * slice_index (fixed_of (l ∷ ls)) e),
-    )
-fixed_summed [] (l ∷ ls) count = absurd (omega (arith, count))
-fixed_summed (x ∷ xs) [] count = absurd (omega (arith, count))
+-- what lengths give of the pre-installed capacities, link by link
+pub along_fixed : (lengths : List ℕ) (links : List Link) → fixed_along lengths links ≡ sum_below (length links) (λ e. slice_index lengths e * slice_index (fixed_of links) e)
+along_fixed [] links = sym (below-same (length links) (λ e. 0 * slice_index (fixed_of links) e) (λ e. 0) (λ e l. omega arith) ∙ below-none (length links))
+along_fixed (n ∷ ns) [] = refl
+along_fixed (n ∷ ns) (l ∷ ls) =
+    omega (arith, sum_by-cons (λ (q : ℕ × Link). q.0 * q.1.fixed) (n, l) (zip ns ls), below-first (length ls) (λ e. slice_index (n ∷ ns) e * slice_index (fixed_of (l ∷ ls)) e), along_fixed ns ls)
 
--- sums along each line's lengths are a sum at the prices
-summed : (n : ℕ) (nums : List ℕ) (lines : List CertificateLine) → sum_by (λ l. l.num * sum_below n (λ e. slice_index l.cut.lengths e * slice_index nums e)) lines ≡ sum_below n (λ e. price lines e * slice_index nums e)
-summed n nums lines =
-    sums-equal _ (λ l. sum_below n (λ e. slice_index nums e * (l.num * slice_index l.cut.lengths e))) lines (λ l. sym (below-times n l.num (λ e. slice_index l.cut.lengths e * slice_index nums e)) ∙ below-same n _ _ (λ e lt. omega arith))
-    ∙ (sym (below-swapped n (λ e (l : CertificateLine). slice_index nums e * (l.num * slice_index l.cut.lengths e)) lines)
-    ∙ below-same n _ _ (λ e lt. sums-times (slice_index nums e) (λ (l : CertificateLine). l.num * slice_index l.cut.lengths e) lines ∙ omega arith))
+-- a sum along the lengths of lines is one at their prices
+pub priced_sum : (n : ℕ) (f : ℕ → ℕ) (lines : List CertificateLine) → sum_by (λ l. l.num * sum_below n (λ e. slice_index l.cut.lengths e * f e)) lines ≡ sum_below n (λ e. price lines e * f e)
+priced_sum n f lines =
+    sums-equal _ (λ l. sum_below n (λ e. f e * (l.num * slice_index l.cut.lengths e))) lines (λ l. sym (below-times n l.num (λ e. slice_index l.cut.lengths e * f e)) ∙ below-same n _ _ (λ e lt. omega arith))
+    ∙ (sym (below-swapped n (λ e (l : CertificateLine). f e * (l.num * slice_index l.cut.lengths e)) lines)
+    ∙ below-same n _ _ (λ e lt. sums-times (f e) (λ (l : CertificateLine). l.num * slice_index l.cut.lengths e) lines ∙ omega arith))
 
--- what the pre-installed capacities give along the cuts is their sum at the prices
-given_summed : (p : Case) (lines : List CertificateLine) → AllByRecursion (λ l. IsCut p l.cut) lines → given p.links lines ≡ sum_below (length p.links) (λ e. price lines e * slice_index (fixed_of p.links) e)
-given_summed p lines each =
-    sums-same (λ l. l.num * fixed_along l.cut.lengths p.links) (λ l. l.num * sum_below (length p.links) (λ e. slice_index l.cut.lengths e * slice_index (fixed_of p.links) e)) (λ l. IsCut p l.cut) lines each
-    (λ l is. ap (λ s. l.num * s) (fixed_summed l.cut.lengths p.links is.kept.count))
-    ∙ summed (length p.links) (fixed_of p.links) lines
+-- what the pre-installed capacities give at the prices of the lines
+pub given_priced : (links : List Link) (lines : List CertificateLine) → given links lines ≡ sum_below (length links) (λ e. price lines e * slice_index (fixed_of links) e)
+given_priced links lines =
+    sums-equal (λ (l : CertificateLine). l.num * fixed_along l.cut.lengths links) (λ l. l.num * sum_below (length links) (λ e. slice_index l.cut.lengths e * slice_index (fixed_of links) e)) lines (λ l. ap (λ s. l.num * s) (along_fixed l.cut.lengths links))
+    ∙ priced_sum (length links) (λ e. slice_index (fixed_of links) e) lines
 
 module _ (p : Case) (counts : List (List ℕ)) (able : IsAble p counts) where
   -- a line asks for no more than the capacities of able counts give along its lengths
@@ -90,8 +83,8 @@ module _ (p : Case) (counts : List (List ℕ)) (able : IsAble p counts) where
       omega (
         arith,
         sums-le _ _ (λ (l : CertificateLine). IsCut p l.cut) lines all line_met,
-        summed (length p.links) (capacities p.links counts) lines,
-        given_summed p lines all,
+        priced_sum (length p.links) (λ e. slice_index (capacities p.links counts) e) lines,
+        given_priced p.links lines,
         capacities_priced den (price lines) p.links counts able.shape priced,
       )
 

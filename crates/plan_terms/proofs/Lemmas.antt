@@ -2,7 +2,7 @@
 pub use Rattle.plan_terms.proofs.Bounds.{bound_rounded, bound_same, bound_unique, divisor_both, divisor_limit, divisor_none, divisor_one, divisor_unique, lowest_positive, quotient_least}
 pub use Rattle.plan_terms.proofs.Distances.{distance_alike, distance_back, distance_none, distance_one, path_alike, right_once}
 pub use Rattle.plan_terms.proofs.Distinct.{DistinctLinks, path_links_differ, path_links_inside, path_links_known}
-pub use Rattle.plan_terms.proofs.Duality.{fixed_of, weak_duality}
+pub use Rattle.plan_terms.proofs.Duality.{along_fixed, fixed_of, given_priced, priced_sum, weak_duality}
 pub use Rattle.plan_terms.proofs.Edits.{changed, set_different, with_need}
 pub use Rattle.plan_terms.proofs.Few.{path_few}
 pub use Rattle.plan_terms.proofs.Joining.{joins_below, joins_ends, joins_from, joins_inside, joins_one, joins_turned, joins_within}
