@@ -1,9 +1,9 @@
 -- the cuts of an optimum are a valid certificate, whose raw value is the cost of the share of its objective row
 use Rattle.std.proofs.Common.{◌≡◌, ℕ, zero, suc, ◌*◌, ◌<◌, ◌≤◌, List, [], ◌∷◌, All, Some, true, false, cond, eqb, length, sum_by, zip, slice_get, slice_index, get_or, refl, sym, ap, ◌∙◌, arith, subst, ⊎_elim, mul-le-mul_left, ℤ, pos, ◌+ℤ◌, ◌*ℤ◌, ◌≤ℤ◌}
-use Rattle.net_core.proofs.Library.{sum_by-cons, All-from_recursion, All-contains, All-from_get_or, All-get_or, slice_get_within, le_of_mul-le-mul_left, *ℤ-zero, pos-*ℤ-pos, ints, below-same, below-first, below-none, below-times, below-swapped, sums-equal}
+use Rattle.net_core.proofs.Library.{sum_by-cons, All-from_recursion, All-contains, All-from_get_or, All-get_or, slice_get_within, le_of_mul-le-mul_left, *ℤ-zero, pos-*ℤ-pos, ints, below-same, below-first, below-none, below-times}
 use Rattle.module_prices.specs.declared.cheapest.UnitPair.{UnitPair}
-use Rattle.plan_terms.specs.Terms.{MasterColumn, Link, Module, CutLine, IsModule, sum_below, CertificateLine, price, asked, fixed_along, given, raw_value}
-use Rattle.plan_terms.proofs.Lemmas.{lowest_positive, fixed_of}
+use Rattle.plan_terms.specs.Terms.{MasterColumn, Link, Module, CutLine, IsModule, sum_below, CertificateLine, price, asked, given, raw_value}
+use Rattle.plan_terms.proofs.Lemmas.{along_fixed, fixed_of, given_priced, lowest_positive}
 use Rattle.plan_types.specs.declared.quality.Share.{Share}
 use Rattle.route_law.proofs.Lemmas.{sum-pos, below-both}
 use Rattle.simplex_law.specs.Terms.{int_sum, dot, unit_vector, ColumnOf, IsSlack, IsOptimum, FitBounds}
@@ -11,35 +11,11 @@ use Rattle.simplex_law.proofs.Lemmas.{greatest, distribute_left, le_times, sum-s
 use Rattle.master_law.specs.BasisLines.{AreLinesOf}
 use Rattle.master_law.specs.MasterPrograms.{master_bound, master_slack, unit_capacities, unit_costs, column_lengths, column_given, IsCutColumn, IsMasterColumn}
 use Rattle.master_law.specs.UnitPairs.{AreUnitPairs, share_cost}
-use Rattle.master_law.proofs.Columns.{along_fixed, pair_at}
+use Rattle.master_law.proofs.Columns.{pair_at}
 
 times_out : (n : ℕ) (v f : ℕ → ℕ) (c : ℕ) → sum_below n (λ j. v j * (f j * c)) ≡ sum_below n (λ j. v j * f j) * c
 times_out zero v f c = omega arith
 times_out (suc n) v f c = omega (arith, times_out n v f c)
-
--- a sum along the lengths of lines is one at their prices
-pub priced_sum : (n : ℕ) (f : ℕ → ℕ) (lines : List CertificateLine) → sum_by (λ l. l.num * sum_below n (λ e. slice_index l.cut.lengths e * f e)) lines ≡ sum_below n (λ e. price lines e * f e)
-priced_sum n f lines =
-    sums-equal (λ (l : CertificateLine). l.num * sum_below n (λ e. slice_index l.cut.lengths e * f e)) (λ l. sum_below n (λ e. l.num * slice_index l.cut.lengths e * f e)) lines
-    (λ l. sym (below-times n l.num (λ e. slice_index l.cut.lengths e * f e)) ∙ below-same n _ (λ e. l.num * slice_index l.cut.lengths e * f e) (λ e h. omega arith))
-    ∙ (sym (below-swapped n (λ e l. l.num * slice_index l.cut.lengths e * f e) lines)
-    ∙ below-same n _ (λ e. price lines e * f e) (λ e h. sum_times (f e) e lines))
-  where
-    sum_times : (c e : ℕ) (ls : List CertificateLine) → sum_by (λ l. l.num * slice_index l.cut.lengths e * c) ls ≡ price ls e * c
-    sum_times c e [] = omega arith
-    sum_times c e (l ∷ ls) =
-        omega (
-          arith,
-          sum_by-cons (λ (k : CertificateLine). k.num * slice_index k.cut.lengths e * c) l ls,
-          ap (λ s. s * c) (sum_by-cons (λ (k : CertificateLine). k.num * slice_index k.cut.lengths e) l ls),
-          sum_times c e ls,
-        )
-
--- what the pre-installed capacities give at the prices of the lines
-given_priced : (links : List Link) (lines : List CertificateLine) → given links lines ≡ sum_below (length links) (λ e. price lines e * slice_index (fixed_of links) e)
-given_priced links lines =
-    sums-equal (λ (l : CertificateLine). l.num * fixed_along l.cut.lengths links) (λ l. l.num * sum_below (length links) (λ e. slice_index l.cut.lengths e * slice_index (fixed_of links) e)) lines (λ l. ap (λ s. l.num * s) (along_fixed l.cut.lengths links))
-    ∙ priced_sum (length links) (λ e. slice_index (fixed_of links) e) lines
 
 -- what the pre-installed capacities give along the lines of the first n columns of a basis
 pub given_is : (links : List Link) (n : ℕ) (basis : ℕ → ColumnOf MasterColumn) (amounts : ℕ → ℕ) (lines : List CertificateLine) → AreLinesOf links n basis amounts lines

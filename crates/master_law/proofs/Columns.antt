@@ -1,9 +1,8 @@
 -- columns of cuts, and sums over the links
-use Rattle.std.proofs.Common.{◌≡◌, ℕ, ◌*◌, ◌<◌, ◌≤◌, List, [], ◌∷◌, All, Contains, Some, length, zip, slice_get, slice_index, get_or, refl, sym, ap, ◌∙◌, arith, subst, ⊎_elim, mul-le-mul_left}
-use Rattle.net_core.proofs.Library.{get_or-map, All-contains, All-get_or, le_of_mul-le-mul_left, sum_by-cons, slice_get-get_or, slice_get_within, get_or_from_slice_get, below-same, below-first, below-none}
+use Rattle.std.proofs.Common.{◌≡◌, ℕ, ◌*◌, ◌<◌, ◌≤◌, List, [], All, Contains, Some, length, slice_get, slice_index, get_or, refl, sym, ap, ◌∙◌, arith, subst, ⊎_elim, mul-le-mul_left}
+use Rattle.net_core.proofs.Library.{get_or-map, All-contains, All-get_or, le_of_mul-le-mul_left, slice_get-get_or, slice_get_within, get_or_from_slice_get}
 use Rattle.module_prices.specs.declared.cheapest.UnitPair.{UnitPair}
-use Rattle.plan_terms.specs.Terms.{MasterColumn, Metric, Link, CutLine, IsModule, sum_below, fixed_along}
-use Rattle.plan_terms.proofs.Lemmas.{fixed_of}
+use Rattle.plan_terms.specs.Terms.{MasterColumn, Metric, Link, CutLine, IsModule}
 use Rattle.simplex_law.specs.Terms.{ColumnOf}
 use Rattle.master_law.specs.MasterPrograms.{cut_gain, cut_entry, unit_capacities, unit_costs, IsCutColumn}
 use Rattle.master_law.specs.UnitPairs.{AreUnitPairs, IsPairOfLink}
@@ -14,13 +13,6 @@ column_of links pairs cut = record { name = Metric cut.state cut.lengths; gain =
 
 pub is_column_of : (links : List Link) (pairs : List UnitPair) (cuts : List CutLine) (cut : CutLine) → Contains cuts cut → IsCutColumn links pairs cuts (column_of links pairs cut)
 is_column_of links pairs cuts cut held = record { cut = cut; listed = held; named = refl; gain = refl; entry = λ e l. refl }
-
--- what lengths give of the pre-installed capacities, link by link
-pub along_fixed : (lengths : List ℕ) (links : List Link) → fixed_along lengths links ≡ sum_below (length links) (λ e. slice_index lengths e * slice_index (fixed_of links) e)
-along_fixed [] links = sym (below-same (length links) (λ e. 0 * slice_index (fixed_of links) e) (λ e. 0) (λ e l. omega arith) ∙ below-none (length links))
-along_fixed (n ∷ ns) [] = refl
-along_fixed (n ∷ ns) (l ∷ ls) =
-    omega (arith, sum_by-cons (λ (q : ℕ × Link). q.0 * q.1.fixed) (n, l) (zip ns ls), below-first (length ls) (λ e. slice_index (n ∷ ns) e * slice_index (fixed_of (l ∷ ls)) e), along_fixed ns ls)
 
 -- the unit pair of link e
 pub record HasUnitPair (pairs : List UnitPair) (e : ℕ) (l : Link) : Type 0 where

@@ -3,11 +3,12 @@ use Rattle.std.proofs.Common.{◌≡◌, ℕ, ◌+◌, ◌-◌, ◌*◌, ◌≤�
 use Rattle.net_core.proofs.Library.{cases_lt, sum_by-cons, recursion_from_All, mul-sub, AllByRecursion, below-same, below-le, below-times}
 use Rattle.module_prices.specs.declared.cheapest.UnitPair.{UnitPair}
 use Rattle.plan_terms.specs.Terms.{Link, CutLine, Case, IsModule, sum_below, CertificateLine, IsCertificate, price, asked, fixed_along, given, raw_value, Violates}
+use Rattle.plan_terms.proofs.Lemmas.{priced_sum}
 use Rattle.plan_types.specs.declared.quality.Share.{Share}
 use Rattle.master_law.specs.LeastShares.{IsLeastShare}
 use Rattle.master_law.specs.MasterPrograms.{unit_capacities, unit_costs}
 use Rattle.master_law.specs.UnitPairs.{AreUnitPairs, share_caps, share_cost}
-use Rattle.master_law.proofs.Certified.{cost_sum, priced_sum}
+use Rattle.master_law.proofs.Certified.{cost_sum}
 use Rattle.master_law.proofs.Columns.{unit_at_most}
 use Rattle.master_law.proofs.Shares.{along_share, least_violates_none}
 
