@@ -1,8 +1,8 @@
 -- the plan of a fallback plan and a certified bound is in form and in lowest terms
 use Rattle.std.proofs.Common.{◌≡◌, ◌≢◌, ℕ, ◌+◌, ◌*◌, ◌^◌, ◌<◌, ◌≤◌, Bool, true, false, if◌then◌else◌, List, [], ◌∷◌, ◌++◌, All, AllPairs, Some, get_or, length, slice_get, sym, subst, arith, zip, append_assoc}
-use Rattle.net_core.proofs.Library.{◌∣◌, eq-one_of_dvd-one, All-cons, All-nil, All-weaker, All-head, All-tail, sum_by-cons, slice_get_within, get_or_from_slice_get, new_name}
+use Rattle.net_core.proofs.Library.{◌∣◌, eq-one_of_dvd-one, All-weaker, All-head, All-tail, sum_by-cons, slice_get_within, get_or_from_slice_get, new_name}
 use Rattle.plan_terms.specs.Terms.{Demand, LinkId, Link, Module, Flow, Routing, AreDemands, IsDemand, Graph, Joins, IsLink, IsModule, IsNetwork, installs, link_cost, modules_cost, total_cost, IsLeastFlow, IsLeastRouting, IsPath, Leads, last_node}
-use Rattle.plan_terms.proofs.Lemmas.{product_below}
+use Rattle.plan_terms.proofs.Lemmas.{path_links_known, product_below}
 use Rattle.module_choice.proofs.Carrying.{ordered_at}
 use Rattle.plan_report.specs.Terms.{IsDemandInForm, IsFlowInForm, IsPathInForm, IsRoutingInForm}
 use Rattle.route_law.specs.Terms.{IsLowestRouting}
@@ -11,14 +11,6 @@ use Rattle.text_kit.specs.Terms.{ComeAfter}
 -- ---- paths
 
 module _ (g : Graph) where
-  joined_known : (e x y : ℕ) → Joins g e x y → e < length g.links
-  joined_known e x y j = slice_get_within g.links e j.survives.link j.survives.at
-
-  leads_known : (a : ℕ) (es : List LinkId) (cs : List ℕ) → Leads (Joins g) a es cs → All (λ e. e.0 < length g.links) es
-  leads_known a [] cs leads = All-nil (λ (e : LinkId). e.0 < length g.links)
-  leads_known a (e ∷ es) [] leads = absurd leads
-  leads_known a (e ∷ es) (c ∷ cs) leads = All-cons (λ (x : LinkId). x.0 < length g.links) e es (joined_known e.0 a c leads.0) (leads_known c es cs leads.1)
-
   -- a path between two different nodes has a link
   path_some : (a b : ℕ) → a ≢ b → (es : List LinkId) (cs : List ℕ) → Leads (Joins g) a es cs → last_node a cs ≡ b → 1 ≤ length es
   path_some a b ne [] [] leads last = absurd (ne last)
@@ -28,7 +20,7 @@ module _ (g : Graph) where
   pub path_in_form : (a b : ℕ) → a ≢ b → (es : List LinkId) → IsPath (Joins g) a b es → IsPathInForm g.links es
   path_in_form a b ne es path = record {
     some = path_some a b ne es path.0 path.1 path.2;
-    known = leads_known a es path.0 path.1;
+    known = path_links_known g a b es path;
   }
 
 -- ---- routings
