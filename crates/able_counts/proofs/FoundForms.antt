@@ -1,17 +1,12 @@
 -- routings that are found are in form
-use Rattle.std.proofs.Common.{◌≡◌, ◌≢◌, ℕ, ◌^◌, ◌<◌, ◌≤◌, List, [], ◌∷◌, All, get_or, length, subst, arith}
-use Rattle.net_core.proofs.Library.{All-cons, All-nil, slice_get_within, get_or_from_slice_get}
+use Rattle.std.proofs.Common.{◌≡◌, ◌≢◌, ℕ, ◌^◌, ◌<◌, ◌≤◌, List, [], ◌∷◌, get_or, length, subst, arith}
+use Rattle.net_core.proofs.Library.{slice_get_within, get_or_from_slice_get}
 use Rattle.plan_terms.specs.Terms.{Demand, LinkId, Caps, Flow, Routing, AreDemands, IsDemand, Graph, Joins, IsFlow, IsPath, Leads, last_node}
+use Rattle.plan_terms.proofs.Lemmas.{path_links_known}
 use Rattle.plan_report.specs.Terms.{IsFlowInForm, IsPathInForm, IsRoutingInForm}
 use Rattle.separator.specs.Terms.{IsRouted}
 
 module _ (g : Graph) where
-  links_known : (a : ℕ) (es : List LinkId) (cs : List ℕ) → Leads (Joins g) a es cs → All (λ e. e.0 < length g.links) es
-  links_known a [] cs leads = All-nil (λ (e : LinkId). e.0 < length g.links)
-  links_known a (e ∷ es) [] leads = absurd leads
-  links_known a (e ∷ es) (c ∷ cs) leads =
-      All-cons (λ (x : LinkId). x.0 < length g.links) e es (slice_get_within g.links e.0 leads.0.survives.link leads.0.survives.at) (links_known c es cs leads.1)
-
   -- a path between two different nodes has a link
   has_link : (a b : ℕ) → a ≢ b → (es : List LinkId) (cs : List ℕ) → Leads (Joins g) a es cs → last_node a cs ≡ b → 1 ≤ length es
   has_link a b ne [] [] leads last = absurd (ne last)
@@ -19,7 +14,7 @@ module _ (g : Graph) where
   has_link a b ne (e ∷ es) cs leads last = omega arith
 
   pub path_found : (a b : ℕ) → a ≢ b → (es : List LinkId) → IsPath (Joins g) a b es → IsPathInForm g.links es
-  path_found a b ne es path = record { some = has_link a b ne es path.0 path.1 path.2; known = links_known a es path.0 path.1 }
+  path_found a b ne es path = record { some = has_link a b ne es path.0 path.1 path.2; known = path_links_known g a b es path }
 
   module _ (demands : List Demand) (belong : AreDemands (length g.nodes) demands) where
     flow_found : (f : Flow) → f.num < 2 ^ 124 → IsFlow (Joins g) demands f → IsFlowInForm g.links demands f
