@@ -76,13 +76,6 @@ mod separator {
     pub mod ranges;
 
     pub use one_state::separate_state;
-
-    use crate::metric_cut::Cut;
-    use crate::net_core::{CutLine, Demands, NoMemory};
-
-    pub fn line_of(cut: &Cut, demands: &Demands) -> Result<CutLine, NoMemory> {
-        Ok(CutLine { state: cut.state(), lengths: cut.lengths().clone(), right: cut.right(demands) })
-    }
 }
 
 use checked_fraction::gcd;
@@ -95,7 +88,7 @@ use net_core::{Caps, Copied, CutLine, Demand, Demands, Global, Instance, Link, L
 use outside_io::OpenGate;
 use branch_tree::prove_instance;
 use plan_types::{CertLine, Cause, Certificate, Plan, Quality, Spot};
-use separator::{line_of, separate_state};
+use separator::separate_state;
 use share_covers::{Chosen, choose};
 use tree_check::{Node, check_tree};
 
@@ -204,7 +197,7 @@ fn planned(instance: &Instance) -> (Plan, List<CutLine>) {
     let mut cuts = List::new(Global);
     for s in 0..states.count() {
         for cut in opening(Global, net, states, StateId(s)).unwrap().items() {
-            cuts.push(line_of(cut, demands).unwrap()).ok();
+            cuts.push(cut.line(demands).unwrap()).ok();
         }
     }
     let mut known: std::vec::Vec<_> = (0..states.count()).map(|_| List::new(Global)).collect();
@@ -215,7 +208,7 @@ fn planned(instance: &Instance) -> (Plan, List<CutLine>) {
         for s in 0..states.count() {
             match separate_state(Global, instance, StateId(s), &caps, &mut known[s as usize]).unwrap() {
                 RouteAnswer::Routed(_) => {}
-                RouteAnswer::Violated(cut) => further.push(line_of(&cut, demands).unwrap()),
+                RouteAnswer::Violated(cut) => further.push(cut.line(demands).unwrap()),
                 RouteAnswer::Wide(_) => panic!("state {s} is wide"),
             }
         }

@@ -57,15 +57,6 @@ mod separator {
     pub mod ranges;
     pub mod roomy_sets;
     pub mod warm_start;
-
-    pub mod admission {
-        use crate::metric_cut::Cut;
-        use crate::net_core::{CutLine, Demands, NoMemory};
-
-        pub fn line_of(cut: &Cut, demands: &Demands) -> Result<CutLine, NoMemory> {
-            Ok(crate::line_of(cut, demands))
-        }
-    }
 }
 
 use checked_fraction::gcd;
@@ -137,10 +128,6 @@ fn read(text: &str) -> (Network, Demands) {
     (Network { nodes, links: List::from_vec(links) }, List::from_vec(demands))
 }
 
-fn line_of(cut: &Cut, demands: &Demands) -> CutLine {
-    CutLine { state: cut.state(), lengths: cut.lengths().clone(), right: cut.right(demands) }
-}
-
 /// The capacities of a share, in lowest terms.
 fn caps_of(net: &Network, best: &Best) -> Caps {
     let share = &best.share;
@@ -184,7 +171,7 @@ fn main() {
     let mut cuts = List::new(Global);
     for s in 0..states.count() {
         for cut in opening(Global, &net, &states, StateId(s)).unwrap().items() {
-            cuts.push(line_of(cut, &demands)).ok();
+            cuts.push(cut.line(&demands).unwrap()).ok();
         }
     }
     let way = words.get(2).map_or("", |word| word.as_str());
@@ -249,7 +236,7 @@ fn main() {
             return;
         }
         for cut in further {
-            cuts.push(line_of(&cut, &demands)).ok();
+            cuts.push(cut.line(&demands).unwrap()).ok();
         }
     }
 }

@@ -56,13 +56,6 @@ mod separator {
     pub mod ranges;
 
     pub use one_state::separate_state;
-
-    use crate::metric_cut::Cut;
-    use crate::net_core::{CutLine, Demands, NoMemory};
-
-    pub fn line_of(cut: &Cut, demands: &Demands) -> Result<CutLine, NoMemory> {
-        Ok(CutLine { state: cut.state(), lengths: cut.lengths().clone(), right: cut.right(demands) })
-    }
 }
 
 use checked_fraction::gcd;
@@ -74,7 +67,7 @@ use module_prices::unit_pair;
 use net_core::{Caps, Copied, CutLine, Demand, Demands, Global, Instance, Link, List, Module, Network, NodeId, StateId, States};
 use plan_swaps::swap;
 use plan_types::{Cause, CertLine, Certificate, Plan, Quality, Spot};
-use separator::{line_of, separate_state};
+use separator::separate_state;
 use share_covers::{Chosen, choose};
 use trim_plan::trim;
 
@@ -171,7 +164,7 @@ fn planned(instance: &Instance) -> (Chosen, Certificate) {
     let mut cuts = List::new(Global);
     for s in 0..states.count() {
         for cut in opening(Global, net, states, StateId(s)).unwrap().items() {
-            cuts.push(line_of(cut, demands).unwrap()).ok();
+            cuts.push(cut.line(demands).unwrap()).ok();
         }
     }
     let mut known: std::vec::Vec<_> = (0..states.count()).map(|_| List::new(Global)).collect();
@@ -182,7 +175,7 @@ fn planned(instance: &Instance) -> (Chosen, Certificate) {
         for s in 0..states.count() {
             match separate_state(Global, instance, StateId(s), &caps, &mut known[s as usize]).unwrap() {
                 RouteAnswer::Routed(_) => {}
-                RouteAnswer::Violated(cut) => further.push(line_of(&cut, demands).unwrap()),
+                RouteAnswer::Violated(cut) => further.push(cut.line(demands).unwrap()),
                 RouteAnswer::Wide(_) => panic!("state {s} is wide"),
             }
         }

@@ -3,7 +3,6 @@ ghost use Rattle.plan_terms.specs.Terms.{IsCut, Violates, case_of};
 
 use metric_cut::{Cut, violated_by};
 use net_core::{Caps, Copied, CutLine, Instance, NoMemory};
-use separator::line_of;
 use std::alloc::Global;
 
 /// A copy of the last of the cuts that the capacities violate.
@@ -38,7 +37,7 @@ pub(crate) fn known_cut(
     }
     let graph = instance.in_state(given.state);
     match Cut::in_graph(alloc, &graph, given.lengths.copy()?)? {
-        Some(cut) => Ok(Some(line_of(&cut, instance.demands)?)),
+        Some(cut) => Ok(Some(cut.line(instance.demands)?)),
         None => Ok(None),
     }
 }

@@ -6,7 +6,6 @@ use crate::stop::Stop;
 use net_core::{NoMemory, RouteTask, Routing};
 use node_sets::grown_set;
 use separator::flow_mending::{is_within, mended};
-use separator::line_of;
 use std::alloc::Global;
 
 /// A cut of a set of nodes that capacities violate in a state, if one is found. It takes time in the cube of the nodes.
@@ -15,7 +14,7 @@ pub(crate) fn set_stop(alloc: Global, task: &RouteTask) -> Result<Option<Stop>, 
     ensures { IfOk result (λ o. IfSome o (IsStopAt (task_case task.now) task.now.caps.now)) }
 {
     match grown_set(alloc, task)? {
-        Some(cut) => Ok(Some(Stop::Cut(line_of(&cut, task.demands)?))),
+        Some(cut) => Ok(Some(Stop::Cut(cut.line(task.demands)?))),
         None => Ok(None),
     }
 }

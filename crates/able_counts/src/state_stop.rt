@@ -10,7 +10,7 @@ use net_core::{Copied, Flow, Instance, List, NoMemory, RouteColumn, RouteTask, R
 use separator::flow_mending::is_within;
 use separator::flow_router::RouteAnswer;
 use separator::warm_routing::WarmRouter;
-use separator::{answer_of, line_of, separate_state};
+use separator::{answer_of, separate_state};
 use std::alloc::Global;
 
 /// The number of turns that a kept basis gets.
@@ -85,7 +85,7 @@ pub(crate) fn state_stop(
             *routing = found;
             Ok(None)
         }
-        RouteAnswer::Violated(cut) => Ok(Some(Stop::Cut(line_of(&cut, task.demands)?))),
+        RouteAnswer::Violated(cut) => Ok(Some(Stop::Cut(cut.line(task.demands)?))),
         RouteAnswer::Wide(evidence) => Ok(Some(Stop::Wide(evidence))),
     }
 }

@@ -6,7 +6,7 @@ use flow_router::RouteAnswer;
 use module_choice::capacities;
 use net_core::{Caps, Counts, Instance, List, NoMemory, Routing, StateId};
 use plan_swaps::able_counts::Stop;
-use plan_swaps::able_counts::separator::{line_of, separate_state};
+use plan_swaps::able_counts::separator::separate_state;
 use std::alloc::Global;
 
 /// A routing of a state within capacities, or why there is none.
@@ -26,7 +26,7 @@ fn route_in(
     let mut known = List::new(alloc);
     match separate_state(alloc, instance, state, caps, &mut known)? {
         RouteAnswer::Routed(routing) => Ok(Ok(routing)),
-        RouteAnswer::Violated(cut) => Ok(Err(Stop::Cut(line_of(&cut, instance.demands)?))),
+        RouteAnswer::Violated(cut) => Ok(Err(Stop::Cut(cut.line(instance.demands)?))),
         RouteAnswer::Wide(evidence) => Ok(Err(Stop::Wide(evidence))),
     }
 }

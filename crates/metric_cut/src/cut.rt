@@ -1,12 +1,13 @@
 ghost use Rattle.std.specs.Prelude.{◌≡◌, ◌+◌, ◌*◌, ◌≤◌, ◌<◌, ◌^◌, ◌↔◌, None, Ok, IfOk, IsErrOf, length, sum_by};
 ghost use Rattle.plan_terms.specs.Terms.{AreDemands, Graph, Joins, graph, graph_of, IsRight, AreZero, Keeps, IsDistance};
 ghost use Rattle.metric_cut.specs.Bounded.{HaveBound};
-ghost use Rattle.metric_cut.specs.Cuts.{IsCutOf, MayKeepCut};
+ghost use Rattle.metric_cut.specs.Cuts.{IsCutOf, IsLineAt, MayKeepCut};
 ghost use Rattle.metric_cut.specs.inner.Rights.{part_of};
 
 use crate::kept_lengths::keep;
 use net_core::{
-    Copied, Demand, Demands, Lengths, Network, NoMemory, NodeId, StateId, States, Surviving,
+    Copied, CutLine, Demand, Demands, Lengths, Network, NoMemory, NodeId, StateId, States,
+    Surviving,
 };
 use short_paths::{DistanceTable, all_pairs_in};
 use std::alloc::Global;
@@ -156,6 +157,21 @@ impl Cut {
         ensures low { result < 2 ^ 84 }
     {
         right_side(&self.table, demands.items())
+    }
+
+    /// The cut with its right side at the demands, without its distances.
+    ///
+    /// In the triangle the unit cut of state `none` has the right side 12.00 for a demand of 12.00.
+    /// It takes the time of `right`, and memory for a copy of the lengths.
+    pub fn line(&self, demands: &Demands) -> Result<CutLine, NoMemory>
+        requires { AreDemands self.now.table.nodes demands.now }
+        ensures { IfOk result (IsLineAt demands.now self.now) }
+    {
+        Ok(CutLine {
+            state: self.state,
+            lengths: self.lengths.copy()?,
+            right: self.right(demands),
+        })
     }
 }
 

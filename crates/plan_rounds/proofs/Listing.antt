@@ -4,14 +4,15 @@ use Rattle.net_core.proofs.Library.{get_or-map, length-map, All-push, all_pairs_
 use Rattle.plan_terms.specs.Terms.{Demand, Entry, Network, CutLine, States, Case, graph_in, case, IsCut}
 use Rattle.plan_types.specs.declared.certificate.Spot.{Spot}
 use Rattle.plan_types.specs.declared.certificate.Spot.TheVariants.{Pool}
-use Rattle.metric_cut.specs.Cuts.{IsCutOf}
+use Rattle.metric_cut.specs.Cuts.{IsCutOf, IsLineAt}
 use Rattle.metric_cut.specs.declared.cut.Cut.{Cut}
 use Rattle.cut_pool.specs.Terms.{cut_of_line, cuts_of}
 use Rattle.master_law.specs.Terms.{IsSameCut}
 use Rattle.plan_law.specs.WorkedLists.{AreDifferentCuts, HasCut}
 use Rattle.turn_lock.specs.Passes.{Seen}
-use Rattle.separator.specs.Separators.{IsLineAt, IsSeenHistory, IsSpotIn, SeesMore}
-use Rattle.separator.proofs.Lemmas.{line_is, line_is_cut, cuts_both}
+use Rattle.separator.specs.Separators.{IsSeenHistory, IsSpotIn, SeesMore}
+use Rattle.metric_cut.proofs.Lines.{line_is_cut}
+use Rattle.separator.proofs.Lemmas.{line_is, cuts_both}
 use Rattle.plan_rounds.specs.WorkedRounds.{IsPoolOf, StandAtSpots}
 use Rattle.plan_rounds.specs.inner.Listing.{AreFirstSpots, AreListed, PutsLine, TakesCut}
 use Rattle.plan_rounds.specs.declared.candidates.Candidates.{Candidates}

@@ -4,11 +4,11 @@ use Rattle.net_core.proofs.Library.{length-map, All-tail}
 use Rattle.plan_terms.specs.Terms.{Demand, CutLine, Case, graph_in, Graph, AreOpening, each_once}
 use Rattle.metric_cut.specs.Cuts.{IsCutOf}
 use Rattle.metric_cut.specs.declared.cut.Cut.{Cut}
+use Rattle.metric_cut.proofs.Lines.{line_is_cut}
 use Rattle.plan_law.specs.WorkedLists.{HasCut}
 use Rattle.plan_law.specs.inner.Openings.{IsOpenedTo}
 use Rattle.plan_law.proofs.Begun.{opened_known, opened_new, opened_state, once_few}
 use Rattle.plan_rounds.specs.inner.Listing.{TakesCut, TakesCuts}
-use Rattle.separator.proofs.Answering.{line_is_cut}
 
 abbrev pub lengths_of_cuts : List Cut → List (List ℕ)
 lengths_of_cuts cuts = map (λ c. c.lengths) cuts

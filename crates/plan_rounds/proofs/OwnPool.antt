@@ -6,6 +6,7 @@ use Rattle.module_prices.specs.declared.cheapest.UnitPair.{UnitPair}
 use Rattle.plan_types.specs.declared.quality.Share.{Share}
 use Rattle.plan_types.specs.declared.certificate.Spot.{Spot}
 use Rattle.plan_types.specs.declared.certificate.Spot.TheVariants.{Pool, Local}
+use Rattle.metric_cut.specs.Cuts.{IsLineAt}
 use Rattle.metric_cut.specs.declared.cut.Cut.{Cut}
 use Rattle.cut_pool.specs.Terms.{cut_of_line, cuts_of}
 use Rattle.simplex_law.specs.Terms.{ColumnOf}
@@ -13,7 +14,7 @@ use Rattle.master_law.specs.Terms.{IsLeastShare, IsCutColumn, IsMasterColumn}
 use Rattle.plan_law.specs.WorkedLists.{HasCut, IsFoundCut, IsRound, IsWorkedList, Lacks, Round}
 use Rattle.plan_law.proofs.Rounds.{worked_on}
 use Rattle.turn_lock.specs.Passes.{Seen}
-use Rattle.separator.specs.Separators.{IsLineAt, IsCutEntry, IsFullHistory, IsPartOf, IsSeenHistory, IsSeparatingCut, IsSpotIn, SeesMore, SeparatesAt, cuts_since}
+use Rattle.separator.specs.Separators.{IsCutEntry, IsFullHistory, IsPartOf, IsSeenHistory, IsSeparatingCut, IsSpotIn, SeesMore, SeparatesAt, cuts_since}
 use Rattle.separator.proofs.Lemmas.{line_is, cuts_both, part_few}
 use Rattle.plan_rounds.specs.inner.Alone.{HasSameCuts, IsAlone, IsPoolOfList, PoolsOpening, Within}
 use Rattle.plan_rounds.specs.inner.Listing.{PutsLine}

@@ -9,7 +9,7 @@ use master_bound::is_same_cut;
 use metric_cut::Cut;
 use net_core::{CutLine, Instance, List, NoMemory};
 use plan_types::Spot;
-use separator::{Separate, line_of};
+use separator::Separate;
 use std::alloc::Global;
 
 /// The cuts that a planning has listed so far, each with its spot. `lines` and `spots` have the same length.
@@ -72,7 +72,7 @@ pub fn take_cut<S: Separate>(
     ensures taken { OnOk result (TakesCut instance.now.demands.now cut candidates.old.lines candidates.new.lines) }
     ensures alone { OnOk result ∥ PoolsOpening (S.seen_of separator.old) (S.seen_of separator.new) candidates.old.lines candidates.new.lines ∥₁ }
 {
-    let line = line_of(&cut, instance.demands)?;
+    let line = cut.line(instance.demands)?;
     let spot = separator.admit(cut)?;
     put_line(line, spot, candidates)
 }

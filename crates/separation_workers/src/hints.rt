@@ -11,7 +11,7 @@ use hint_board::HintBoard;
 use metric_cut::{Cut, violated_by};
 use net_core::{Copied, Lengths, List, NoMemory, StateId, Surviving, discard};
 use route_law::law::zeros_and_ones_are_priced;
-use separator::{are_narrow, line_of};
+use separator::are_narrow;
 use std::sync::Wait;
 
 /// The most vectors of the hint board that are looked at.
@@ -73,7 +73,7 @@ fn if_violated(round: &Round, state: StateId, lengths: Lengths) -> Result<Option
     let Some(cut) = found else {
         return Ok(None);
     };
-    let line = line_of(&cut, instance.demands)?;
+    let line = cut.line(instance.demands)?;
     let is_violated = violated_by(&line, round.caps);
     discard(line);
     if is_violated {

@@ -21,7 +21,7 @@ use net_core::{Caps, Instance, List, NoMemory, StateId, discard};
 use outside_io::{Gate, RoundFigures};
 use plan_types::Spot;
 use separator::flow_router::RouteAnswer;
-use separator::{KnownState, Separate, Separated, StateAnswer, StateQuestion, line_of};
+use separator::{KnownState, Separate, Separated, StateAnswer, StateQuestion};
 use std::alloc::Global;
 use std::sync::{Mutex, Wait};
 use std::thread::Threads;
@@ -161,7 +161,7 @@ pub fn answer_cut<R: Wait>(
     ensures among { IfOk result (λ a. All (Contains (cut_answered a.answer)) (cuts_since (caller_seen caller.old) (caller_seen caller.new))) }
     ensures one { IfOk result (λ a. length (cut_answered a.answer) ≡ 1) }
 {
-    let line = line_of(&cut, round.instance.demands)?;
+    let line = cut.line(round.instance.demands)?;
     post(rt, round.hints, cut.lengths());
     let spot = spot_in_turn(rt, caller, cut)?;
     Ok(StateAnswer {

@@ -2,9 +2,10 @@
 use Rattle.std.proofs.Common.{◌≡◌, ◌≢◌, ◌∙◌, ℕ, ◌+◌, ◌*◌, ◌<◌, ◌≤◌, ◌⊎◌, inl, inr, ⊎_elim, List, [], ◌∷◌, ◌++◌, All, AllPairs, Contains, None, Some, drop, get_or, length, slice_get, refl, sym, ap, subst, arith, sum_by, zip, append-nil, length-append}
 use Rattle.net_core.proofs.Library.{drop-append-le, All-append, All-cons, All-nil, All-weaker, Contains-append_left, Contains-append_right, front_rest, all_pairs_push}
 use Rattle.std.proofs.lemmas.List.Concat.{flat_map-append}
-use Rattle.plan_terms.specs.Terms.{Demand, Entry, Caps, Network, CutLine, States, Case, graph_in, Joins, AreKept, IsCut, IsRight, Keeps}
-use Rattle.metric_cut.specs.Cuts.{IsCutOf}
+use Rattle.plan_terms.specs.Terms.{Demand, Entry, Caps, Network, CutLine, States, Case, graph_in, IsCut, Keeps}
+use Rattle.metric_cut.specs.Cuts.{IsLineAt}
 use Rattle.metric_cut.specs.declared.cut.Cut.{Cut}
+use Rattle.metric_cut.proofs.Lines.{line_is_cut}
 use Rattle.plan_types.specs.declared.certificate.Spot.{Spot}
 use Rattle.cut_pool.specs.declared.board.Board.{Board}
 use Rattle.cut_pool.specs.Terms.{origin_of, cut_of_line, cuts_of}
@@ -13,7 +14,7 @@ use Rattle.separator.specs.declared.answers.Separated.TheVariants.{Routed, Viola
 use Rattle.separator.specs.declared.answers.StateAnswer.{StateAnswer}
 use Rattle.separator.specs.Findings.{IsFoundCutOf}
 use Rattle.separator.specs.declared.one_by_one.Beginning.{Beginning}
-use Rattle.separator.specs.Separators.{Frame, IsAnswerOf, IsLineAt, IsSeparatingCut, IsSpotIn, SeparatesAt, SeesMore, cut_answered, cuts_answered, cuts_after}
+use Rattle.separator.specs.Separators.{Frame, IsAnswerOf, IsSeparatingCut, IsSpotIn, SeparatesAt, SeesMore, cut_answered, cuts_answered, cuts_after}
 use Rattle.separator.specs.inner.Seen.{drop_is_part}
 use Rattle.separator.specs.inner.Working.{AreAnswersBelow, AreCutsBelow, AreCutsOf, PoolsBelow, PoolsMore, PoolsOf, PoolsOnly, state_and_lengths}
 use Rattle.separator.proofs.Pooling.{pools_both, pools_none, pools_since, spot_later}
@@ -45,18 +46,6 @@ at_most_since old new cut only = ⊎_elim
     (λ (none : PoolsMore old new []). inl (pools_since old new [] none))
     (λ (one : PoolsMore old new (cut ∷ [])). inr (pools_since old new (cut ∷ []) one))
     only
-
--- the line of a cut of the case's network is a cut of the case
-pub line_is_cut : (p : Case) (s : ℕ) (cut : Cut) (line : CutLine) → IsCutOf (graph_in p s) cut → IsLineAt p.demands cut line → IsCut p line
-line_is_cut p s cut line of is =
-    let there : s ≡ line.state.0 = of.state ∙ sym (ap (λ st. st.0) is.state) in
-    let same : cut.lengths ≡ line.lengths = sym is.lengths in
-    record {
-      listed_state = subst (λ k. k ≤ length p.listed) there of.listed_state;
-      kept = subst (λ k. AreKept (graph_in p k) line.lengths) there (subst (AreKept (graph_in p s)) same of.kept);
-      right = subst (λ k. IsRight (Joins (graph_in p k)) line.lengths p.demands line.right) there
-          (subst (λ ls. IsRight (Joins (graph_in p s)) ls p.demands line.right) same (is.right (graph_in p s) of));
-    }
 
 module _ (p : Case) (caps : Caps) (s : ℕ) (cut : Cut) (line : CutLine) (found : IsFoundCutOf (graph_in p s) p.demands caps cut) (is : IsLineAt p.demands cut line) where
   -- its state is the one that was asked

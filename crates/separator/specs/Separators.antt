@@ -1,14 +1,12 @@
 -- what a separator has seen of a history, what of it the separator has committed, and what it answers
-use Rattle.std.specs.Prelude.{◌≡◌, ◌≢◌, ℕ, ◌+◌, ◌^◌, ◌<◌, ◌≤◌, ◌⊎◌, ◌++◌, List, [], ◌∷◌, All, AllPairs, Some, drop, length, slice_get, take}
+use Rattle.std.specs.Prelude.{◌≡◌, ◌≢◌, ℕ, ◌+◌, ◌<◌, ◌≤◌, ◌⊎◌, ◌++◌, List, [], ◌∷◌, All, AllPairs, Some, drop, length, slice_get, take}
 use Rattle.std.specs.List.{flat_map}
-use Rattle.plan_terms.specs.Terms.{Demand, Entry, Edited, Pooled, Network, Caps, CutLine, States, Case, graph_in, Graph, Joins, case, IsCut, IsRight, Keeps, Violates}
+use Rattle.plan_terms.specs.Terms.{Entry, Edited, Pooled, Network, Caps, CutLine, States, Case, graph_in, case, IsCut, Keeps, Violates}
 use Rattle.plan_types.specs.declared.certificate.Spot.{Spot}
 use Rattle.plan_types.specs.declared.certificate.Spot.TheVariants.{Pool, Local}
 use Rattle.route_law.specs.Terms.{ArePricedSomewhere}
 use Rattle.warm_routing.specs.Terms.{IsEvidenceHere, IsRouted}
 use Rattle.turn_lock.specs.Passes.{Seen}
-use Rattle.metric_cut.specs.Cuts.{IsCutOf}
-use Rattle.metric_cut.specs.declared.cut.Cut.{Cut}
 use Rattle.cut_pool.specs.Terms.{IsLegalAfter, cut_of_line, cuts_of}
 use Rattle.separator.specs.declared.answers.Separated.{Separated}
 use Rattle.separator.specs.declared.answers.Separated.TheVariants.{Routed, Violated, Wide}
@@ -68,15 +66,6 @@ IsFullHistory history = (length (cuts_of history) ≡ 4096) ⊎ (length history 
 abbrev pub IsSpotIn : List Entry → ℕ × List ℕ → Spot → Type 0
 IsSpotIn history cut (Pool i) = slice_get (cuts_of history) i ≡ Some cut
 IsSpotIn history cut Local = IsFullHistory history × All (λ c. c ≢ cut) (cuts_of history)
-
--- ---- the line of a cut
-
--- state and lengths of the cut, with the right side at the demands
-pub record IsLineAt (demands : List Demand) (cut : Cut) (line : CutLine) : Type 0 where
-  pub state : line.state ≡ cut.state
-  pub lengths : line.lengths ≡ cut.lengths
-  pub right : (g : Graph) → IsCutOf g cut → IsRight (Joins g) cut.lengths demands line.right
-  pub low : line.right < 2 ^ 84
 
 -- ---- what is answered
 

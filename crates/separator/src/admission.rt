@@ -1,28 +1,14 @@
 ghost use Rattle.std.specs.Prelude.{◌≡◌, [], IfOk, OnErr};
 ghost use Rattle.plan_terms.specs.Terms.{AreDemands, graph};
-ghost use Rattle.metric_cut.specs.Cuts.{IsCutOf};
-ghost use Rattle.separator.specs.Separators.{IsLineAt, IsSpotIn};
+ghost use Rattle.metric_cut.specs.Cuts.{IsCutOf, IsLineAt};
+ghost use Rattle.separator.specs.Separators.{IsSpotIn};
 ghost use Rattle.separator.specs.Spots.{IsSpotAfter};
 ghost use Rattle.separator.specs.inner.Working.{PoolsMore, PoolsOnly, state_and_lengths};
 
 use cut_pool::{AdmitAnswer, Board};
 use metric_cut::Cut;
-use net_core::{Copied, CutLine, Demands, NoMemory, discard};
+use net_core::{CutLine, Demands, NoMemory, discard};
 use plan_types::Spot;
-
-/// The cut with its right side at the demands, without its distances.
-///
-/// In the triangle the unit cut of state `none` has the right side 12.00 for a demand of 12.00. It takes memory for a copy of the lengths.
-pub fn line_of(cut: &Cut, demands: &Demands) -> Result<CutLine, NoMemory>
-    requires { AreDemands cut.now.table.nodes demands.now }
-    ensures { IfOk result (IsLineAt demands.now cut.now) }
-{
-    Ok(CutLine {
-        state: cut.state(),
-        lengths: cut.lengths().copy()?,
-        right: cut.right(demands),
-    })
-}
 
 /// The place of a cut that a board's answer tells.
 fn spot_told(answer: &AdmitAnswer) -> Result<Spot, NoMemory>
@@ -69,7 +55,7 @@ pub fn line_and_spot(
     ensures spot { IfOk result (λ r. IsSpotIn board.new.entries (state_and_lengths cut) r.1) }
     ensures none { OnErr result (PoolsMore board.old board.new []) }
 {
-    let line = line_of(&cut, demands)?;
+    let line = cut.line(demands)?;
     let spot = spot_of(board, cut)?;
     Ok((line, spot))
 }

@@ -27,7 +27,7 @@ pub mod separate;
 mod some_states;
 mod warm_start;
 
-pub use admission::{line_of, spot_after};
+pub use admission::spot_after;
 pub use answers::{Separated, StateAnswer};
 pub use known_state::KnownState;
 pub use one_by_one::OneByOne;

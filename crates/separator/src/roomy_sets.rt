@@ -3,7 +3,6 @@ ghost use Rattle.plan_terms.specs.Terms.{graph_in, case_of};
 ghost use Rattle.separator.specs.Findings.{IsFoundCutOf};
 ghost use Rattle.separator.specs.Rooms.{HasRoomOver, IsRoomOver};
 
-use crate::admission::line_of;
 use crate::ranges::are_narrow;
 use metric_cut::{Cut, violated_by};
 use net_core::{Caps, Instance, List, NoMemory, StateId};
@@ -132,7 +131,7 @@ fn if_violated(
     requires cut { IsFoundCutOf (graph_in (case_of instance.now) state.0) instance.now.demands.now room.now cut }
     ensures { IfOk result (λ o. IfSome o (IsFoundCutOf (graph_in (case_of instance.now) state.0) instance.now.demands.now caps.now)) }
 {
-    let line = line_of(&cut, instance.demands)?;
+    let line = cut.line(instance.demands)?;
     if are_narrow(caps.nums.items()) && violated_by(&line, caps) {
         Ok(Some(cut))
     } else {

@@ -1,9 +1,10 @@
 -- what a state keeps of the boundary of a set of nodes
 use Rattle.std.proofs.Common.{◌≡◌, ℕ, zero, suc, ◌+◌, ◌*◌, ◌<◌, ◌≤◌, ◌++◌, List, [], ◌∷◌, Some, All, AllPairs, Bool, true, false, if◌then◌else◌, length, length-append, map, ap, subst, sym, ◌∙◌, arith, slice_get, slice_index}
 use Rattle.net_core.proofs.Library.{All-push, All-weaker, all_pairs_push, get_or-map, get_or_from_slice_get, slice_get_within}
-use Rattle.plan_terms.specs.Terms.{Case, CutLine, Graph, IsCut, IsRight, Joins, Keeps, Link, graph_in}
-use Rattle.metric_cut.specs.Cuts.{IsCutOf, MayKeepCut}
+use Rattle.plan_terms.specs.Terms.{Case, CutLine, Graph, IsCut, Keeps, Link, graph_in}
+use Rattle.metric_cut.specs.Cuts.{IsLineAt, MayKeepCut}
 use Rattle.metric_cut.specs.declared.cut.Cut.{Cut}
+use Rattle.metric_cut.proofs.Lines.{line_is_cut}
 use Rattle.master_law.specs.Terms.{IsSameCut}
 use Rattle.table_maker.specs.SetCuts.{IsNewTo, IsSetCut, PartsNodes, boundary_of}
 use Rattle.table_maker.specs.inner.Finding.{CutsNodes, IsBoundary}
@@ -37,14 +38,15 @@ kept_parts g full kept is keeps = record {
 
 module _ (p : Case) where
   -- the cut of what a state keeps of a boundary
-  pub cut_is : (s right : ℕ) (full lengths : List ℕ) (made : Cut) → s ≤ length p.listed → IsBoundary p.links full → MayKeepCut (graph_in p s) full (Some made)
-      → lengths ≡ made.lengths → ((g : Graph) → IsCutOf g made → IsRight (Joins g) made.lengths p.demands right)
-      → CutsNodes p (record { state = record { 0 = s }; lengths = lengths; right = right })
-  cut_is s right full lengths made listed boundary keeps same asked =
-      subst (λ (xs : List ℕ). CutsNodes p (record { state = record { 0 = s }; lengths = xs; right = right })) (sym same) (record {
-        is_cut = record { listed_state = listed; kept = keeps.1.kept; right = asked (graph_in p s) keeps.1 };
-        parts = kept_parts (graph_in p s) full made.lengths boundary keeps.0;
-      })
+  pub cut_is : (s : ℕ) (full : List ℕ) (made : Cut) (line : CutLine) → IsBoundary p.links full → MayKeepCut (graph_in p s) full (Some made) → IsLineAt p.demands made line
+      → CutsNodes p line
+  cut_is s full made line boundary keeps is =
+      let there : s ≡ line.state.0 = keeps.1.state ∙ sym (ap (λ st. st.0) is.state) in
+      let parts : PartsNodes (graph_in p s) made.lengths = kept_parts (graph_in p s) full made.lengths boundary keeps.0 in
+      record {
+        is_cut = line_is_cut p s made line keeps.1 is;
+        parts = subst (λ k. PartsNodes (graph_in p k) line.lengths) there (subst (PartsNodes (graph_in p s)) (sym is.lengths) parts);
+      }
 
   -- a cut more
   pub cuts_more : (cuts new : List CutLine) (cut : CutLine) → new ≡ cuts ++ cut ∷ [] → All (IsSetCut p) cuts → CutsNodes p cut → 0 < cut.right → All (IsSetCut p) new

@@ -54,11 +54,7 @@ fn cut_in(
 {
     let graph = instance.in_state(state);
     match Cut::in_graph(alloc, &graph, lengths.copy()?)? {
-        Some(cut) => Ok(Some(CutLine {
-            state,
-            lengths: cut.lengths().copy()?,
-            right: cut.right(instance.demands),
-        })),
+        Some(cut) => Ok(Some(cut.line(instance.demands)?)),
         None => Ok(None),
     }
 }

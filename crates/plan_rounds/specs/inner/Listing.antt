@@ -3,10 +3,11 @@ use Rattle.std.specs.Prelude.{◌≡◌, ℕ, ◌^◌, ◌<◌, ◌⊎◌, ◌++
 use Rattle.plan_terms.specs.Terms.{Demand, Entry, CutLine, Case, IsCut}
 use Rattle.plan_types.specs.declared.certificate.Spot.{Spot}
 use Rattle.plan_types.specs.declared.certificate.Spot.TheVariants.{Pool}
+use Rattle.metric_cut.specs.Cuts.{IsLineAt}
 use Rattle.metric_cut.specs.declared.cut.Cut.{Cut}
 use Rattle.plan_law.specs.WorkedLists.{AreDifferentCuts, HasCut, Lacks}
 use Rattle.turn_lock.specs.Passes.{Seen}
-use Rattle.separator.specs.Separators.{Frame, IsLineAt, SeesMore}
+use Rattle.separator.specs.Separators.{Frame, SeesMore}
 use Rattle.plan_rounds.specs.WorkedRounds.{StandAtSpots}
 use Rattle.plan_rounds.specs.declared.candidates.Candidates.{Candidates}
 
