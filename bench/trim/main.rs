@@ -47,7 +47,7 @@ mod metric_cut {
     pub use kept_lengths::divisor_of_lengths;
     pub use openings::opening;
     pub use own_bounds::{fixed_along, own_bound};
-    pub use violation::violated_by;
+    pub use violation::{are_narrow, violated_by};
 }
 
 mod separator {

@@ -6,6 +6,7 @@ ghost use Rattle.flow_mending.specs.inner.Counting.{AreMet, HasForm, IsCountedFl
 
 use crate::loads::is_within;
 use flow_router::common_divisor;
+use metric_cut::are_narrow;
 use net_core::{Demand, Flow, LinkId, List, NoMemory, RouteTask, Routing};
 use short_paths::is_path;
 use std::alloc::Global;
@@ -130,13 +131,6 @@ fn has_form(routing: &Routing, links: usize, demands: usize) -> bool
         && routing.den < 1 << 62
         && routing.flows.len() <= links + demands
         && is_lowest(routing)
-}
-
-/// Whether all numbers are below 2^62.
-fn are_narrow(nums: &[u128]) -> bool
-    ensures { IsTrue result → All (λ n. n < 2 ^ 62) nums.now }
-{
-    nums.iter().all(|n| *n < 1 << 62)
 }
 
 /// Whether the flows of a routing bring no more onto any link than its capacity.

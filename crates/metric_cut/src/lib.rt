@@ -17,4 +17,4 @@ pub use multiplier::{OwnMultiplier, greatest_multiplier};
 pub use net_core::CutLine;
 pub use openings::opening;
 pub use own_bounds::{fixed_along, own_bound};
-pub use violation::violated_by;
+pub use violation::{are_narrow, violated_by};

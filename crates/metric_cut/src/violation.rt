@@ -25,6 +25,13 @@ fn is_below(sum: u128, right: u128, scale: u64) -> bool
     sum / (scale as u128) < right
 }
 
+/// Whether all numbers are below 2^62, as `violated_by` wants those of capacities. It takes time in their number, and no memory.
+pub fn are_narrow(nums: &[u128]) -> bool
+    ensures { IsTrue result ↔ All (λ n. n < 2 ^ 62) nums.now }
+{
+    nums.iter().all(|n| *n < 1 << 62)
+}
+
 /// Whether capacities, one per link, violate a cut: along its lengths they give less than its right side. Then they carry the
 /// demands in no routing of the cut's state. It takes time in the number of links, and no memory.
 ///

@@ -5,7 +5,7 @@ ghost use Rattle.node_sets.specs.Boundaries.{IsBoundaryCut};
 use crate::boundary::cut_of_chosen;
 use crate::deepest::{Deepest, TakesSets};
 use crate::growth::Growth;
-use crate::narrow::are_narrow;
+use crate::narrow::is_narrow;
 use crate::pair_table::PairTable;
 use metric_cut::Cut;
 use net_core::{NoMemory, NodeId, RouteTask};
@@ -70,7 +70,7 @@ pub fn grown_set(alloc: Global, task: &RouteTask) -> Result<Option<Cut>, NoMemor
     requires { 0 < task.now.caps.now.scale }
     ensures { IfOk result (λ o. IfSome o (IsBoundaryCut (graph_of task.now.graph) task.now.demands.now task.now.caps.now)) }
 {
-    if !are_narrow(task) {
+    if !is_narrow(task) {
         return Ok(None);
     }
     let table = PairTable::new(alloc, task)?;

@@ -1,17 +1,11 @@
-ghost use Rattle.std.specs.Prelude.{◌<◌, ◌^◌, All, IsTrue};
+ghost use Rattle.std.specs.Prelude.{◌<◌, IsTrue};
 ghost use Rattle.node_sets.specs.inner.NarrowCaps.{AreNarrow};
 
+use metric_cut::are_narrow;
 use net_core::{Demand, RouteTask};
 
 /// Numbers of a program that routes demands are below this.
 const WIDE: u128 = 1 << 62;
-
-/// Whether all numbers are below 2^62.
-fn are_nums_narrow(nums: &[u128]) -> bool
-    ensures { IsTrue result → All (λ n. n < 2 ^ 62) nums.now }
-{
-    nums.iter().all(|n| *n < WIDE)
-}
 
 /// Whether what each demand needs over a scale is below 2^62.
 fn are_needs_narrow(demands: &[Demand], scale: u64) -> bool {
@@ -21,10 +15,10 @@ fn are_needs_narrow(demands: &[Demand], scale: u64) -> bool {
 }
 
 /// Whether each link's number, and what each demand needs over the scale, is below 2^62.
-pub(crate) fn are_narrow(task: &RouteTask) -> bool
+pub(crate) fn is_narrow(task: &RouteTask) -> bool
     requires { 0 < task.now.caps.now.scale }
     ensures { IsTrue result → AreNarrow task.now.caps.now }
 {
     let caps = task.caps;
-    are_nums_narrow(caps.nums.items()) && are_needs_narrow(task.demands.items(), caps.scale)
+    are_narrow(caps.nums.items()) && are_needs_narrow(task.demands.items(), caps.scale)
 }

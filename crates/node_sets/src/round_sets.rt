@@ -7,7 +7,7 @@ use crate::boundary::cut_of_chosen;
 use crate::crossing::Crossing;
 use crate::deepest::{Deepest, Found, TakesSets};
 use crate::grown::{grow_from, grown_set};
-use crate::narrow::are_narrow;
+use crate::narrow::is_narrow;
 use crate::node_set::NodeSet;
 use crate::pair_table::PairTable;
 use metric_cut::Cut;
@@ -41,7 +41,7 @@ impl RoundSets {
             sets: Vec::new(alloc),
             table: None,
         };
-        if are_narrow(task) {
+        if is_narrow(task) {
             let table = PairTable::new(alloc, task)?;
             for k in 0..table.nodes() {
                 grow_from(alloc, &table, NodeId(k), None, &mut sets)?;
@@ -167,7 +167,7 @@ pub fn round_set(alloc: Global, task: &RouteTask, sets: &RoundSets) -> Result<Op
     requires { 0 < task.now.caps.now.scale }
     ensures { IfOk result (λ o. IfSome o (IsBoundaryCut (graph_of task.now.graph) task.now.demands.now task.now.caps.now)) }
 {
-    if !are_narrow(task) {
+    if !is_narrow(task) {
         return Ok(None);
     }
     match first_failed(task) {

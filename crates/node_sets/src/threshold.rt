@@ -5,7 +5,7 @@ ghost use Rattle.node_sets.specs.Boundaries.{IsBoundaryCut};
 use crate::boundary::cut_of_chosen;
 use crate::deepest::{Deepest, TakesSets};
 use crate::growth::Growth;
-use crate::narrow::are_narrow;
+use crate::narrow::is_narrow;
 use crate::node_set::NodeSet;
 use crate::pair_table::PairTable;
 use metric_cut::Cut;
@@ -73,7 +73,7 @@ pub fn threshold_set(
     requires lengths { length lengths.now ≡ length task.now.graph.net.now.links }
     ensures { IfOk result (λ o. IfSome o (IsBoundaryCut (graph_of task.now.graph) task.now.demands.now task.now.caps.now)) }
 {
-    if !are_narrow(task) {
+    if !is_narrow(task) {
         return Ok(None);
     }
     let table = PairTable::new(alloc, task)?;

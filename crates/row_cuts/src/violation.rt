@@ -1,20 +1,10 @@
-ghost use Rattle.std.specs.Prelude.{◌≡◌, ◌<◌, ◌^◌, All, IfOk, IsTrue, true};
+ghost use Rattle.std.specs.Prelude.{◌≡◌, ◌<◌, IfOk, true};
 ghost use Rattle.plan_terms.specs.Terms.{graph_of};
 ghost use Rattle.metric_cut.specs.Cuts.{IsCutOf};
 ghost use Rattle.node_sets.specs.Boundaries.{IsViolatedAt};
 
-use metric_cut::{Cut, violated_by};
+use metric_cut::{Cut, are_narrow, violated_by};
 use net_core::{Copied, CutLine, NoMemory, RouteTask};
-
-/// Sums along lengths fit where each number is below this.
-const WIDE: u128 = 1 << 62;
-
-/// Whether all numbers are below 2^62.
-fn are_narrow(nums: &[u128]) -> bool
-    ensures { IsTrue result → All (λ n. n < 2 ^ 62) nums.now }
-{
-    nums.iter().all(|n| *n < WIDE)
-}
 
 /// Whether the capacities violate a cut by its right side at the demands. Where a number is 2^62 or more, it isn't asked.
 pub(crate) fn is_violated(task: &RouteTask, cut: &Cut) -> Result<bool, NoMemory>

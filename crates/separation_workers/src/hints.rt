@@ -8,10 +8,9 @@ ghost use Rattle.separator.specs.Findings.{IsFoundCutOf};
 use crate::depths::depth;
 use crate::round::Round;
 use hint_board::HintBoard;
-use metric_cut::{Cut, violated_by};
+use metric_cut::{Cut, are_narrow, violated_by};
 use net_core::{Copied, Lengths, List, NoMemory, StateId, Surviving, discard};
 use route_law::law::zeros_and_ones_are_priced;
-use separator::are_narrow;
 use std::sync::Wait;
 
 /// The most vectors of the hint board that are looked at.

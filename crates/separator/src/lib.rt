@@ -33,7 +33,6 @@ pub use known_state::KnownState;
 pub use one_by_one::OneByOne;
 pub use one_state::{answer_of, separate_from, separate_state};
 pub use question::StateQuestion;
-pub use ranges::are_narrow;
 pub use roomy_sets::{NO_ROOM, RoomySets, set_in_state, sets_of_round};
 pub use separate::Separate;
 pub use some_states::{answers_of_both, is_cut};

@@ -1,4 +1,4 @@
-ghost use Rattle.std.specs.Prelude.{◌<◌, ◌^◌, All, IsTrue};
+ghost use Rattle.std.specs.Prelude.{◌<◌, ◌^◌, All};
 
 use net_core::Caps;
 
@@ -16,11 +16,4 @@ pub fn are_caps(caps: &Caps)
 {
     let _scale = caps.scale;
     are_below(caps.nums.items());
-}
-
-/// Whether each number is below 2^62, as a test of a cut wants. It takes time in their number.
-pub fn are_narrow(nums: &[u128]) -> bool
-    ensures { IsTrue result → All (λ n. n < 2 ^ 62) nums.now }
-{
-    nums.iter().all(|n| *n < 1 << 62)
 }

@@ -3,8 +3,7 @@ ghost use Rattle.plan_terms.specs.Terms.{graph_in, case_of};
 ghost use Rattle.separator.specs.Findings.{IsFoundCutOf};
 ghost use Rattle.separator.specs.Rooms.{HasRoomOver, IsRoomOver};
 
-use crate::ranges::are_narrow;
-use metric_cut::{Cut, violated_by};
+use metric_cut::{Cut, are_narrow, violated_by};
 use net_core::{Caps, Instance, List, NoMemory, StateId};
 use std::alloc::Global;
 use warm_routing::node_sets::{RoundSets, round_set};
