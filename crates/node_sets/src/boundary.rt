@@ -1,4 +1,4 @@
-ghost use Rattle.std.specs.Prelude.{◌≡◌, ◌<◌, All, IfOk, IfSome, cond, true};
+ghost use Rattle.std.specs.Prelude.{◌≡◌, ◌<◌, ◌^◌, All, IfOk, IfSome, cond, true};
 ghost use Rattle.plan_terms.specs.Terms.{graph_of, Keeps};
 ghost use Rattle.metric_cut.specs.Cuts.{IsCutOf};
 ghost use Rattle.node_sets.specs.Boundaries.{IsBoundaryCut, IsViolatedAt, boundary_lengths, crosses_boundary};
@@ -8,7 +8,7 @@ ghost use Rattle.node_sets.specs.inner.NarrowCaps.{AreNarrow};
 use crate::deepest::Deepest;
 use crate::node_set::NodeSet;
 use metric_cut::{Cut, violated_by};
-use net_core::{Copied, CutLine, Lengths, Link, List, NoMemory, RouteTask};
+use net_core::{Lengths, Link, List, NoMemory, RouteTask};
 use std::alloc::Global;
 
 /// 1 for a link that crosses the boundary of a set, and 0 for another.
@@ -32,17 +32,16 @@ fn lengths_of(alloc: Global, set: NodeSet, links: &[Link]) -> Result<Lengths, No
     Ok(lengths)
 }
 
-/// Whether the capacities violate a cut by its right side at the demands.
-fn is_violated(task: &RouteTask, cut: &Cut) -> Result<bool, NoMemory>
-    requires narrow { AreNarrow task.now.caps.now }
+/// Whether the capacities violate a cut of the task's state by its right side at the demands. It takes time in the demands and the links, and
+/// memory for a copy of the lengths.
+pub fn is_violated(task: &RouteTask, cut: &Cut) -> Result<bool, NoMemory>
+    requires scale { 0 < task.now.caps.now.scale }
+    requires narrow { All (λ n. n < 2 ^ 62) task.now.caps.now.nums }
     requires cut { IsCutOf (graph_of task.now.graph) cut.now }
-    ensures { IfOk result (λ b. b ≡ true → IsViolatedAt (graph_of task.now.graph) task.now.demands.now task.now.caps.now cut.now) }
+    ensures violated { IfOk result (λ b. b ≡ true → IsViolatedAt (graph_of task.now.graph) task.now.demands.now task.now.caps.now cut.now) }
+    ensures asked { IfOk result (λ b. IsViolatedAt (graph_of task.now.graph) task.now.demands.now task.now.caps.now cut.now → b ≡ true) }
 {
-    let line = CutLine {
-        state: cut.state(),
-        lengths: cut.lengths().copy()?,
-        right: cut.right(task.demands),
-    };
+    let line = cut.line(task.demands)?;
     Ok(violated_by(&line, task.caps))
 }
 

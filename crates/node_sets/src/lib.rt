@@ -18,6 +18,7 @@ mod pair_table;
 mod round_sets;
 mod threshold;
 
+pub use boundary::is_violated;
 pub use grown::grown_set;
 pub use round_sets::{RoundSets, round_set};
 pub use threshold::threshold_set;

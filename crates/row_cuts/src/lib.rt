@@ -2,6 +2,5 @@
 #![tactic(auto)]
 
 mod of_rows;
-mod violation;
 
 pub use of_rows::row_cut;

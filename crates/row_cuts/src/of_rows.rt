@@ -4,18 +4,21 @@ ghost use Rattle.row_prices.specs.PathRows.{ArePricedNumbers, path_row};
 ghost use Rattle.row_cuts.specs.FoundCuts.{IsRowCut};
 ghost use Rattle.row_cuts.specs.inner.Kept.{IsKeptCut};
 
-use crate::violation::is_violated;
-use metric_cut::Cut;
+use metric_cut::{Cut, are_narrow};
 use net_core::{Lengths, NoMemory, Path, RouteTask};
+use node_sets::is_violated;
 use row_prices::{PathRow, priced_numbers};
 use std::alloc::Global;
 
-/// The cut of what the state keeps of lengths, where the capacities violate it.
+/// The cut of what the state keeps of lengths, where the capacities violate it. Where a number is 2^62 or more, it isn't asked.
 fn violated_cut(alloc: Global, task: &RouteTask, lengths: Lengths) -> Result<Option<Cut>, NoMemory>
     requires scale { 0 < task.now.caps.now.scale }
     requires lengths { length lengths ≡ length task.now.graph.net.now.links }
     ensures { IfOk result (λ o. IfSome o (IsKeptCut (graph_of task.now.graph) task.now.demands.now task.now.caps.now lengths)) }
 {
+    if !are_narrow(task.caps.nums.items()) {
+        return Ok(None);
+    }
     let found = Cut::in_graph(alloc, &task.graph, lengths)?;
     let Some(cut) = found else {
         return Ok(None);

@@ -14,5 +14,5 @@ returns-then-branch c =
       is_member = is_in c.args.set;
       priced = boundary_priced g (is_in c.args.set) c.args.cut.lengths (few_links net.nodes net.links net.checked) c.requires.keeps (kept_have_bound g c.args.cut.lengths c.requires.of.kept);
       keeps = c.requires.keeps;
-      violated = c.in_ok-is_violated.ensures c.if-branch.true;
+      violated = c.in_ok-is_violated.ensures.violated c.if-branch.true;
     }
