@@ -1,10 +1,18 @@
 -- greatest common divisors of lists
 use Rattle.std.proofs.Common.{◌≡◌, ℕ, zero, suc, ◌+◌, ◌<◌, ◌↔◌, List, [], ◌∷◌, All, get_or, length, take, subst, arith}
 use Rattle.net_core.proofs.Library.{All-cons, All-head, All-more, All-tail, IsGcd, dvd_trans, ◌∣◌}
+use Rattle.plan_terms.specs.Terms.{IsGreatestDivisor}
 
 -- what divides a greatest common divisor
 pub divides_gcd : (a b g : ℕ) → IsGcd a b g → (d : ℕ) → (d ∣ g) ↔ (d ∣ a) × (d ∣ b)
 divides_gcd a b g gcd d = (λ h. (dvd_trans d h gcd.0, dvd_trans d h gcd.1), λ h. gcd.2 d h.0 h.1)
+
+-- what divides the greatest common divisor of a number and of others
+pub divides_greatest : (x : ℕ) (xs : List ℕ) (g : ℕ) → IsGreatestDivisor (x ∷ xs) g → (d : ℕ) → (d ∣ g) ↔ (d ∣ x) × All (λ n. d ∣ n) xs
+divides_greatest x xs g is d = (
+  λ h. (dvd_trans d h (All-head (λ n. g ∣ n) x xs is.divides), λ k e inside. dvd_trans d h (All-tail (λ n. g ∣ n) x xs is.divides k e inside)),
+  λ h. is.greatest d (All-cons (λ n. d ∣ n) x xs h.0 h.1),
+)
 
 next : (n : ℕ) → n + 1 ≡ suc n
 next n = omega arith

@@ -3,19 +3,9 @@ ghost use Rattle.std.specs.Int.{◌∣◌};
 ghost use Rattle.box_program.specs.Divisors.{IsCommonUnit, IsDivisorWith};
 
 use checked_fraction::gcd;
+use master_bound::common_divisor;
 use net_core::{Link, List, Module};
 use tree_check::line_check::{Inequality, Tested};
-
-/// The greatest number that divides another one and these.
-fn divisor_among(unit: u128, numbers: &[u128]) -> u128
-    ensures { (d : ℕ) → (d ∣ result) ↔ (d ∣ unit) × All (λ n. d ∣ n) numbers.now }
-{
-    let mut unit = unit;
-    for number in numbers {
-        unit = gcd(unit, *number);
-    }
-    unit
-}
 
 /// The greatest number that divides another one and those of lists.
 fn divisor_over(unit: u128, lists: &[List<u128>]) -> u128
@@ -23,7 +13,7 @@ fn divisor_over(unit: u128, lists: &[List<u128>]) -> u128
 {
     let mut unit = unit;
     for numbers in lists {
-        unit = divisor_among(unit, numbers.items());
+        unit = common_divisor(unit, numbers.items());
     }
     unit
 }

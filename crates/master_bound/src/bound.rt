@@ -96,7 +96,7 @@ fn lines_of(
 {
     let basis = optimum.basis.items();
     let amounts = amounts_of(alloc, basis, optimum.values.items())?;
-    let common = common_divisor(optimum.den, amounts.items());
+    let common = common_divisor(optimum.den as u128, amounts.items());
     if has_wide(amounts.items(), common) {
         return Ok(None);
     }

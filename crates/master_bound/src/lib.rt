@@ -24,6 +24,6 @@ mod units;
 pub use answer::{Best, MasterFault, Multiplier};
 pub use best::best_own;
 pub use bound::{best_at, master};
-pub use lines::is_same_cut;
+pub use lines::{common_divisor, is_same_cut};
 pub use numbers::{entry_of, gain_of};
 pub use units::unit_pairs;

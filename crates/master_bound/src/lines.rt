@@ -38,13 +38,15 @@ pub(crate) fn amounts_of(
     Ok(amounts)
 }
 
-/// The greatest common divisor of a denominator and of amounts.
-pub(crate) fn common_divisor(den: u64, amounts: &[u128]) -> u128
-    ensures { IsGreatestDivisor (den ∷ amounts.now) result }
+/// The greatest common divisor of a number and of others, 0 where all are 0. It takes one of two numbers for each, and no memory.
+///
+/// That of 12 and 18, 30 is 6.
+pub fn common_divisor(number: u128, others: &[u128]) -> u128
+    ensures { IsGreatestDivisor (number ∷ others.now) result }
 {
-    let mut common = den as u128;
-    for amount in amounts {
-        common = gcd(common, *amount);
+    let mut common = number;
+    for other in others {
+        common = gcd(common, *other);
     }
     common
 }

@@ -1,7 +1,7 @@
 -- the capacities of a share, over a common divisor of theirs
-use Rattle.std.proofs.Common.{◌≡◌, ℕ, zero, suc, ◌+◌, ◌*◌, ◌/◌, ◌<◌, List, [], ◌∷◌, ◌++◌, All, get_or, length, map, take, zip, refl, sym, ap, subst, ◌∙◌, arith}
-use Rattle.net_core.proofs.Library.{IsGcd, ◌∣◌, get_or-map, length-map, map-append, take_more, All-push, get_or-zip, length-zip, dvd_trans, mul-div_cancel', positive_divisor}
-use Rattle.plan_terms.specs.Terms.{Caps, Link}
+use Rattle.std.proofs.Common.{◌≡◌, ℕ, zero, suc, ◌+◌, ◌*◌, ◌/◌, ◌<◌, List, [], ◌∷◌, ◌++◌, get_or, length, map, take, zip, refl, sym, ap, subst, ◌∙◌, arith}
+use Rattle.net_core.proofs.Library.{◌∣◌, get_or-map, length-map, map-append, take_more, All-head, All-tail, get_or-zip, length-zip, mul-div_cancel', positive_divisor}
+use Rattle.plan_terms.specs.Terms.{Caps, IsGreatestDivisor, Link}
 use Rattle.module_prices.specs.declared.cheapest.UnitPair.{UnitPair}
 use Rattle.plan_types.specs.declared.quality.Share.{Share}
 use Rattle.master_law.specs.Terms.{share_capacities, share_caps}
@@ -32,13 +32,11 @@ number_more links pairs share e l p u same units inside =
     here = get_or-zip links (zip pairs share.units) e (l, (p, u)) inside in_pairs
         ∙ ap (λ q. (get_or links e l, q)) (get_or-zip pairs share.units e (p, u) (omega (arith, inside, same)) (omega (arith, inside, units)))
 
--- one number more
-pub divides_more : (scale : ℕ) (nums : List ℕ) (n g h d : ℕ) → n < length nums → DividesAll scale (take n nums) g → IsGcd g (get_or nums n d) h → DividesAll scale (take (n + 1) nums) h
-divides_more scale nums n g h d lt all gcd = record {
-  positive = positive_divisor h g all.positive gcd.0;
-  of_scale = dvd_trans h gcd.0 all.of_scale;
-  of_nums = subst (All (λ x. h ∣ x)) (sym (take_more nums n d lt)) (All-push (λ x. h ∣ x) (take n nums) (get_or nums n d) (λ k e l. dvd_trans h gcd.0 (all.of_nums k e l)) gcd.1);
-}
+-- the greatest common divisor of a positive scale and of numbers
+pub divides_all : (scale : ℕ) (nums : List ℕ) (g : ℕ) → 0 < scale → IsGreatestDivisor (scale ∷ nums) g → DividesAll scale nums g
+divides_all scale nums g some is =
+    let of_scale : g ∣ scale = All-head (λ n. g ∣ n) scale nums is.divides in
+    record { positive = positive_divisor g scale some of_scale; of_scale = of_scale; of_nums = All-tail (λ n. g ∣ n) scale nums is.divides }
 
 pub over_more : (divisor : ℕ) (nums divided : List ℕ) (n d : ℕ) → n < length nums → divisor ∣ get_or nums n d → map (λ x. divisor * x) divided ≡ take n nums → map (λ x. divisor * x) (divided ++ get_or nums n d / divisor ∷ []) ≡ take (n + 1) nums
 over_more divisor nums divided n d lt divides sofar =

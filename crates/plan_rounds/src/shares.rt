@@ -3,7 +3,7 @@ ghost use Rattle.std.specs.Int.{◌∣◌};
 ghost use Rattle.master_law.specs.Terms.{AreUnitPairs, share_capacities};
 ghost use Rattle.plan_rounds.specs.inner.Sharing.{DividesAll, IsDividedCaps, IsDividedShare};
 
-use checked_fraction::gcd;
+use master_bound::common_divisor;
 use module_prices::UnitPair;
 use net_core::{Caps, Link, List, Network, NoMemory};
 use plan_types::Share;
@@ -48,15 +48,11 @@ fn share_numbers(
 }
 
 /// The greatest common divisor of a scale and numbers.
-fn common_divisor(scale: u64, nums: &[u128]) -> u64
+fn scale_divisor(scale: u64, nums: &[u128]) -> u64
     requires { 0 < scale }
     ensures { DividesAll scale nums.now result }
 {
-    let mut common = scale as u128;
-    for n in nums {
-        common = gcd(common, *n);
-    }
-    common as u64
+    common_divisor(scale as u128, nums) as u64
 }
 
 /// The numbers over a divisor that all of them have.
@@ -77,7 +73,7 @@ pub fn divided_caps(alloc: Global, whole: Caps) -> Result<ShareCaps, NoMemory>
     requires { 0 < whole.scale }
     ensures { IfOk result (IsDividedCaps whole) }
 {
-    let divisor = common_divisor(whole.scale, whole.nums.items());
+    let divisor = scale_divisor(whole.scale, whole.nums.items());
     let nums = numbers_over(alloc, whole.nums.items(), divisor)?;
     let scale = whole.scale / divisor;
     Ok(ShareCaps {
