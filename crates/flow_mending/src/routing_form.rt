@@ -7,16 +7,9 @@ ghost use Rattle.flow_mending.specs.inner.Counting.{AreMet, HasForm, IsCountedFl
 use crate::loads::is_within;
 use flow_router::common_divisor;
 use metric_cut::are_narrow;
-use net_core::{Demand, Flow, LinkId, List, NoMemory, RouteTask, Routing};
-use short_paths::is_path;
+use net_core::{Demand, Flow, List, NoMemory, RouteTask, Routing};
+use short_paths::{are_links, is_path};
 use std::alloc::Global;
-
-/// Whether all links are among the first ones.
-fn are_links(path: &[LinkId], links: usize) -> bool
-    ensures { IsTrue result → All (λ e. e.0 < links) path.now }
-{
-    path.iter().all(|e| (e.0 as usize) < links)
-}
 
 /// Whether a flow is positive and follows a path of its demand. `seen` is room for a mark of each node.
 fn is_flow(task: &RouteTask, flow: &Flow, seen: &mut [bool]) -> bool

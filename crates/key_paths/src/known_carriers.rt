@@ -1,18 +1,11 @@
-ghost use Rattle.std.specs.Prelude.{◌≡◌, ◌<◌, All, IfOk, IsTrue, length, true};
+ghost use Rattle.std.specs.Prelude.{◌≡◌, All, IfOk, IsTrue, length, true};
 ghost use Rattle.plan_terms.specs.Terms.{graph_of};
 ghost use Rattle.key_paths.specs.inner.Gaining.{IsCarried, IsCarrier};
 
 use crate::carrier::Carrier;
 use net_core::{Copied, LinkId, List, NoMemory, Path, RouteColumn, RouteTask};
-use short_paths::is_path;
+use short_paths::{are_links, is_path};
 use std::alloc::Global;
-
-/// Whether all links are among the first ones.
-fn are_links(path: &[LinkId], links: usize) -> bool
-    ensures { IsTrue result → All (λ e. e.0 < links) path.now }
-{
-    path.iter().all(|e| (e.0 as usize) < links)
-}
 
 /// Whether a path is one of a demand that has a need. `seen` is room for a mark of each node.
 fn carries(task: &RouteTask, demand: u32, path: &[LinkId], seen: &mut [bool]) -> bool

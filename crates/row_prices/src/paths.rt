@@ -1,4 +1,4 @@
-ghost use Rattle.std.specs.Prelude.{◌≡◌, ◌<◌, All, IsTrue, length};
+ghost use Rattle.std.specs.Prelude.{◌≡◌, ◌<◌, IsTrue, length};
 ghost use Rattle.plan_terms.specs.Terms.{AreDemands, Joins, graph_of};
 ghost use Rattle.row_prices.specs.KeyPaths.{IsBesideKeys, IsPathOf};
 ghost use Rattle.row_prices.specs.PathRows.{path_row};
@@ -7,14 +7,7 @@ ghost use Rattle.row_prices.specs.inner.Tests.{AreKeysBelow, ArePathRowsBelow, I
 use crate::path_row::PathRow;
 use crate::sums::key_of;
 use net_core::{Demand, LinkId, Path, RouteColumn, Surviving};
-use short_paths::is_path;
-
-/// Whether all links are among the first ones.
-fn are_links(path: &[LinkId], links: usize) -> bool
-    ensures { IsTrue result → All (λ e. e.0 < links) path.now }
-{
-    path.iter().all(|e| (e.0 as usize) < links)
-}
+use short_paths::{are_links, is_path};
 
 /// Whether links are a path of the demand at a place. `seen` is room for a mark of each node.
 fn is_path_of(

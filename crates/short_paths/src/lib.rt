@@ -21,4 +21,4 @@ pub use path_finder::PathFinder;
 pub use priced_paths::{PricedPath, priced_path, priced_path_in, total_of};
 pub use single_source::{distances, distances_in};
 pub use tight_links::PathFault;
-pub use walk::is_path;
+pub use walk::{are_links, is_path};

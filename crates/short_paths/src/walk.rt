@@ -77,6 +77,13 @@ fn leads_unseen(
     at.0 == to.0
 }
 
+/// Whether all links are among the first ones, as `is_path` wants those of the network. It takes time in their number, and no memory.
+pub fn are_links(path: &[LinkId], links: usize) -> bool
+    ensures { IsTrue result ↔ All (λ e. e.0 < links) path.now }
+{
+    path.iter().all(|e| (e.0 as usize) < links)
+}
+
 /// Whether links are a path between two nodes: each survives, and no node comes twice. `seen` is room for a mark of each node,
 /// whatever the list holds before. It takes no memory, and time that grows with the nodes and with the path.
 ///
