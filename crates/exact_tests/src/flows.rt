@@ -1,7 +1,6 @@
-ghost use Rattle.std.specs.Prelude.{◌≡◌, ◌<◌, ℕ, IsTrue};
-ghost use Rattle.checked_fraction.specs.Terms.{IsNarrow};
+ghost use Rattle.std.specs.Prelude.{IsTrue};
 ghost use Rattle.net_core.specs.Terms.{graph_of};
-ghost use Rattle.route_law.specs.Terms.{route_bound, route_rows};
+ghost use Rattle.key_paths.specs.Tasks.{HasNarrowBounds};
 
 use key_paths::{bound_of, rows_of, solve_task};
 use key_rows::path_of;
@@ -129,8 +128,7 @@ const GROUPS: [Group; 4] = [
 
 /// Whether the bounds of all rows are below 2^62.
 fn are_narrow(task: &RouteTask) -> bool
-    ensures { IsTrue result → (k : ℕ) → k < route_rows (graph_of task.now.graph) task.now.demands.now
-        → IsNarrow (route_bound (graph_of task.now.graph) task.now.demands.now task.now.caps.now k) }
+    ensures { IsTrue result → HasNarrowBounds (graph_of task.now.graph) task.now.demands.now task.now.caps.now }
 {
     for row in 0..rows_of(task) {
         if bound_of(task, row) > NARROW {

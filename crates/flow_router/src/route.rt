@@ -1,7 +1,7 @@
-ghost use Rattle.std.specs.Prelude.{◌≡◌, ◌*◌, ◌+◌, ◌<◌, ◌^◌, ◌≤◌, ℕ, All, IfOk, OnErr, length, slice_index, true, false, IsTrue, ◌↔◌};
-ghost use Rattle.checked_fraction.specs.Terms.{IsNarrow};
+ghost use Rattle.std.specs.Prelude.{◌≡◌, ◌*◌, ◌+◌, ◌<◌, ◌^◌, ◌≤◌, All, IfOk, OnErr, length, slice_index, true, false, IsTrue, ◌↔◌};
 ghost use Rattle.plan_terms.specs.Terms.{AreDemands, Graph, graph, graph_of};
-ghost use Rattle.route_law.specs.Terms.{IsRouteEvidence, AreJoined, route_rows, route_bound};
+ghost use Rattle.route_law.specs.Terms.{IsRouteEvidence, AreJoined};
+ghost use Rattle.key_paths.specs.Tasks.{HasNarrowBounds};
 ghost use Rattle.flow_router.specs.Answers.{IsRouteAnswer};
 ghost use Rattle.flow_router.specs.inner.Flowing.{LeavesNeed};
 ghost use Rattle.flow_router.specs.inner.Solutions.{ArePricesBelow, IsSolution};
@@ -116,8 +116,7 @@ fn solved(
     task: &RouteTask,
     known: &mut List<RouteColumn>,
 ) -> Result<RouteAnswer, NoMemory>
-    requires narrow { (k : ℕ) → k < route_rows (graph_of task.now.graph) task.now.demands.now
-        → IsNarrow (route_bound (graph_of task.now.graph) task.now.demands.now task.now.caps.now k) }
+    requires narrow { HasNarrowBounds (graph_of task.now.graph) task.now.demands.now task.now.caps.now }
     requires joined { AreJoined (graph_of task.now.graph) task.now.demands.now }
     ensures answer { IfOk result (IsRouteAnswer (graph_of task.now.graph) task.now.demands.now task.now.caps.now) }
     ensures same { OnErr result (known.new ≡ known.old) }
@@ -139,8 +138,7 @@ fn routed_or_solved(
     task: &RouteTask,
     known: &mut List<RouteColumn>,
 ) -> Result<RouteAnswer, NoMemory>
-    requires narrow { (k : ℕ) → k < route_rows (graph_of task.now.graph) task.now.demands.now
-        → IsNarrow (route_bound (graph_of task.now.graph) task.now.demands.now task.now.caps.now k) }
+    requires narrow { HasNarrowBounds (graph_of task.now.graph) task.now.demands.now task.now.caps.now }
     requires joined { AreJoined (graph_of task.now.graph) task.now.demands.now }
     ensures answer { IfOk result (IsRouteAnswer (graph_of task.now.graph) task.now.demands.now task.now.caps.now) }
     ensures same { OnErr result (known.new ≡ known.old) }

@@ -1,8 +1,9 @@
-ghost use Rattle.std.specs.Prelude.{◌≡◌, ◌*◌, ◌<◌, ◌+◌, ℕ, pos, IfOk, length};
+ghost use Rattle.std.specs.Prelude.{◌≡◌, ◌*◌, ◌<◌, ◌+◌, pos, IfOk, length};
 ghost use Rattle.checked_fraction.specs.Terms.{IsNarrow};
 ghost use Rattle.plan_terms.specs.Terms.{graph_of};
 ghost use Rattle.simplex_core.specs.Terms.{AtEach};
 ghost use Rattle.route_law.specs.Terms.{route_rows, route_bound, route_slack};
+ghost use Rattle.key_paths.specs.Tasks.{HasNarrowBounds};
 
 use net_core::{Demand, LinkId, List, NoMemory, RouteColumn, RouteTask};
 use std::alloc::Global;
@@ -81,8 +82,7 @@ pub fn slack_names(alloc: Global, task: &RouteTask) -> Result<List<RouteColumn>,
 
 /// The bounds of all rows.
 pub(crate) fn bounds_of(alloc: Global, task: &RouteTask) -> Result<List<i64>, NoMemory>
-    requires { (k : ℕ) → k < route_rows (graph_of task.now.graph) task.now.demands.now
-        → IsNarrow (route_bound (graph_of task.now.graph) task.now.demands.now task.now.caps.now k) }
+    requires { HasNarrowBounds (graph_of task.now.graph) task.now.demands.now task.now.caps.now }
     ensures count { IfOk result (λ bounds. length bounds ≡ route_rows (graph_of task.now.graph) task.now.demands.now) }
     ensures bounds { IfOk result (AtEach (λ i b. b ≡ route_bound (graph_of task.now.graph) task.now.demands.now task.now.caps.now i)) }
 {

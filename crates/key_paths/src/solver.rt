@@ -1,8 +1,7 @@
-ghost use Rattle.std.specs.Prelude.{◌≡◌, ◌<◌, ◌+◌, ℕ, All, length};
-ghost use Rattle.checked_fraction.specs.Terms.{IsNarrow};
+ghost use Rattle.std.specs.Prelude.{◌≡◌, ◌<◌, ◌+◌, All, length};
 ghost use Rattle.plan_terms.specs.Terms.{AreDemands, graph, graph_of};
-ghost use Rattle.route_law.specs.Terms.{route_rows, route_bound, route_slack, IsCarrying};
-ghost use Rattle.simplex_core.specs.Terms.{IsSimplexAnswer};
+ghost use Rattle.route_law.specs.Terms.{route_bound, route_slack};
+ghost use Rattle.key_paths.specs.Tasks.{HasNarrowBounds, IsTaskAnswer};
 ghost use Rattle.key_paths.specs.inner.Starts.{IsStart};
 ghost use Rattle.key_rows.specs.Terms.{IsRoom};
 ghost use Rattle.key_paths.specs.inner.Gaining.{IsCarrier};
@@ -40,16 +39,13 @@ fn solved(
     room: &mut Room,
     waiting: &mut List<Carrier>,
 ) -> Result<Optimum<RouteColumn>, SimplexFault<RouteColumn>>
-    requires narrow { (k : ℕ) → k < route_rows (graph_of task.now.graph) task.now.demands.now
-        → IsNarrow (route_bound (graph_of task.now.graph) task.now.demands.now task.now.caps.now k) }
+    requires narrow { HasNarrowBounds (graph_of task.now.graph) task.now.demands.now task.now.caps.now }
     requires start { IsStart (length task.now.graph.net.now.links) (length task.now.demands.now)
         (route_bound (graph_of task.now.graph) task.now.demands.now task.now.caps.now)
         (route_slack (graph_of task.now.graph)) keyed }
     requires room { IsRoom (length keyed.rows) room.old }
     requires waiting { All (IsCarrier (graph_of task.now.graph) task.now.demands.now) waiting.old }
-    ensures { IsSimplexAnswer (route_rows (graph_of task.now.graph) task.now.demands.now)
-        (route_bound (graph_of task.now.graph) task.now.demands.now task.now.caps.now)
-        (route_slack (graph_of task.now.graph)) (IsCarrying (graph_of task.now.graph) task.now.demands.now) result }
+    ensures { IsTaskAnswer (graph_of task.now.graph) task.now.demands.now task.now.caps.now result }
 {
     loop {
         let Some(name) = price(alloc, task, &keyed, waiting)? else {
@@ -79,11 +75,8 @@ pub fn solve_task(
     task: &RouteTask,
     known: &[RouteColumn],
 ) -> Result<Optimum<RouteColumn>, SimplexFault<RouteColumn>>
-    requires { (k : ℕ) → k < route_rows (graph_of task.now.graph) task.now.demands.now
-        → IsNarrow (route_bound (graph_of task.now.graph) task.now.demands.now task.now.caps.now k) }
-    ensures { IsSimplexAnswer (route_rows (graph_of task.now.graph) task.now.demands.now)
-        (route_bound (graph_of task.now.graph) task.now.demands.now task.now.caps.now)
-        (route_slack (graph_of task.now.graph)) (IsCarrying (graph_of task.now.graph) task.now.demands.now) result }
+    requires { HasNarrowBounds (graph_of task.now.graph) task.now.demands.now task.now.caps.now }
+    ensures { IsTaskAnswer (graph_of task.now.graph) task.now.demands.now task.now.caps.now result }
 {
     let mut waiting = known_carriers(alloc, task, known)?;
     let mut room = room_of(alloc, links_of(task))?;
@@ -104,12 +97,8 @@ pub fn solve_routes<'a>(
     requires state { state.0 < length states.now.listed + 1 }
     requires belong { AreDemands (length net.now.nodes) demands.now }
     requires count { length caps.now.nums ≡ length net.now.links }
-    requires narrow { (k : ℕ) → k < route_rows (graph net.now states.now state.0) demands.now
-        → IsNarrow (route_bound (graph net.now states.now state.0) demands.now caps.now k) }
-    ensures { IsSimplexAnswer (route_rows (graph net.now states.now state.0) demands.now)
-        (route_bound (graph net.now states.now state.0) demands.now caps.now)
-        (route_slack (graph net.now states.now state.0))
-        (IsCarrying (graph net.now states.now state.0) demands.now) result }
+    requires narrow { HasNarrowBounds (graph net.now states.now state.0) demands.now caps.now }
+    ensures { IsTaskAnswer (graph net.now states.now state.0) demands.now caps.now result }
 {
     let task = RouteTask {
         graph: Surviving { net, states, state },

@@ -1,8 +1,9 @@
 ghost use Rattle.std.specs.Prelude.{◌≡◌, ◌<◌, ◌+◌, ◌≤ℤ◌, ℕ, ℤ, pos, length, replicate, get_or, IfOk};
-ghost use Rattle.checked_fraction.specs.Terms.{num, IsNarrow};
+ghost use Rattle.checked_fraction.specs.Terms.{num};
 ghost use Rattle.plan_terms.specs.Terms.{graph_of};
 ghost use Rattle.route_law.specs.Terms.{route_rows, route_bound, route_slack};
 ghost use Rattle.simplex_core.specs.Terms.{AtEach, IsUnit};
+ghost use Rattle.key_paths.specs.Tasks.{HasNarrowBounds};
 ghost use Rattle.key_paths.specs.inner.Starts.{IsStart};
 ghost use Rattle.key_rows.specs.Terms.{IsRoom, amounts};
 
@@ -103,8 +104,7 @@ fn slack_amounts(
 
 /// The slack basis, in which the slack of each demand is its key.
 pub(crate) fn slack_keyed(alloc: Global, task: &RouteTask) -> Result<Keyed, NoMemory>
-    requires { (k : ℕ) → k < route_rows (graph_of task.now.graph) task.now.demands.now
-        → IsNarrow (route_bound (graph_of task.now.graph) task.now.demands.now task.now.caps.now k) }
+    requires { HasNarrowBounds (graph_of task.now.graph) task.now.demands.now task.now.caps.now }
     ensures { IfOk result (IsStart (length task.now.graph.net.now.links) (length task.now.demands.now)
         (route_bound (graph_of task.now.graph) task.now.demands.now task.now.caps.now)
         (route_slack (graph_of task.now.graph))) }
