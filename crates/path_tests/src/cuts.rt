@@ -1,8 +1,10 @@
-ghost use Rattle.std.specs.Prelude.{◌≡◌, ◌<◌, ◌^◌, ◌↔◌, All, IfOk, IfSome, IsTrue, length};
+ghost use Rattle.std.specs.Prelude.{◌≡◌, ◌<◌, ◌^◌, IfOk, IfSome, length};
 ghost use Rattle.metric_cut.specs.Bounded.{HaveBound};
 
 use crate::fixtures::{TRIANGLE, make_problem};
-use metric_cut::{Cut, CutFault, CutLine, opening, own_bound, own_certificate, violated_by};
+use metric_cut::{
+    Cut, CutFault, CutLine, are_narrow, opening, own_bound, own_certificate, violated_by,
+};
 use net_core::{Caps, Copied, List, Network, NodeId, Problem, StateId};
 use std::alloc::Global;
 use worked_networks::{LinkRow, ONE, TEN};
@@ -196,12 +198,6 @@ const SMALL: [SmallRow; 5] = [
     ([24000, 24000, 0], 2, false),
     ([24000, 24000, 0], 3, true),
 ];
-
-fn are_narrow(nums: &[u128]) -> bool
-    ensures { IsTrue result ↔ All (λ n. n < 2 ^ 62) nums.now }
-{
-    nums.iter().all(|n| *n < 1 << 62)
-}
 
 fn is_violated(line: &CutLine, caps: &Caps) -> bool {
     caps.scale > 0
