@@ -2,7 +2,7 @@
 use Rattle.std.proofs.Common.{◌≡◌, ◌∙◌, ℕ, zero, suc, ◌-◌, inl, inr, Bool, true, List, [], ◌∷◌, refl, ap, sym, subst, arith}
 use Rattle.plan_terms.specs.Terms.{Case, Link}
 use Rattle.plan_terms.proofs.Lemmas.{bound_unique}
-use Rattle.line_check.specs.Terms.{AreNamedBy, WeightedLine, IsMadeOf, IsTableOver, Naming, Source, divided_line, names_among, Multiplier}
+use Rattle.line_check.specs.Terms.{AreNamedBy, WeightedLine, IsMadeFrom, IsTableOver, Naming, Source, divided_line, names_among, Multiplier}
 use Rattle.line_check.proofs.DividedTold.{same_weighted}
 use Rattle.line_check.proofs.SameTables.{table_same}
 use Rattle.tree_check.specs.Terms.{HasBoxValue, IsBoxValue, value_gains, value_losses, HoldsNode, TreeBox, sides_of, Inequality, Divided, Table, Plain, Failing}
@@ -69,7 +69,7 @@ module _ (names : ℕ → Inequality → Type 0) (once : (i : ℕ) (a b : Inequa
       bound_unique links raw cert.den raw cert.den a b first.certificate.positive first.certificate.positive refl first.rounded two.is.rounded
 
 made_once : (p : Case) (names : Naming) → ((robust : Bool) (i : ℕ) (a b : Inequality) → names robust i a → names robust i b → a ≡ b)
-    → (robust : Bool) (source : Source) (a b : Inequality) → IsMadeOf p names robust source a → IsMadeOf p names robust source b → a ≡ b
+    → (robust : Bool) (source : Source) (a b : Inequality) → IsMadeFrom p names robust source a → IsMadeFrom p names robust source b → a ≡ b
 made_once p names once robust (inl cut) a b one two = one.2 ∙ sym two.2
 made_once p names once robust (inr (Divided divisor ms)) a b one two =
     one.is ∙ (ap (λ (ts : List WeightedLine). divided_line p.links divisor ts) (named_once (names robust) (once robust) ms one.terms two.terms one.named two.named) ∙ sym two.is)
@@ -89,4 +89,4 @@ module _ (p : Case) (sources : List Source) where
   names_once (suc n) robust i a b (inr one) (inr two) =
       let same : two.1.source ≡ one.1.source = let x = one.1.at in let y = two.1.at in cc (x, y) in
       made_once p (names_among p sources n) (names_once n) robust one.1.source a b one.1.is
-      (subst (λ (source : Source). IsMadeOf p (names_among p sources n) robust source b) same two.1.is)
+      (subst (λ (source : Source). IsMadeFrom p (names_among p sources n) robust source b) same two.1.is)

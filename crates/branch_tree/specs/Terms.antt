@@ -2,7 +2,7 @@
 pub use Rattle.box_search.specs.Finds.{is_split}
 pub use Rattle.box_search.specs.Terms.{Closed, Empty, Node, Proof, Spent, Split, Stuck}
 pub use Rattle.line_check.specs.Inequalities.{line_of_cut}
-pub use Rattle.line_check.specs.Lines.{IsMadeOf}
+pub use Rattle.line_check.specs.Lines.{IsMadeFrom}
 pub use Rattle.line_check.specs.Testing.{names_by}
 pub use Rattle.tree_check.specs.Boxes.{whole_box}
 pub use Rattle.tree_check.specs.Proofs.{HoldsAtNode, HoldsNode, IsAcceptedProof, IsEvidenceAt, names_in_proof}

@@ -3,7 +3,8 @@ ghost use Rattle.plan_terms.specs.Terms.{AreDemands, single_state};
 ghost use Rattle.failure_texts.specs.Fates.{AreFates, IsFate};
 
 use failure_states::first_separated;
-use net_core::{Copied, Demands, Link, LinkId, List, Listed, Network, NoMemory, States};
+use model_reader::single_failure;
+use net_core::{Demands, Link, LinkId, List, Network, NoMemory, States};
 use std::alloc::Global;
 
 /// The effect of the failure of a link alone.
@@ -14,31 +15,12 @@ pub(crate) struct Fate {
     pub(crate) separated: Option<u32>,
 }
 
-/// A list of one link.
-fn just(alloc: Global, id: LinkId) -> Result<List<LinkId>, NoMemory>
-    ensures { IfOk result (λ l. l ≡ id ∷ []) }
-{
-    let mut links = List::new(alloc);
-    links.push(id)?;
-    Ok(links)
-}
-
-/// The state in which this link alone fails, of the link's name.
-fn state_of(alloc: Global, id: LinkId, link: &Link) -> Result<Listed, NoMemory>
-    ensures { IfOk result (λ s. s ≡ single_state id.0 link.now.name) }
-{
-    Ok(Listed {
-        name: link.name.copy()?,
-        links: just(alloc, id)?,
-    })
-}
-
 /// The states in which nothing fails, or this link alone. One state that fails one link of the network has no fault.
 fn states_with(alloc: Global, net: &Network, id: LinkId, link: &Link) -> Result<States, NoMemory>
     ensures { IfOk result (λ s. s.listed ≡ single_state id.0 link.now.name ∷ []) }
 {
     let mut listed = List::new(alloc);
-    let state = state_of(alloc, id, link)?;
+    let state = single_failure(alloc, id, link)?;
     listed.push(state)?;
     match States::new(net, listed) {
         Ok(states) => Ok(states),

@@ -1,15 +1,7 @@
-ghost use Rattle.std.specs.Prelude.{◌≡◌, ◌<◌, length, slice_index};
+ghost use Rattle.std.specs.Prelude.{◌≡◌, ◌<◌, length};
 ghost use Rattle.fault_texts.specs.Controls.{ends_order, is_control, is_order, shown_byte};
 
-/// The byte at a place, and 0 past the end.
-fn byte_at(text: &[u8], i: usize) -> u8
-    ensures { result ≡ slice_index text.now i }
-{
-    match text.get(i) {
-        Some(b) => *b,
-        None => 0,
-    }
-}
+use text_places::byte_at;
 
 /// Whether a byte is a control character by itself.
 fn is_order(byte: u8) -> bool

@@ -4,7 +4,7 @@ use Rattle.net_core.proofs.Library.{false≢true}
 use Rattle.plan_terms.specs.Terms.{Case, IsAble}
 use Rattle.line_check.specs.Inequalities.{MeetsLine}
 use Rattle.line_check.specs.Laws.{LinesAreMet, RobustLinesAreMet, surviving_counts}
-use Rattle.line_check.specs.Lines.{IsMadeOf, Naming, Source, names_among}
+use Rattle.line_check.specs.Lines.{IsMadeFrom, Naming, Source, names_among}
 use Rattle.line_check.specs.declared.inequality.Inequality.{Inequality}
 use Rattle.line_check.specs.declared.line.Line.TheVariants.{Divided, Table}
 use Rattle.line_check.specs.declared.line.TableKind.TheVariants.{Plain, Failing}
@@ -20,7 +20,7 @@ module _ (p : Case) (counts : List (List ℕ)) (able : IsAble p counts) where
   abbrev MeetsLeft : ℕ → (ℕ → Inequality → Type 0) → Type 0
   MeetsLeft s names = (i : ℕ) (l : Inequality) → names i l → MeetsLine p.links l (surviving_counts p s counts)
 
-  robust_made_met : (s : ℕ) → s ≤ length p.listed → (names : Naming) → MeetsLeft s (names true) → (source : Source) (made : Inequality) → IsMadeOf p names true source made
+  robust_made_met : (s : ℕ) → s ≤ length p.listed → (names : Naming) → MeetsLeft s (names true) → (source : Source) (made : Inequality) → IsMadeFrom p names true source made
       → MeetsLine p.links made (surviving_counts p s counts)
   robust_made_met s low names met (inl cut) made is =
       subst (λ l. MeetsLine p.links l (surviving_counts p s counts)) (sym is.2) (robust_cut_met p s cut counts is.0 (is.1 refl) able low)
@@ -35,7 +35,7 @@ module _ (p : Case) (counts : List (List ℕ)) (able : IsAble p counts) where
   robust_met s low sources (suc n) i l (inr here) = robust_made_met s low (names_among p sources n) (robust_met s low sources n) here.1.source l here.1.is
 
   made_met : (names : Naming) → ((i : ℕ) (l : Inequality) → names false i l → MeetsLine p.links l counts) → ((s : ℕ) → s ≤ length p.listed → MeetsLeft s (names true))
-      → (source : Source) (made : Inequality) → IsMadeOf p names false source made → MeetsLine p.links made counts
+      → (source : Source) (made : Inequality) → IsMadeFrom p names false source made → MeetsLine p.links made counts
   made_met names met left (inl cut) made is = subst (λ l. MeetsLine p.links l counts) (sym is.2) (cut_line_met p cut counts is.0 able)
   made_met names met left (inr (Divided divisor terms)) made is = divided_line_met p.links counts (names false) met divisor terms made is
   made_met names met left (inr (Table index Plain weights)) made is = plain_table_is_met p is.0 weights made counts able.shape is.2 (met index is.0 is.1)

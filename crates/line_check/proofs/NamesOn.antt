@@ -3,14 +3,14 @@ use Rattle.std.proofs.Common.{◌≡◌, ◌≢◌, ◌++◌, ℕ, zero, suc, �
 use Rattle.net_core.proofs.Library.{cases_eq, get_or_append_left, slice_get_within}
 use Rattle.plan_terms.specs.Terms.{Case, CutLine, IsCut}
 use Rattle.line_check.specs.Inequalities.{line_of_cut}
-use Rattle.line_check.specs.Lines.{IsMadeAt, IsMadeOf, Source, names_among}
+use Rattle.line_check.specs.Lines.{IsMadeAt, IsMadeFrom, Source, names_among}
 use Rattle.line_check.specs.Testing.{AreTested, names_by, no_test, says, test_at}
 use Rattle.line_check.specs.declared.inequality.Inequality.{Inequality}
 use Rattle.line_check.specs.declared.tested_lines.Tested.{Tested}
 
 -- the index of a source names the line that it makes
 pub source_names : (p : Case) (sources : List Source) (n i : ℕ) (robust : Bool) (source : Source) (made : Inequality) → i < n
-    → slice_get sources i ≡ Some source → IsMadeOf p (names_among p sources i) robust source made → names_among p sources n robust i made
+    → slice_get sources i ≡ Some source → IsMadeFrom p (names_among p sources i) robust source made → names_among p sources n robust i made
 source_names p sources zero i robust source made lt at is = absurd (omega (arith, lt))
 source_names p sources (suc n) i robust source made lt at is = ⊎_elim
     (λ (here : i ≡ n).

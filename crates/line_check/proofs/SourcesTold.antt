@@ -3,7 +3,7 @@ use Rattle.std.proofs.Common.{◌≡◌, ℕ, ◌↔◌, inr, Bool, true, false,
 use Rattle.net_core.proofs.Library.{and_parts, false≢true}
 use Rattle.master_bound.specs.declared.answer.Multiplier.{Multiplier}
 use Rattle.plan_terms.specs.Terms.{Case}
-use Rattle.line_check.specs.Lines.{IsDividedLine, IsMadeOf, IsTableOver, Source}
+use Rattle.line_check.specs.Lines.{IsDividedLine, IsMadeFrom, IsTableOver, Source}
 use Rattle.line_check.specs.Testing.{IsSoundAt, IsTestedAs, names_by, no_test, test_at, weighed}
 use Rattle.line_check.specs.declared.inequality.Inequality.{Inequality}
 use Rattle.line_check.specs.declared.line.Line.TheVariants.{Divided, Table}
@@ -22,25 +22,25 @@ robust_by : (earlier : List Tested) (i : ℕ) (l : Inequality) → names_by earl
 robust_by earlier i l names = (names.0, (and_parts (test_at earlier i).sound (test_at earlier i).robust names.1).0, names.2)
 
 -- a source that makes nothing
-pub refused_told : (p : Case) (earlier : List Tested) (source : Source) → ((made : Inequality) → IsMadeOf p (names_by earlier) false source made → ⊥) → IsTestedAs p earlier source no_test
+pub refused_told : (p : Case) (earlier : List Tested) (source : Source) → ((made : Inequality) → IsMadeFrom p (names_by earlier) false source made → ⊥) → IsTestedAs p earlier source no_test
 refused_told p earlier source none true made =
     (λ is. absurd (none made (made_of_robust p (names_by earlier) (robust_by earlier) source made is)), λ said. absurd (false≢true said.0))
 refused_told p earlier source none false made = (λ is. absurd (none made is), λ said. absurd (false≢true said.0))
 
 -- a source that makes one line, and a robust one where a test says so
-pub held_told : (p : Case) (earlier : List Tested) (source : Source) (line : Inequality) (robust : Bool) → IsMadeOf p (names_by earlier) false source line
-    → ((made : Inequality) → IsMadeOf p (names_by earlier) false source made → made ≡ line)
-    → (IsTrue robust ↔ IsMadeOf p (names_by earlier) true source line)
+pub held_told : (p : Case) (earlier : List Tested) (source : Source) (line : Inequality) (robust : Bool) → IsMadeFrom p (names_by earlier) false source line
+    → ((made : Inequality) → IsMadeFrom p (names_by earlier) false source made → made ≡ line)
+    → (IsTrue robust ↔ IsMadeFrom p (names_by earlier) true source line)
     → IsTestedAs p earlier source (held robust line)
 held_told p earlier source line robust is one test true made = (
   λ of.
       let same = one made (made_of_robust p (names_by earlier) (robust_by earlier) source made of) in
-      (test.1 (subst (λ l. IsMadeOf p (names_by earlier) true source l) same of), same),
-  λ said. subst (λ l. IsMadeOf p (names_by earlier) true source l) (sym said.1) (test.0 said.0),
+      (test.1 (subst (λ l. IsMadeFrom p (names_by earlier) true source l) same of), same),
+  λ said. subst (λ l. IsMadeFrom p (names_by earlier) true source l) (sym said.1) (test.0 said.0),
 )
 held_told p earlier source line robust is one test false made = (
   λ of. (refl, one made of),
-  λ said. subst (λ l. IsMadeOf p (names_by earlier) false source l) (sym said.1) is,
+  λ said. subst (λ l. IsMadeFrom p (names_by earlier) false source l) (sym said.1) is,
 )
 
 -- a divided line

@@ -4,7 +4,7 @@ use Rattle.net_core.proofs.Library.{cases_lt, false≢true, map-append, take_mor
 use Rattle.master_bound.specs.declared.answer.Multiplier.{Multiplier}
 use Rattle.plan_terms.specs.Terms.{Case, CutLine, Link}
 use Rattle.line_check.specs.Inequalities.{AreNamedBy, WeightedLine}
-use Rattle.line_check.specs.Lines.{IsDividedLine, IsMadeOf, Naming, Source, names_among}
+use Rattle.line_check.specs.Lines.{IsDividedLine, IsMadeFrom, Naming, Source, names_among}
 use Rattle.line_check.specs.Testing.{AreTested, IsTestedAs, names_by, says, test_at}
 use Rattle.line_check.specs.declared.inequality.Inequality.{Inequality}
 use Rattle.line_check.specs.declared.line.Line.{Line}
@@ -37,7 +37,7 @@ divided_under links names others to divisor ms made is = record {
 }
 
 pub made_under : (p : Case) (names others : Naming) → ((robust : Bool) (i : ℕ) (l : Inequality) → names robust i l → others robust i l)
-    → (robust : Bool) (source : Source) (made : Inequality) → IsMadeOf p names robust source made → IsMadeOf p others robust source made
+    → (robust : Bool) (source : Source) (made : Inequality) → IsMadeFrom p names robust source made → IsMadeFrom p others robust source made
 made_under p names others to robust (inl cut) made is = is
 made_under p names others to robust (inr (Divided divisor terms)) made is = divided_under p.links (names robust) (others robust) (to robust) divisor terms made is
 made_under p names others to robust (inr (Table index Plain weights)) made is = (is.0, to robust index is.0 is.1, is.2)
@@ -45,7 +45,7 @@ made_under p names others to robust (inr (Table index Failing weights)) made is 
 
 -- what is made of robust lines is made of lines
 pub made_of_robust : (p : Case) (names : Naming) → ((i : ℕ) (l : Inequality) → names true i l → names false i l)
-    → (source : Source) (made : Inequality) → IsMadeOf p names true source made → IsMadeOf p names false source made
+    → (source : Source) (made : Inequality) → IsMadeFrom p names true source made → IsMadeFrom p names false source made
 made_of_robust p names to (inl cut) made is = (is.0, λ no. absurd (false≢true no), is.2)
 made_of_robust p names to (inr (Divided divisor terms)) made is = divided_under p.links (names true) (names false) to divisor terms made is
 made_of_robust p names to (inr (Table index Plain weights)) made is = (is.0, to index is.0 is.1, is.2)
@@ -124,7 +124,7 @@ module _ (p : Case) (sources : List Source) (tested : List Tested) (source : Sou
   to_tests robust i l (inl before) = named_still robust i l ((all.names robust i l).0 (names_were p sources source (length sources) (omega arith) robust i l before))
   to_tests robust i l (inr here) =
       let own : here.1.source ≡ source = cc (here.1.at, get_last sources source) in
-      let made = subst (λ x. IsMadeOf p (names_among p (sources ++ source ∷ []) (length sources)) robust x l) own here.1.is in
+      let made = subst (λ x. IsMadeFrom p (names_among p (sources ++ source ∷ []) (length sources)) robust x l) own here.1.is in
       let by = made_under p (names_among p (sources ++ source ∷ []) (length sources)) (names_by tested)
       (λ r k x n. (all.names r k x).0 (names_were p sources source (length sources) (omega arith) r k x n)) robust source l made in
       let holds = (told robust l).0 by in

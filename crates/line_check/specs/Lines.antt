@@ -125,17 +125,17 @@ Naming = Bool → ℕ → Inequality → Type 0
 
 -- The inequality that a source makes of those that indices name. It is robust where it is the cut of the state in which nothing fails, or
 -- made of robust ones alone, without a failing table. A failing table line is made of a robust one.
-abbrev pub IsMadeOf : Case → Naming → Bool → Source → Inequality → Type 0
-IsMadeOf p names robust (inl cut) made = IsCut p cut × (robust ≡ true → cut.state.0 ≡ 0) × (made ≡ line_of_cut p.links cut)
-IsMadeOf p names robust (inr (Divided divisor terms)) made = IsDividedLine p.links (names robust) divisor terms made
-IsMadeOf p names robust (inr (Table index Plain weights)) made = IsTableLine p (names robust) index Plain weights made
-IsMadeOf p names robust (inr (Table index Failing weights)) made = (robust ≡ false) × IsTableLine p (names true) index Failing weights made
+abbrev pub IsMadeFrom : Case → Naming → Bool → Source → Inequality → Type 0
+IsMadeFrom p names robust (inl cut) made = IsCut p cut × (robust ≡ true → cut.state.0 ≡ 0) × (made ≡ line_of_cut p.links cut)
+IsMadeFrom p names robust (inr (Divided divisor terms)) made = IsDividedLine p.links (names robust) divisor terms made
+IsMadeFrom p names robust (inr (Table index Plain weights)) made = IsTableLine p (names robust) index Plain weights made
+IsMadeFrom p names robust (inr (Table index Failing weights)) made = (robust ≡ false) × IsTableLine p (names true) index Failing weights made
 
 -- the source at a place makes an inequality
 pub record IsMadeAt (p : Case) (names : Naming) (robust : Bool) (sources : List Source) (i : ℕ) (made : Inequality) : Type 0 where
   pub source : Source
   pub at : slice_get sources i ≡ Some source
-  pub is : IsMadeOf p names robust source made
+  pub is : IsMadeFrom p names robust source made
 
 -- which inequalities the indices of the first n sources name, each made of earlier ones
 abbrev pub names_among : Case → List Source → ℕ → Bool → ℕ → Inequality → Type 0

@@ -3,7 +3,7 @@ use Rattle.std.specs.Prelude.{◌≡◌, ◌↔◌, ℕ, ◌<◌, ◌&&◌, Bool
 use Rattle.plan_terms.specs.Terms.{Case}
 use Rattle.master_bound.specs.declared.answer.Multiplier.{Multiplier}
 use Rattle.line_check.specs.Inequalities.{WeightedLine}
-use Rattle.line_check.specs.Lines.{IsMadeOf, Source, names_among}
+use Rattle.line_check.specs.Lines.{IsMadeFrom, Source, names_among}
 use Rattle.line_check.specs.declared.inequality.Inequality.{Inequality}
 use Rattle.line_check.specs.declared.tested_lines.Tested.{Tested}
 
@@ -35,7 +35,7 @@ names_by tested robust i line = (i < length tested) × IsTrue (says robust (test
 -- a test of a source, of which earlier tests name lines: it says exactly what the source makes of these
 abbrev pub IsTestedAs : Case → List Tested → Source → Tested → Type 0
 IsTestedAs p earlier source t = (robust : Bool) (made : Inequality)
-    → IsMadeOf p (names_by earlier) robust source made ↔ (IsTrue (says robust t) × (made ≡ t.line))
+    → IsMadeFrom p (names_by earlier) robust source made ↔ (IsTrue (says robust t) × (made ≡ t.line))
 
 -- the sources were tested, one by one: what indices name by these tests is what they name
 pub record AreTested (p : Case) (sources : List Source) (tested : List Tested) : Type 0 where

@@ -19,5 +19,5 @@ pub mod tested_lines;
 pub use inequality::Inequality;
 pub use line::{Line, TableKind};
 pub use master_bound::Multiplier;
-pub use sums::{line_in, module_price, times};
+pub use sums::{line_in, module_price, summed_need, times};
 pub use tested_lines::Tested;

@@ -37,7 +37,7 @@ pub fn module_price(tested: &[Tested], lines: &[Multiplier], e: usize, m: usize)
 
 /// What modules have to give for the sum of lines; a sum that 128 bits don't hold is the greatest number.
 #[tactic(auto, using(crate::proofs::WeighedSums::need_more))]
-pub(crate) fn summed_need(tested: &[Tested], lines: &[Multiplier]) -> u128
+pub fn summed_need(tested: &[Tested], lines: &[Multiplier]) -> u128
     requires { All (λ x. x.cut < length tested.now) lines.now }
     ensures { result ≡ min (summed_need (weighed tested.now lines.now)) (2 ^ 128 - 1) }
 {

@@ -1,22 +1,15 @@
 -- numbers of sums of lines, as the crate below has them
-use Rattle.std.proofs.Common.{◌≡◌, ◌≢◌, ℕ, ◌+◌, ◌*◌, ◌/◌, ◌%◌, ◌<◌, ◌≤◌, ⊎_elim, List, get_or, length, min, take, subst, sym, arith}
+use Rattle.std.proofs.Common.{◌≡◌, ◌≢◌, ℕ, ◌+◌, ◌/◌, ◌%◌, ◌<◌, ◌≤◌, ⊎_elim, List, min, subst, sym, arith}
 use Rattle.net_core.proofs.Library.{cases_eq}
 use Rattle.plan_terms.specs.Terms.{Link}
-use Rattle.line_check.specs.Terms.{module_number, need_of, summed_need, divided_up, test_at, weighed, Multiplier}
+use Rattle.line_check.specs.Terms.{module_number, divided_up, Multiplier}
 use Rattle.line_check.specs.declared.tested_lines.Tested.{Tested}
 use Rattle.line_check.proofs.DividedLines.{up_is}
-use Rattle.line_check.proofs.WeighedSums.{need_more}
 use Rattle.line_maker.specs.inner.Candidates.{IsNarrowLink}
 
 -- a quotient that is rounded up where a rest is left
 pub rounded_is : (n d : ℕ) → 1 ≤ d → n / d + min 1 (n % d) ≡ divided_up n d
 rounded_is n d positive = up_is n d positive
-
--- a line more
-pub summed_more : (tested : List Tested) (ms : List Multiplier) (i : ℕ) (d : Multiplier) → i < length ms
-    → summed_need (weighed tested (take (i + 1) ms))
-    ≡ summed_need (weighed tested (take i ms)) + (get_or ms i d).num * need_of (test_at tested (get_or ms i d).cut).line
-summed_more tested ms i d lt = need_more tested ms i d lt
 
 -- a link more whose modules give no more than the limit
 pub narrow_more : (links : List Link) (tested : List Tested) (terms : List Multiplier) (e modules : ℕ) → modules ≡ module_number links e

@@ -1,26 +1,11 @@
-ghost use Rattle.std.specs.Prelude.{◌≡◌, ◌-◌, ◌<◌, ◌^◌, All, IsTrue, length, min};
-ghost use Rattle.line_check.specs.Terms.{summed_need, weighed};
+ghost use Rattle.std.specs.Prelude.{◌<◌, All, IsTrue, length};
 ghost use Rattle.line_maker.specs.inner.Candidates.{IsNarrowLink, IsNarrowSum};
 
-use line_check::{Multiplier, Tested, line_in, module_price, times};
+use line_check::{Multiplier, Tested, module_price, summed_need};
 use net_core::Link;
 
 /// The numbers of a sum stay below this.
 const WIDE: u128 = 1 << 126;
-
-/// What modules have to give for the sum of lines; a sum that 128 bits don't hold is the greatest number.
-#[tactic(auto, using(crate::proofs::SummedLines::summed_more))]
-fn summed_need(tested: &[Tested], terms: &[Multiplier]) -> u128
-    requires { All (λ x. x.cut < length tested.now) terms.now }
-    ensures { result ≡ min (summed_need (weighed tested.now terms.now)) (2 ^ 128 - 1) }
-{
-    let mut sum = 0u128;
-    for x in terms {
-        let line = line_in(tested, x.cut);
-        sum = sum.saturating_add(times(x.num, line.right.saturating_sub(line.given)));
-    }
-    sum
-}
 
 /// Whether what the modules of a link give to a sum of lines keeps its limit.
 fn is_narrow_link(tested: &[Tested], terms: &[Multiplier], e: usize, modules: usize) -> bool

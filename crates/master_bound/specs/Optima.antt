@@ -24,6 +24,6 @@ abbrev pub IsWideOptimum : List Link → List UnitPair → List CutLine → Opti
 IsWideOptimum links pairs cuts best = (o : IsMasterOptimum links pairs cuts best) → HasWideValue links pairs cuts o.basis
 
 -- a number of a cut is too wide, or the values of the basis are
-abbrev pub IsTooWideAt : List Link → List UnitPair → List CutLine → Optimum MasterColumn → Type 0
-IsTooWideAt links pairs cuts best = ((k : ℕ) × (cut : CutLine) × (slice_get cuts k ≡ Some cut) × IsWideCut links pairs cut)
+abbrev pub IsTooWideForCertificate : List Link → List UnitPair → List CutLine → Optimum MasterColumn → Type 0
+IsTooWideForCertificate links pairs cuts best = ((k : ℕ) × (cut : CutLine) × (slice_get cuts k ≡ Some cut) × IsWideCut links pairs cut)
     ⊎ IsWideOptimum links pairs cuts best

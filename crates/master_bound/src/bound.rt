@@ -5,7 +5,7 @@ ghost use Rattle.simplex_core.specs.Terms.{AtEach};
 ghost use Rattle.simplex_law.specs.Terms.{IsPacking};
 ghost use Rattle.master_law.specs.Terms.{IsMasterEvidence, IsMasterColumn, IsSameCut, cut_gain, master_bound, master_slack, AreUnitPairs, share_cost};
 ghost use Rattle.master_bound.specs.Answers.{IsBestOf, IsMasterAnswer};
-ghost use Rattle.master_bound.specs.Optima.{IsMasterOptimum, IsTooWideAt, IsWideOptimum};
+ghost use Rattle.master_bound.specs.Optima.{IsMasterOptimum, IsTooWideForCertificate, IsWideOptimum};
 ghost use Rattle.master_bound.specs.Narrow.{IsNarrowCut, IsWideCut};
 ghost use Rattle.master_bound.specs.inner.Programs.{IsMasterSolution, IsWideAnswer};
 ghost use Rattle.master_bound.specs.inner.Shares.{IsShareOfDuals};
@@ -300,7 +300,8 @@ pub fn best_at(
     requires units { AreUnitPairs net.now.links pairs.now }
     requires costs { All (λ p. p.cost < 2 ^ 40) pairs.now }
     requires optimum { IsMasterOptimum net.now.links pairs.now cuts.now optimum.now }
-    ensures { IfOk result (λ found. MatchOption found (IsTooWideAt net.now.links pairs.now cuts.now optimum.now) (IsBestOf net.now.links cuts.now)) }
+    ensures { IfOk result
+        (λ found. MatchOption found (IsTooWideForCertificate net.now.links pairs.now cuts.now optimum.now) (IsBestOf net.now.links cuts.now)) }
 {
     match wide_cut(net.links().items(), pairs.items(), cuts.items()) {
         Some(_) => Ok(None),

@@ -21,8 +21,8 @@ fn just(alloc: Global, link: LinkId) -> Result<List<LinkId>, NoMemory>
     Ok(links)
 }
 
-/// The failure of a single link, as a state with its name.
-fn single(alloc: Global, id: LinkId, link: &Link) -> Result<Listed, NoMemory>
+/// The failure of a single link, as a state with its name. It takes memory for the name.
+pub fn single_failure(alloc: Global, id: LinkId, link: &Link) -> Result<Listed, NoMemory>
     ensures { IfOk result (λ s. s ≡ single_state id.0 link.now.name) }
 {
     Ok(Listed {
@@ -38,7 +38,7 @@ fn singles(alloc: Global, links: &[Link]) -> Result<List<Listed>, NoMemory>
 {
     let mut listed = List::new(alloc);
     for i in 0..links.len() {
-        let state = single(alloc, LinkId(i as u32), &links[i])?;
+        let state = single_failure(alloc, LinkId(i as u32), &links[i])?;
         listed.push(state)?;
     }
     Ok(listed)

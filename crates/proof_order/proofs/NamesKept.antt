@@ -2,7 +2,7 @@
 use Rattle.std.proofs.Common.{◌≡◌, ℕ, zero, suc, ◌+◌, ◌-◌, ◌<◌, ◌≤◌, ◌^◌, inl, inr, Bool, true, false, List, [], ◌∷◌, ◌++◌, Option, None, Some, length, map, slice_get, if◌then◌else◌, refl, ap, subst, sym, ◌∙◌, arith}
 use Rattle.net_core.proofs.Library.{All-map, length-map, slice_get_within, option_map_or}
 use Rattle.plan_terms.specs.Terms.{Case, CutLine}
-use Rattle.line_check.specs.Terms.{AreNamedBy, WeightedLine, IsMadeOf, Naming, Source, names_among, sources_of, Multiplier}
+use Rattle.line_check.specs.Terms.{AreNamedBy, WeightedLine, IsMadeFrom, Naming, Source, names_among, sources_of, Multiplier}
 use Rattle.tree_check.specs.Terms.{Inequality, Line, Divided, Table, Plain, Failing}
 use Rattle.proof_order.specs.Orders.{NamesAreKept, cuts_among, cuts_before, is_cut_entry, lines_among, lines_before, moved_line, moved_multipliers, place_of, source_of}
 use Rattle.proof_order.specs.declared.entry.Entry.{Entry}
@@ -110,7 +110,7 @@ module _ (p : Case) where
     named_moved robust (m ∷ ms) (t ∷ ts) named = ((moves robust m.cut t.line named.0.0, named.0.1), named_moved robust ms ts named.1)
 
     -- what a line makes of names, it makes of the moved ones
-    made_moved : (robust : Bool) (line : Line) (made : Inequality) → IsMadeOf p names robust (inr line) made → IsMadeOf p others robust (inr (moved_line to line)) made
+    made_moved : (robust : Bool) (line : Line) (made : Inequality) → IsMadeFrom p names robust (inr line) made → IsMadeFrom p others robust (inr (moved_line to line)) made
     made_moved robust (Divided divisor terms) made is =
         let same = length-map {B = Multiplier} terms (λ (m : Multiplier). record { cut = to m.cut; num = m.num }) in
         record {
@@ -135,7 +135,7 @@ module _ (p : Case) where
     abbrev proved : List Source
     proved = sources_of (cuts_among es) (map (moved_line (place_of es)) (lines_among es))
 
-    kept_cut : (n : ℕ) (robust : Bool) (l : Inequality) (c : CutLine) → slice_get es n ≡ Some (entry.Cut c) → IsMadeOf p (names_among p entries n) robust (inl c) l
+    kept_cut : (n : ℕ) (robust : Bool) (l : Inequality) (c : CutLine) → slice_get es n ≡ Some (entry.Cut c) → IsMadeFrom p (names_among p entries n) robust (inl c) l
         → names_among p proved (suc (place_of es n)) robust (place_of es n) l
     kept_cut n robust l c at is =
         let place = place_of_cut es n c at in
@@ -150,7 +150,7 @@ module _ (p : Case) where
 
     kept_line : (n : ℕ) → n < length es → (robust : Bool) (l : Inequality) (x : Line) → slice_get es n ≡ Some (entry.Line x)
         → ((r : Bool) (i : ℕ) (made : Inequality) → names_among p entries n r i made → names_among p proved (suc (place_of es i)) r (place_of es i) made)
-        → IsMadeOf p (names_among p entries n) robust (inr x) l
+        → IsMadeFrom p (names_among p entries n) robust (inr x) l
         → names_among p proved (suc (place_of es n)) robust (place_of es n) l
     kept_line n within robust l x at earlier is =
         let place = place_of_line es n x at in
@@ -175,15 +175,15 @@ module _ (p : Case) where
 
     kept_at : (n : ℕ) → n < length es
         → ((r : Bool) (i : ℕ) (made : Inequality) → names_among p entries n r i made → names_among p proved (suc (place_of es i)) r (place_of es i) made)
-        → (robust : Bool) (l : Inequality) (source : Source) → slice_get entries n ≡ Some source → IsMadeOf p (names_among p entries n) robust source l
+        → (robust : Bool) (l : Inequality) (source : Source) → slice_get entries n ≡ Some source → IsMadeFrom p (names_among p entries n) robust source l
         → (o : Option Entry) → slice_get es n ≡ o → names_among p proved (suc (place_of es n)) robust (place_of es n) l
     kept_at n within earlier robust l source there is None none = absurd (none_there es n none source there)
     kept_at n within earlier robust l source there is (Some (entry.Cut c)) at =
         let own : source ≡ inl c = let b = source_at es n (entry.Cut c) at in cc (there, b) in
-        kept_cut n robust l c at (subst (λ (s : Source). IsMadeOf p (names_among p entries n) robust s l) own is)
+        kept_cut n robust l c at (subst (λ (s : Source). IsMadeFrom p (names_among p entries n) robust s l) own is)
     kept_at n within earlier robust l source there is (Some (entry.Line x)) at =
         let own : source ≡ inr x = let b = source_at es n (entry.Line x) at in cc (there, b) in
-        kept_line n within robust l x at earlier (subst (λ (s : Source). IsMadeOf p (names_among p entries n) robust s l) own is)
+        kept_line n within robust l x at earlier (subst (λ (s : Source). IsMadeFrom p (names_among p entries n) robust s l) own is)
 
     kept : (n : ℕ) → n ≤ length es → (robust : Bool) (i : ℕ) (l : Inequality) → names_among p entries n robust i l → names_among p proved (suc (place_of es i)) robust (place_of es i) l
     kept zero few robust i l names = absurd names

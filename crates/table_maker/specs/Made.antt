@@ -3,7 +3,7 @@ use Rattle.std.specs.Int.{◌∣◌}
 use Rattle.std.specs.Prelude.{◌≡◌, ◌⊎◌, ℕ, ◌*◌, ◌^◌, ◌≤◌, ◌<◌, false, List, [], ◌∷◌, All, Contains, IsTrue, length, sum_by}
 use Rattle.std.proofs.Common.{inr}
 use Rattle.plan_terms.specs.Terms.{Case, Link, case_of}
-use Rattle.line_check.specs.Terms.{entry, module_number, need_of, names_by, test_at, IsMadeOf, capped, divided_up}
+use Rattle.line_check.specs.Terms.{entry, module_number, need_of, names_by, test_at, IsMadeFrom, capped, divided_up}
 use Rattle.line_check.specs.declared.inequality.Inequality.{Inequality}
 use Rattle.line_check.specs.declared.line.Line.{Line}
 use Rattle.line_check.specs.declared.line.Line.TheVariants.{Divided, Table}
@@ -46,7 +46,7 @@ pub record IsNarrowLine (p : Case) (tested : List Tested) (line : Line) : Type 0
   pub divisor : ℕ
   pub is : line ≡ line_over index divisor
   pub made : Inequality
-  pub holds : IsMadeOf p (names_by tested) false (inr line) made
+  pub holds : IsMadeFrom p (names_by tested) false (inr line) made
   pub some : 1 ≤ need_of made
   pub few : need_of made ≤ 4096
 
@@ -62,7 +62,7 @@ pub record IsMissedTable (p : Case) (tested : List Tested) (point : List Part) (
   pub is : line ≡ Table index kind weights
   pub light : All (λ weight. weight ≤ most) weights
   pub made : Inequality
-  pub holds : IsMadeOf p (names_by tested) false (inr line) made
+  pub holds : IsMadeFrom p (names_by tested) false (inr line) made
   pub missed : given_at point made < need_of made * den
 
 -- a table line that a task's point doesn't meet

@@ -4,5 +4,5 @@
 mod place;
 mod window;
 
-pub use place::{Place, begins_character, characters, place_of};
+pub use place::{Place, begins_character, byte_at, characters, place_of};
 pub use window::{Window, window_of};

@@ -12,7 +12,7 @@ pub struct Place {
 }
 
 /// The byte at a place, and 0 past the end.
-fn byte_at(text: &[u8], i: usize) -> u8
+pub fn byte_at(text: &[u8], i: usize) -> u8
     ensures { result ≡ slice_index text.now i }
 {
     match text.get(i) {
