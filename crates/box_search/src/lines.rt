@@ -351,7 +351,8 @@ fn make_certified(
 }
 
 /// Makes lines at the box of all counts, if the search makes lines: coarse ones if there are none yet, and then others in up to 20 rounds,
-/// up to 40 in each. The certificate of the last program that wasn't too wide replaces `root`, which stays if there was none.
+/// up to 40 in each. The certificate of the last program that wasn't too wide replaces `root`, which stays if there was none. That is meant
+/// and not promised: the value of a box is worked out anew from the certificate that it has.
 ///
 /// If a link has more than two kinds of modules, up to 1,024 cuts of node sets come first, and lines from which table lines are made. A
 /// round then makes table lines of weights up to 20, or divided lines if the program's point violates no table line.

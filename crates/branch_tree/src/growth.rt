@@ -187,7 +187,7 @@ fn look_again(
     }
 }
 
-/// What one turn of growing comes to.
+/// The outcome of one turn of growing the tree.
 #[derive(Drop)]
 enum Turn {
     /// A box was split.

@@ -8,7 +8,8 @@ use Rattle.simplex_core.specs.declared.optimum.Optimum.{Optimum}
 use Rattle.master_law.specs.Terms.{HasWideValue, IsMasterColumn, master_bound}
 use Rattle.master_bound.specs.Narrow.{IsWideCut}
 
--- a best basis of the master program of the cuts, with values that fill its rows and prices of equal value
+-- a best basis of the master program of the cuts, with values that fill its rows over a denominator below 2^62, and a price of each
+-- link, none of them below 0, of equal value
 pub record IsMasterOptimum (links : List Link) (pairs : List UnitPair) (cuts : List CutLine) (best : Optimum MasterColumn) : Type 0 where
   pub basis : ℕ → ColumnOf MasterColumn
   pub names : AreNames (length links) basis best.basis

@@ -282,8 +282,9 @@ pub fn master(alloc: Global, net: &Network, cuts: &List<CutLine>) -> Result<Best
     answered(alloc, net, cuts, &pairs)
 }
 
-/// The best certificate of cuts, as `master` gives it, by an optimum of their program that is known, beside the unit pairs of the links.
-/// There is none only where a number of a cut, or one of the certificate, is too wide. The basis need not be one that gaining steps reach.
+/// A best certificate of cuts, made from a known optimum of their program and the unit pairs of the links. It may be another one than that
+/// of `master`, with an equal raw value. There is none only where a number of a cut, or one of the certificate, is too wide. The basis need
+/// not be one that gaining steps reach. The costs of the unit pairs are below 2^40, as `unit_pairs` gives them.
 ///
 /// It takes time in the count of links times that of the cuts, and memory for the certificate and the share.
 pub fn best_at(

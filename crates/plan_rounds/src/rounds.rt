@@ -34,7 +34,7 @@ use std::alloc::Global;
 /// The most cuts that are added to those of the pool.
 const MOST_ADDED: usize = 4096;
 
-/// What the rounds of a planning have come to.
+/// The state of a planning after its rounds so far.
 #[derive(Drop)]
 pub struct Worked {
     /// The pool's cuts, and then those that were added.

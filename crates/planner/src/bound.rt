@@ -13,7 +13,7 @@ use plan_types::{CertLine, Certificate};
 use std::alloc::Global;
 use std::cmp::Ordering;
 
-/// The line of a certificate that a multiplier stands for: its numerator, and its cut with spot.
+/// The certificate line of a multiplier: its numerator, and its cut with the cut's spot.
 fn line_of_multiplier(m: Multiplier, worked: &Worked) -> Result<CertLine, NoMemory>
     requires same { length worked.now.spots ≡ length worked.now.lines }
     requires listed { m.cut < length worked.now.lines }

@@ -32,7 +32,7 @@ abbrev pub AreFourFiles : List (List ℕ) → PlanWords → List ℕ → Type 0
 AreFourFiles (n ∷ m ∷ f ∷ l ∷ []) w last = (w ≡ record { network = n; model = m; failures = f }) × (last ≡ l)
 AreFourFiles _ w last = ⊥
 
--- one or more digits, at most so many, that write this number
+-- one or more digits, at most `most`, that write the number `n`
 pub record IsNumberWord (most n : ℕ) (word : List ℕ) : Type 0 where
   pub numeral : IsNumeral 10 word
   pub short : length word ≤ most

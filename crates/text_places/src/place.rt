@@ -6,8 +6,8 @@ ghost use Rattle.text_places.specs.Places.{IsLineStart, IsPlace, begins_characte
 pub struct Place {
     /// One more than the line ends before the byte. A line feed ends a line, and a carriage return does, but the two together end one.
     pub line: u64,
-    /// One more than the characters that begin before the byte in its line, as editors count them. A tab is one, and a byte within a
-    /// character has the column after the character's own.
+    /// One more than the characters that begin before the byte in its line. A tab is one character, and a byte within a character has the
+    /// column after the character's own.
     pub column: u64,
 }
 

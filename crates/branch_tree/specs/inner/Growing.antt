@@ -65,7 +65,7 @@ abbrev pub sides_with : Twig → Found → Sides
 sides_with first (found.Twig second) = sides.Twigs first second
 sides_with first (found.Cheaper cheaper) = sides.Cheaper cheaper
 
--- what a turn comes to: a tree with one more split, one without open boxes, or cheaper counts
+-- the outcome of a turn: a tree with one more split, one without open boxes, or cheaper counts
 abbrev pub IsTurnTo : Case → Plan → List CutLine → List Tested → ℕ → List Twig → Turn → Type 0
 IsTurnTo p plan handed tested n twigs turn.Split = IsGrowing p plan handed tested (n + 1) twigs
 IsTurnTo p plan handed tested n twigs turn.Done = IsGrowing p plan handed tested n twigs × AreSettled twigs

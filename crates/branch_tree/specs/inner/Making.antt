@@ -9,7 +9,7 @@ use Rattle.branch_tree.specs.inner.Showing.{all_shown, verdict_of}
 use Rattle.box_search.specs.declared.known.Known.{Known}
 use Rattle.box_search.specs.declared.twigs.Twig.{Twig}
 
--- the known entries are all of these, if they are at most so many; or else the first of their cuts, up to this number
+-- the known entries are all of these if there are at most `most` of them, or else the first of their cuts, at most `most`
 abbrev pub AreFirstOf : ℕ → List Entry → Known → Type 0
 AreFirstOf most entries k = ((k.entries ≡ entries) × (length entries ≤ most)) ⊎ (k.entries ≡ map entry.Cut (take most (cuts_among entries)))
 
