@@ -1,4 +1,4 @@
-use net_core::{Bytes, Copied, List, Listed, NoMemory};
+use net_core::{Bytes, List, Listed, NoMemory};
 use text_kit::{FaultWord, Refusal};
 
 /// What is wrong with a failure list.
@@ -52,13 +52,4 @@ pub enum FailureList {
     OneByOne(List<Listed>),
     /// Every single-link failure, by one word.
     EverySingleLink,
-}
-
-impl Copied for FailureList {
-    fn copy(&self) -> Result<FailureList, NoMemory> {
-        Ok(match self {
-            FailureList::OneByOne(listed) => FailureList::OneByOne(listed.copy()?),
-            FailureList::EverySingleLink => FailureList::EverySingleLink,
-        })
-    }
 }
