@@ -16,27 +16,26 @@ use Rattle.fault_messages.specs.Headers.{IsHeaderNote}
 use Rattle.fault_messages.specs.NearNames.{IsNearNote, IsWordNote}
 use Rattle.fault_messages.specs.declared.header.FileFormat.TheVariants.{Failures, Model, Network}
 
--- Of a network with another header, what the file seems to be; of a name that nothing has, a near word before it; and else nothing.
-pub record AreNetworkNotes (bytes : List ℕ) (at : ℕ) (kind : ReadKind) (notes : List ℕ) : Type 0 where
-  pub header : kind ≡ networks.Header → IsHeaderNote Network bytes notes
-  pub name : kind ≡ networks.UnknownName → IsNearNote bytes at notes
-  pub none : kind ≢ networks.Header → kind ≢ networks.UnknownName → notes ≡ []
+-- What is known by the kind of the first fault: of one kind, such a note on the header; of another, such a note on a word; and else nothing.
+pub record AreNotesByKind {K : Type 0} (other_header unknown_word : K) (OnHeader OnWord : List ℕ → Type 0) (kind : K) (notes : List ℕ) : Type 0 where
+  pub header : kind ≡ other_header → OnHeader notes
+  pub word : kind ≡ unknown_word → OnWord notes
+  pub none : kind ≢ other_header → kind ≢ unknown_word → notes ≡ []
 
--- Of a model with another header, what the file seems to be; of a word that is no key, a near key; and else nothing.
-pub record AreModelNotes (bytes : List ℕ) (at : ℕ) (kind : ModelKind) (notes : List ℕ) : Type 0 where
-  pub header : kind ≡ models.Header → IsHeaderNote Model bytes notes
-  pub key : kind ≡ models.Key → IsWordNote (map key_word all_keys) bytes at notes
-  pub none : kind ≢ models.Header → kind ≢ models.Key → notes ≡ []
+-- of a network with another header, what the file seems to be; of a name that nothing has, a near word before it
+abbrev pub AreNetworkNotes : List ℕ → ℕ → ReadKind → List ℕ → Type 0
+AreNetworkNotes bytes at = AreNotesByKind networks.Header networks.UnknownName (IsHeaderNote Network bytes) (IsNearNote bytes at)
 
--- Of a failure list with another header, what the file seems to be; of a name that no link has, a near link of these; and else nothing.
-pub record AreFailuresNotes (links : List Link) (bytes : List ℕ) (at : ℕ) (kind : FailuresKind) (notes : List ℕ) : Type 0 where
-  pub header : kind ≡ failures.Header → IsHeaderNote Failures bytes notes
-  pub link : kind ≡ failures.UnknownLink → IsWordNote (map (λ l. l.name) links) bytes at notes
-  pub none : kind ≢ failures.Header → kind ≢ failures.UnknownLink → notes ≡ []
+-- of a model with another header, what the file seems to be; of a word that is no key, a near key
+abbrev pub AreModelNotes : List ℕ → ℕ → ModelKind → List ℕ → Type 0
+AreModelNotes bytes at = AreNotesByKind models.Header models.Key (IsHeaderNote Model bytes) (IsWordNote (map key_word all_keys) bytes at)
 
--- Of a report with another header, that it is of another network, or what the file seems to be; of a name that nothing in the case has, that
--- the report is of another one; and else nothing.
-pub record AreReportNotes (p : Case) (bytes : List ℕ) (at : ℕ) (kind : ReportKind) (notes : List ℕ) : Type 0 where
-  pub header : kind ≡ reports.Header → IsReportHeaderNote p.places bytes notes
-  pub name : kind ≡ reports.UnknownName → IsForeignNote p bytes at notes
-  pub none : kind ≢ reports.Header → kind ≢ reports.UnknownName → notes ≡ []
+-- of a failure list with another header, what the file seems to be; of a name that no link has, a near link of these
+abbrev pub AreFailuresNotes : List Link → List ℕ → ℕ → FailuresKind → List ℕ → Type 0
+AreFailuresNotes links bytes at =
+    AreNotesByKind failures.Header failures.UnknownLink (IsHeaderNote Failures bytes) (IsWordNote (map (λ l. l.name) links) bytes at)
+
+-- of a report with another header, that it is of another network, or what the file seems to be; of a name that nothing in the case has, that
+-- the report is of another one
+abbrev pub AreReportNotes : Case → List ℕ → ℕ → ReportKind → List ℕ → Type 0
+AreReportNotes p bytes at = AreNotesByKind reports.Header reports.UnknownName (IsReportHeaderNote p.places bytes) (IsForeignNote p bytes at)
