@@ -9,7 +9,7 @@ use Rattle.plan_report.specs.Terms.{AreLinkNumbers, IsCertificateLineInForm, IsC
 use Rattle.report_words.specs.declared.fault.ReportKind.TheVariants.{Token}
 use Rattle.report_parts.specs.declared.spot_cut.SpotCut.{SpotCut}
 use Rattle.report_words.specs.Terms.{closing_at, has_room}
-use Rattle.report_parts.specs.ReadingParts.{certificate_at, certificate_line_at, local_spot_at, of_line, pool_spot_at, right_side_at, spot_at, spot_branches}
+use Rattle.report_parts.specs.ReadingParts.{certificate_at, certificate_line_at, local_spot_at, of_line, pool_spot_at, right_side_at, spot_at}
 use Rattle.report_words.proofs.Lemmas.{branches_law, either_form, lawful_branch, lawful_no_branch, field_law, few_law, MadeOf, law_made, made_last, made_then, numbers_law, closing_law, keyword_law, number_law, opening_law, opening_within_law}
 
 module _ (names : KnownNames) (pool : List CutLine) where
@@ -42,7 +42,7 @@ module _ (names : KnownNames) (pool : List CutLine) where
 
   spot_law : Lawful (spot_at names pool) placed_cut IsPlaced AnyText
   unfolding pool_spot_at local_spot_at
-  spot_law = branches_law true (Err Token) (spot_branches names pool) placed_cut _ IsPlaced
+  spot_law = branches_law true (Err Token) _ placed_cut _ IsPlaced
       (either_form true _ _ _ IsPlaced (λ i m h. (h.1, refl))
       (either_form true _ _ _ IsPlaced (λ q m h. (omega (arith, h.0.1), record { long = h.1.0; each = h.1.1 }))
       (λ p n. absurd n)))

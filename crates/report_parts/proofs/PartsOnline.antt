@@ -1,16 +1,16 @@
 -- Each section of a plan is read without a look at what comes after it.
-use Rattle.std.proofs.Common.{◌≡◌, ℕ, ◌+◌, ◌^◌, Bool, true, List, [], length, Option, None, Some, Err, refl, codes, slice_get}
+use Rattle.std.proofs.Common.{◌≡◌, ℕ, ◌+◌, ◌^◌, Bool, true, List, [], ◌∷◌, length, Option, None, Some, Err, refl, codes, slice_get}
 use Rattle.plan_terms.specs.Terms.{MasterColumn, RouteColumn, Demand, LinkId, Link, Places, CutLine, Flow, Routing}
 use Rattle.snd_tokens.specs.Terms.{EndAt}
-use Rattle.text_kit.specs.Terms.{Reading, no_fault, not_empty, of_length, Parenthesis}
+use Rattle.text_kit.specs.Terms.{no_fault, not_empty, of_length, Parenthesis}
 use Rattle.text_kit.proofs.Lemmas.{IsOnline, TakesSome, online_close, online_give, online_list, online_open, online_then, online_word, takes_some}
 use Rattle.plan_report.specs.Terms.{KnownNames, CertLine}
-use Rattle.report_words.specs.declared.fault.ReportKind.{ReportKind}
 use Rattle.report_words.specs.declared.fault.ReportKind.TheVariants.{Token, Ended, Limit}
-use Rattle.report_words.specs.Terms.{has_room, link_at, link_of, unknown_name, whole_within}
+use Rattle.report_words.specs.Terms.{Branches, branch_at, branch_within, has_room, link_at, link_of, unknown_name, whole_within}
 use Rattle.report_parts.specs.ReadingRoutings.{flow_at, path_at, routing_at, routings_at}
-use Rattle.report_parts.specs.ReadingQuality.{basis_at, caps_at, carry_at, evidence_at, fractional_at, left_at, loose_at, master_at, master_column_at, master_wide_at, metric_at, price_at, quality_at, route_at, route_column_at, route_wide_at, slack_at, tight_at, too_wide_at, wide_entry_at, wide_length_at, wide_number_at, wide_row_at, wide_sum_at, evidence_branches, loose_branches, master_column_branches, master_wide_branches, quality_branches, route_column_branches, route_wide_branches}
-use Rattle.report_parts.specs.ReadingParts.{all_counts_at, certificate_at, certificate_line_at, count_at, count_within, counts_at, local_spot_at, modules_at, next_counts_at, nodes_at, plan_demand_at, plan_demands_at, pool_spot_at, right_side_at, spot_at, spot_branches}
+use Rattle.report_parts.specs.ReadingQuality.{basis_at, caps_at, carry_at, evidence_at, fractional_at, left_at, loose_at, master_at, metric_at, price_at, quality_at, route_at, slack_at, tight_at, too_wide_at, wide_entry_at, wide_length_at, wide_number_at, wide_row_at, wide_sum_at, master_column_branches, master_wide_branches, route_column_branches, route_wide_branches}
+use Rattle.report_parts.specs.ReadingParts.{all_counts_at, certificate_at, certificate_line_at, count_at, count_within, counts_at, local_spot_at, modules_at, next_counts_at, nodes_at, plan_demand_at, plan_demands_at, pool_spot_at, right_side_at, spot_at}
+use Rattle.report_words.proofs.Branching.{AllOnline}
 use Rattle.report_words.proofs.Lemmas.{online_branch, field_online, column_some, numbers_online, opening_within_online}
 
 -- ---- routings
@@ -75,8 +75,8 @@ carry_online links demands =
     online_then _ _ (path_online links) (λ path.
     online_give _))
 
-pub route_columns_online : (links : List Link) (demands : List Demand) (room : Bool) → IsOnline (route_column_at links demands room)
-route_columns_online links demands room = online_branch room (Err Token) (route_column_branches links demands) (slack_online links, (left_online demands, (carry_online links demands, tt)))
+pub route_columns_online : (links : List Link) (demands : List Demand) → AllOnline (route_column_branches links demands)
+route_columns_online links demands = (slack_online links, (left_online demands, (carry_online links demands, tt)))
 
 pub price_online : (links : List Link) → IsOnline (price_at links)
 unfolding price_at
@@ -91,28 +91,28 @@ metric_online names =
     online_then _ _ (numbers_online (length names.links) (2 ^ 32)) (λ lengths.
     online_give _))
 
-pub master_columns_online : (names : KnownNames) (room : Bool) → IsOnline (master_column_at names room)
-master_columns_online names room = online_branch room (Err Token) (master_column_branches names) (price_online names.links, (metric_online names, tt))
+pub master_columns_online : (names : KnownNames) → AllOnline (master_column_branches names)
+master_columns_online names = (price_online names.links, (metric_online names, tt))
 
-pub route_column_some : (links : List Link) (demands : List Demand) (room : Bool) → TakesSome (route_column_at links demands room)
-route_column_some links demands room = column_some room (route_column_branches links demands) (slack_online links, (left_online demands, (carry_online links demands, tt)))
+pub route_column_some : (links : List Link) (demands : List Demand) (room : Bool) → TakesSome (branch_within room (route_column_branches links demands))
+route_column_some links demands room = column_some room (route_column_branches links demands) (route_columns_online links demands)
 
-pub master_column_some : (names : KnownNames) (room : Bool) → TakesSome (master_column_at names room)
-master_column_some names room = column_some room (master_column_branches names) (price_online names.links, (metric_online names, tt))
+pub master_column_some : (names : KnownNames) (room : Bool) → TakesSome (branch_within room (master_column_branches names))
+master_column_some names room = column_some room (master_column_branches names) (master_columns_online names)
 
-pub basis_online : {C : Type 0} (column : Bool → Reading ReportKind C) → ((room : Bool) → IsOnline (column room)) → ((room : Bool) → TakesSome (column room)) → (rows : ℕ) → IsOnline (basis_at column rows)
+pub basis_online : {C : Type 0} (columns : Branches C) → AllOnline columns → (rows : ℕ) → IsOnline (basis_at columns rows)
 unfolding basis_at
-basis_online column on some rows = online_then _ _ (online_open Token Ended) (λ x.
-    online_list Parenthesis (of_length rows Limit) (λ sofar. column (has_room rows sofar)) (λ sofar. on (has_room rows sofar)) (λ sofar. some (has_room rows sofar)) [])
+basis_online columns all rows = online_then _ _ (online_open Token Ended) (λ x.
+    online_list Parenthesis (of_length rows Limit) (λ sofar. branch_within (has_room rows sofar) columns) (λ sofar. online_branch (has_room rows sofar) (Err Token) columns all) (λ sofar. column_some (has_room rows sofar) columns all) [])
 
-module _ {C : Type 0} (column : Bool → Reading ReportKind C) (on : (room : Bool) → IsOnline (column room)) where
-  pub wide_number_online : IsOnline (wide_number_at column)
+module _ {C : Type 0} (columns : Branches C) (all : AllOnline columns) where
+  pub wide_number_online : IsOnline (wide_number_at columns)
   unfolding wide_number_at
-  wide_number_online = online_then _ _ (on true) (λ c. online_give _)
+  wide_number_online = online_then _ _ (online_branch true (Err Token) columns all) (λ c. online_give _)
 
-  pub wide_entry_online : (rows : ℕ) → IsOnline (wide_entry_at column rows)
+  pub wide_entry_online : (rows : ℕ) → IsOnline (wide_entry_at columns rows)
   unfolding wide_entry_at
-  wide_entry_online rows = online_then _ _ (online_word Token Ended _) (λ i. online_then _ _ (on true) (λ c. online_give _))
+  wide_entry_online rows = online_then _ _ (online_word Token Ended _) (λ i. online_then _ _ (online_branch true (Err Token) columns all) (λ c. online_give _))
 
 pub wide_row_online : {C : Type 0} (rows : ℕ) → IsOnline (wide_row_at {C = C} rows)
 unfolding wide_row_at
@@ -128,11 +128,11 @@ wide_length_online links =
     online_then _ _ (online_word Token Ended _) (λ e.
     online_give _)
 
-pub route_wide_online : (column : Bool → Reading ReportKind RouteColumn) → ((room : Bool) → IsOnline (column room)) → (links : List Link) (rows : ℕ) → IsOnline (route_wide_at column links rows)
-route_wide_online column on links rows = online_branch true (Err Token) (route_wide_branches column links rows) (wide_number_online column on, (wide_row_online rows, (wide_entry_online column on rows, (wide_sum_online rows, (online_give _, (wide_length_online links, tt))))))
+pub route_wide_online : (columns : Branches RouteColumn) → AllOnline columns → (links : List Link) (rows : ℕ) → IsOnline (branch_at (route_wide_branches columns links rows))
+route_wide_online columns all links rows = online_branch true (Err Token) (route_wide_branches columns links rows) (wide_number_online columns all, (wide_row_online rows, (wide_entry_online columns all rows, (wide_sum_online rows, (online_give _, (wide_length_online links, tt))))))
 
-pub master_wide_online : (column : Bool → Reading ReportKind MasterColumn) → ((room : Bool) → IsOnline (column room)) → (rows : ℕ) → IsOnline (master_wide_at column rows)
-master_wide_online column on rows = online_branch true (Err Token) (master_wide_branches column rows) (wide_number_online column on, (wide_row_online rows, (wide_entry_online column on rows, (wide_sum_online rows, (online_give _, (online_give _, tt))))))
+pub master_wide_online : (columns : Branches MasterColumn) → AllOnline columns → (rows : ℕ) → IsOnline (branch_at (master_wide_branches columns rows))
+master_wide_online columns all rows = online_branch true (Err Token) (master_wide_branches columns rows) (wide_number_online columns all, (wide_row_online rows, (wide_entry_online columns all rows, (wide_sum_online rows, (online_give _, (online_give _, tt))))))
 
 pub caps_online : (links : List Link) → IsOnline (caps_at links)
 unfolding caps_at
@@ -146,19 +146,19 @@ unfolding route_at
 route_online names demands =
     online_then _ _ (online_word Token Ended _) (λ state.
     online_then _ _ (caps_online names.links) (λ caps.
-    online_then _ _ (basis_online (route_column_at names.links demands) (route_columns_online names.links demands) (route_column_some names.links demands) (length names.links + length demands)) (λ basis.
-    online_then _ _ (route_wide_online (route_column_at names.links demands) (route_columns_online names.links demands) names.links (length names.links + length demands)) (λ kind.
+    online_then _ _ (basis_online (route_column_branches names.links demands) (route_columns_online names.links demands) (length names.links + length demands)) (λ basis.
+    online_then _ _ (route_wide_online (route_column_branches names.links demands) (route_columns_online names.links demands) names.links (length names.links + length demands)) (λ kind.
     online_give _))))
 
 pub master_online : (names : KnownNames) → IsOnline (master_at names)
 unfolding master_at
 master_online names =
-    online_then _ _ (basis_online (master_column_at names) (master_columns_online names) (master_column_some names) (length names.links)) (λ basis.
-    online_then _ _ (master_wide_online (master_column_at names) (master_columns_online names) (length names.links)) (λ kind.
+    online_then _ _ (basis_online (master_column_branches names) (master_columns_online names) (length names.links)) (λ basis.
+    online_then _ _ (master_wide_online (master_column_branches names) (master_columns_online names) (length names.links)) (λ kind.
     online_give _))
 
 pub evidence_online : (names : KnownNames) (demands : List Demand) → IsOnline (evidence_at names demands)
-evidence_online names demands = online_branch true (Err Token) (evidence_branches names demands) (route_online names demands, (master_online names, tt))
+evidence_online names demands = online_branch true (Err Token) ((_, _) ∷ (_, _) ∷ []) (route_online names demands, (master_online names, tt))
 
 pub fractional_online : (names : KnownNames) (demands : List Demand) → IsOnline (fractional_at names demands)
 unfolding fractional_at
@@ -181,10 +181,10 @@ too_wide_online names demands =
     online_give _)
 
 pub loose_online : (names : KnownNames) (demands : List Demand) → IsOnline (loose_at names demands)
-loose_online names demands = online_branch true (Err Token) (loose_branches names demands) (online_give _, (too_wide_online names demands, tt))
+loose_online names demands = online_branch true (Err Token) ((_, _) ∷ (_, _) ∷ []) (online_give _, (too_wide_online names demands, tt))
 
 pub quality_online : (names : KnownNames) (demands : List Demand) → IsOnline (quality_at names demands)
-quality_online names demands = online_branch true (Err Token) (quality_branches names demands) (tight_online names demands, (loose_online names demands, tt))
+quality_online names demands = online_branch true (Err Token) ((_, _) ∷ (_, _) ∷ []) (tight_online names demands, (loose_online names demands, tt))
 
 -- ---- demands, modules and certificates
 
@@ -262,7 +262,7 @@ local_spot_online names =
     online_give _))
 
 pub spot_online : (names : KnownNames) (pool : List CutLine) → IsOnline (spot_at names pool)
-spot_online names pool = online_branch true (Err Token) (spot_branches names pool) (pool_spot_online pool, (local_spot_online names, tt))
+spot_online names pool = online_branch true (Err Token) ((_, _) ∷ (_, _) ∷ []) (pool_spot_online pool, (local_spot_online names, tt))
 
 pub right_side_online : IsOnline right_side_at
 unfolding right_side_at

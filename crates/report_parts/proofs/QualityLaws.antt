@@ -9,8 +9,8 @@ use Rattle.text_kit.proofs.Beginnings.{AnyText}
 use Rattle.text_kit.proofs.Spelled.{Lawful}
 use Rattle.plan_report.specs.Terms.{AreCapsInForm, AreRoutingsInForm, IsCauseInForm, IsEvidenceInForm, IsKindInForm, IsMasterColumnInForm, IsQualityInForm, IsRouteColumnInForm, IsShareInForm, cause_items, evidence_items, master_column_items, numbers_items, quality_items, route_column_items, routings_items, wide_items, KnownNames, Wide, Cuts, Fractional, Quality, Tight, Loose}
 use Rattle.report_words.specs.declared.fault.ReportKind.TheVariants.{Token}
-use Rattle.report_words.specs.Terms.{has_room}
-use Rattle.report_parts.specs.ReadingQuality.{evidence_branches, loose_branches, master_column_branches, master_wide_branches, quality_branches, route_column_branches, route_wide_branches, basis_at, caps_at, carry_at, evidence_at, fractional_at, left_at, loose_at, master_at, master_column_at, master_wide_at, metric_at, price_at, quality_at, route_at, route_column_at, route_wide_at, slack_at, tight_at, too_wide_at, wide_entry_at, wide_length_at, wide_number_at, wide_row_at, wide_sum_at}
+use Rattle.report_words.specs.Terms.{branch_at, branch_within, has_room}
+use Rattle.report_parts.specs.ReadingQuality.{master_column_branches, master_wide_branches, route_column_branches, route_wide_branches, basis_at, caps_at, carry_at, evidence_at, fractional_at, left_at, loose_at, master_at, metric_at, price_at, quality_at, route_at, slack_at, tight_at, too_wide_at, wide_entry_at, wide_length_at, wide_number_at, wide_row_at, wide_sum_at}
 use Rattle.report_words.proofs.Lemmas.{branches_law, either_form, lawful_branch, lawful_no_branch, exact_law, law_made, made_give, made_last, made_law, made_then, numbers_law, AreApart, demand_law, link_law, number_law}
 use Rattle.report_parts.proofs.RoutingLaws.{AreLinksApart, path_law, routings_law}
 use Rattle.report_parts.proofs.ColumnVariants.{evidence_cases, master_cases, quality_cases, route_cases, wide_cases}
@@ -21,7 +21,7 @@ module _ (names : KnownNames) (apart : AreLinksApart names.links) where
   abbrev IsMaster : Bool → MasterColumn → Type 0
   IsMaster room c = (room ≡ true) × IsMasterColumnInForm names.links names.listed c
 
-  master_column_law : (room : Bool) → Lawful (master_column_at names room) (master_column_items names.links) (IsMaster room) AnyText
+  master_column_law : (room : Bool) → Lawful (branch_within room (master_column_branches names)) (master_column_items names.links) (IsMaster room) AnyText
   unfolding price_at metric_at
   master_column_law room = branches_law room (Err Token) (master_column_branches names) (master_column_items names.links) _ (IsMaster room)
       (either_form room _ _ _ (IsMaster room) (λ e m h. (m, h))
@@ -43,9 +43,9 @@ module _ (names : KnownNames) (apart : AreLinksApart names.links) where
   abbrev master_wide : WideKind MasterColumn → List Item
   master_wide k = wide_items names.links (master_column_items names.links) k
 
-  master_wide_law : Lawful (master_wide_at (master_column_at names) (length names.links)) master_wide IsMasterWide AnyText
+  master_wide_law : Lawful (branch_at (master_wide_branches (master_column_branches names) (length names.links))) master_wide IsMasterWide AnyText
   unfolding wide_number_at wide_row_at wide_entry_at wide_sum_at
-  master_wide_law = branches_law true (Err Token) (master_wide_branches (master_column_at names) (length names.links)) master_wide _ IsMasterWide
+  master_wide_law = branches_law true (Err Token) (master_wide_branches (master_column_branches names) (length names.links)) master_wide _ IsMasterWide
       (either_form true _ _ _ IsMasterWide (λ c m h. h.1)
       (either_form true _ _ _ IsMasterWide (λ i m h. omega (arith, h.1))
       (either_form true _ _ _ IsMasterWide (λ q m h. (omega (arith, h.0.1), h.1.1))
@@ -69,9 +69,9 @@ module _ (names : KnownNames) (apart : AreLinksApart names.links) where
       (lawful_branch true (Err Token) (codes "value") _ _ _ _ _ master_wide _ refl (λ p h. refl) (made_give wide.Value)
       (lawful_no_branch true Token master_wide)))))))
 
-  master_basis_law : Lawful (basis_at (master_column_at names) (length names.links)) (λ cs. enclosed (flat_map (master_column_items names.links) cs)) (λ cs. (length cs ≡ length names.links) × All (IsMasterColumnInForm names.links names.listed) cs) AnyText
+  master_basis_law : Lawful (basis_at (master_column_branches names) (length names.links)) (λ cs. enclosed (flat_map (master_column_items names.links) cs)) (λ cs. (length cs ≡ length names.links) × All (IsMasterColumnInForm names.links names.listed) cs) AnyText
   unfolding basis_at
-  master_basis_law = exact_law (length names.links) (λ sofar. master_column_at names (has_room (length names.links) sofar)) (master_column_items names.links) (IsMasterColumnInForm names.links names.listed) (master_cases _ (λ e. tt) (λ s l. tt)) (λ sofar. master_column_law (has_room (length names.links) sofar))
+  master_basis_law = exact_law (length names.links) (λ sofar. branch_within (has_room (length names.links) sofar) (master_column_branches names)) (master_column_items names.links) (IsMasterColumnInForm names.links names.listed) (master_cases _ (λ e. tt) (λ s l. tt)) (λ sofar. master_column_law (has_room (length names.links) sofar))
 
   -- ---- columns of a program that routes
 
@@ -82,7 +82,7 @@ module _ (names : KnownNames) (apart : AreLinksApart names.links) where
     abbrev route_items : RouteColumn → List Item
     route_items c = route_column_items names.links demands c
 
-    route_column_law : (room : Bool) → Lawful (route_column_at names.links demands room) route_items (IsRoute room) AnyText
+    route_column_law : (room : Bool) → Lawful (branch_within room (route_column_branches names.links demands)) route_items (IsRoute room) AnyText
     unfolding slack_at left_at carry_at
     route_column_law room = branches_law room (Err Token) (route_column_branches names.links demands) route_items _ (IsRoute room)
         (either_form room _ _ _ (IsRoute room) (λ e m h. (m, h))
@@ -109,9 +109,9 @@ module _ (names : KnownNames) (apart : AreLinksApart names.links) where
     abbrev route_wide : WideKind RouteColumn → List Item
     route_wide k = wide_items names.links route_items k
 
-    route_wide_law : Lawful (route_wide_at (route_column_at names.links demands) names.links rows) route_wide IsRouteWide AnyText
+    route_wide_law : Lawful (branch_at (route_wide_branches (route_column_branches names.links demands) names.links rows)) route_wide IsRouteWide AnyText
     unfolding wide_number_at wide_row_at wide_entry_at wide_sum_at wide_length_at
-    route_wide_law = branches_law true (Err Token) (route_wide_branches (route_column_at names.links demands) names.links rows) route_wide _ IsRouteWide
+    route_wide_law = branches_law true (Err Token) (route_wide_branches (route_column_branches names.links demands) names.links rows) route_wide _ IsRouteWide
         (either_form true _ _ _ IsRouteWide (λ c m h. h.1)
         (either_form true _ _ _ IsRouteWide (λ i m h. omega (arith, h.1))
         (either_form true _ _ _ IsRouteWide (λ q m h. (omega (arith, h.0.1), h.1.1))
@@ -135,9 +135,9 @@ module _ (names : KnownNames) (apart : AreLinksApart names.links) where
         (lawful_branch true (Err Token) (codes "length") _ _ _ _ _ route_wide _ refl (λ p h. refl) (made_last _ (λ (e : LinkId). wide.Length e) _ _ (link_law names.links apart))
         (lawful_no_branch true Token route_wide)))))))
 
-    route_basis_law : Lawful (basis_at (route_column_at names.links demands) rows) (λ cs. enclosed (flat_map route_items cs)) (λ cs. (length cs ≡ rows) × All (IsRouteColumnInForm names.links demands) cs) AnyText
+    route_basis_law : Lawful (basis_at (route_column_branches names.links demands) rows) (λ cs. enclosed (flat_map route_items cs)) (λ cs. (length cs ≡ rows) × All (IsRouteColumnInForm names.links demands) cs) AnyText
     unfolding basis_at
-    route_basis_law = exact_law rows (λ sofar. route_column_at names.links demands (has_room rows sofar)) route_items (IsRouteColumnInForm names.links demands) (route_cases _ (λ e. tt) (λ k. tt) (λ k p. tt)) (λ sofar. route_column_law (has_room rows sofar))
+    route_basis_law = exact_law rows (λ sofar. branch_within (has_room rows sofar) (route_column_branches names.links demands)) route_items (IsRouteColumnInForm names.links demands) (route_cases _ (λ e. tt) (λ k. tt) (λ k p. tt)) (λ sofar. route_column_law (has_room rows sofar))
 
     -- ---- evidence
 
@@ -158,7 +158,7 @@ module _ (names : KnownNames) (apart : AreLinksApart names.links) where
 
     evidence_law : Lawful (evidence_at names demands) items_of IsEvidence AnyText
     unfolding route_at master_at
-    evidence_law = branches_law true (Err Token) (evidence_branches names demands) items_of _ IsEvidence
+    evidence_law = branches_law true (Err Token) _ items_of _ IsEvidence
         (either_form true _ _ _ IsEvidence (λ q m h. record { state_listed = omega (arith, h.0.1); capacities = h.1.0; long = h.1.1.0.0; columns = h.1.1.0.1; wide = h.1.1.1 })
         (either_form true _ _ _ IsEvidence (λ q m h. record { long = h.0.0; columns = h.0.1; wide = h.1 })
         (λ c n. absurd n)))
@@ -198,7 +198,7 @@ module _ (names : KnownNames) (apart : AreLinksApart names.links) where
 
     loose_law : Lawful (loose_at names demands) loose_items IsLoose AnyText
     unfolding too_wide_at
-    loose_law = branches_law true (Err Token) (loose_branches names demands) loose_items _ IsLoose
+    loose_law = branches_law true (Err Token) _ loose_items _ IsLoose
         (either_form true _ _ _ IsLoose (λ u m h. tt)
         (either_form true _ _ _ IsLoose (λ e m h. h)
         (λ c n. absurd n)))
@@ -224,7 +224,7 @@ module _ (names : KnownNames) (apart : AreLinksApart names.links) where
 
     pub quality_law : Lawful (quality_at names demands) items_for IsQuality AnyText
     unfolding tight_at
-    quality_law = branches_law true (Err Token) (quality_branches names demands) items_for _ IsQuality
+    quality_law = branches_law true (Err Token) _ items_for _ IsQuality
         (either_form true _ _ _ IsQuality (λ f m h. h)
         (either_form true _ _ _ IsQuality (λ q m h. loose_form q h)
         (λ c n. absurd n)))

@@ -6,7 +6,7 @@ use Rattle.plan_report.specs.Terms.{line_lengths, line_state, KnownNames, CertLi
 use Rattle.report_words.specs.declared.fault.ReportKind.{ReportKind}
 use Rattle.report_words.specs.declared.fault.ReportKind.TheVariants.{Token, Ended, Limit}
 use Rattle.report_parts.specs.declared.spot_cut.SpotCut.{SpotCut}
-use Rattle.report_words.specs.Terms.{amount_at, closing_at, has_room, keyword_at, new_demand, node_at, number_at, opening_at, opening_within, this_name_at, unknown_name, where_room, whole_within, field_at, Branches, branch_at, numbers_at}
+use Rattle.report_words.specs.Terms.{amount_at, closing_at, has_room, keyword_at, new_demand, node_at, number_at, opening_at, opening_within, this_name_at, unknown_name, where_room, whole_within, field_at, branch_at, numbers_at}
 
 -- ---- demands
 
@@ -84,11 +84,8 @@ local_spot_at names = do
   lengths ← numbers_at (length names.links) (2 ^ 32)
   give (record { spot = Local; state = record { 0 = state }; lengths = lengths })
 
-abbrev pub spot_branches : KnownNames → List CutLine → Branches SpotCut
-spot_branches names pool = (codes "pool", pool_spot_at pool) ∷ (codes "local", local_spot_at names) ∷ []
-
 abbrev pub spot_at : KnownNames → List CutLine → Reading ReportKind SpotCut
-spot_at names pool = branch_at (spot_branches names pool)
+spot_at names pool = branch_at ((codes "pool", pool_spot_at pool) ∷ (codes "local", local_spot_at names) ∷ [])
 
 -- the right side of a line, and the closing parenthesis
 unfoldable pub right_side_at : Reading ReportKind ℕ

@@ -1,5 +1,5 @@
 -- Reading how good the bound of a plan is.
-use Rattle.std.specs.Prelude.{ℕ, ◌+◌, ◌^◌, Bool, true, List, [], ◌∷◌, length, codes}
+use Rattle.std.specs.Prelude.{ℕ, ◌+◌, ◌^◌, List, [], ◌∷◌, length, codes}
 use Rattle.plan_terms.specs.Terms.{Evidence, Route, Master, MasterColumn, RouteColumn, WideKind, Demand, Link, Caps}
 use Rattle.net_core.specs.declared.columns.MasterColumn.TheVariants as master
 use Rattle.net_core.specs.declared.columns.RouteColumn.TheVariants as route
@@ -28,9 +28,6 @@ carry_at links demands = do
 abbrev pub route_column_branches : List Link → List Demand → Branches RouteColumn
 route_column_branches links demands = (codes "link", slack_at links) ∷ (codes "demand", left_at demands) ∷ (codes "flow", carry_at links demands) ∷ []
 
-abbrev pub route_column_at : List Link → List Demand → Bool → Reading ReportKind RouteColumn
-route_column_at links demands room = branch_within room (route_column_branches links demands)
-
 unfoldable pub price_at : List Link → Reading ReportKind MasterColumn
 price_at links = mapped master.LinkSlack (link_at links)
 
@@ -43,25 +40,22 @@ metric_at names = do
 abbrev pub master_column_branches : KnownNames → Branches MasterColumn
 master_column_branches names = (codes "link", price_at names.links) ∷ (codes "cut", metric_at names) ∷ []
 
-abbrev pub master_column_at : KnownNames → Bool → Reading ReportKind MasterColumn
-master_column_at names room = branch_within room (master_column_branches names)
-
 -- a basis: as many columns as rows
-unfoldable pub basis_at : {C : Type 0} → (Bool → Reading ReportKind C) → ℕ → Reading ReportKind (List C)
-basis_at column rows = opening_at >>= λ _. list_at Parenthesis (of_length rows Limit) (λ sofar. column (has_room rows sofar)) []
+unfoldable pub basis_at : {C : Type 0} → Branches C → ℕ → Reading ReportKind (List C)
+basis_at columns rows = opening_at >>= λ _. list_at Parenthesis (of_length rows Limit) (λ sofar. branch_within (has_room rows sofar) columns) []
 
 -- ---- what is too wide
 
-unfoldable pub wide_number_at : {C : Type 0} → (Bool → Reading ReportKind C) → Reading ReportKind (WideKind C)
-wide_number_at column = mapped wide.Number (column true)
+unfoldable pub wide_number_at : {C : Type 0} → Branches C → Reading ReportKind (WideKind C)
+wide_number_at columns = mapped wide.Number (branch_at columns)
 
 unfoldable pub wide_row_at : {C : Type 0} → ℕ → Reading ReportKind (WideKind C)
 wide_row_at rows = mapped wide.Row (number_at 0 (rows + 1))
 
-unfoldable pub wide_entry_at : {C : Type 0} → (Bool → Reading ReportKind C) → ℕ → Reading ReportKind (WideKind C)
-wide_entry_at column rows = do
+unfoldable pub wide_entry_at : {C : Type 0} → Branches C → ℕ → Reading ReportKind (WideKind C)
+wide_entry_at columns rows = do
   i ← number_at 0 (rows + 1)
-  c ← column true
+  c ← branch_at columns
   give (wide.Product i c)
 
 unfoldable pub wide_sum_at : {C : Type 0} → ℕ → Reading ReportKind (WideKind C)
@@ -70,21 +64,15 @@ wide_sum_at rows = mapped wide.Sum (number_at 0 (rows + 1))
 unfoldable pub wide_length_at : List Link → Reading ReportKind (WideKind RouteColumn)
 wide_length_at links = mapped wide.Length (link_at links)
 
-abbrev pub route_wide_branches : (Bool → Reading ReportKind RouteColumn) → List Link → ℕ → Branches (WideKind RouteColumn)
-route_wide_branches column links rows = (codes "number", wide_number_at column) ∷ (codes "row", wide_row_at rows) ∷ (codes "entry", wide_entry_at column rows)
-    ∷ (codes "sum", wide_sum_at rows)
+abbrev pub route_wide_branches : Branches RouteColumn → List Link → ℕ → Branches (WideKind RouteColumn)
+route_wide_branches columns links rows = (codes "number", wide_number_at columns) ∷ (codes "row", wide_row_at rows)
+    ∷ (codes "entry", wide_entry_at columns rows) ∷ (codes "sum", wide_sum_at rows)
     ∷ (codes "common", give wide.Common) ∷ (codes "length", wide_length_at links) ∷ []
 
-abbrev pub route_wide_at : (Bool → Reading ReportKind RouteColumn) → List Link → ℕ → Reading ReportKind (WideKind RouteColumn)
-route_wide_at column links rows = branch_at (route_wide_branches column links rows)
-
-abbrev pub master_wide_branches : (Bool → Reading ReportKind MasterColumn) → ℕ → Branches (WideKind MasterColumn)
-master_wide_branches column rows = (codes "number", wide_number_at column) ∷ (codes "row", wide_row_at rows) ∷ (codes "entry", wide_entry_at column rows)
-    ∷ (codes "sum", wide_sum_at rows)
+abbrev pub master_wide_branches : Branches MasterColumn → ℕ → Branches (WideKind MasterColumn)
+master_wide_branches columns rows = (codes "number", wide_number_at columns) ∷ (codes "row", wide_row_at rows)
+    ∷ (codes "entry", wide_entry_at columns rows) ∷ (codes "sum", wide_sum_at rows)
     ∷ (codes "common", give wide.Common) ∷ (codes "value", give wide.Value) ∷ []
-
-abbrev pub master_wide_at : (Bool → Reading ReportKind MasterColumn) → ℕ → Reading ReportKind (WideKind MasterColumn)
-master_wide_at column rows = branch_at (master_wide_branches column rows)
 
 -- ---- evidence
 
@@ -99,21 +87,18 @@ unfoldable pub route_at : KnownNames → List Demand → Reading ReportKind Evid
 route_at names demands = do
   state ← number_at 0 (length names.listed + 1)
   caps ← caps_at names.links
-  basis ← basis_at (route_column_at names.links demands) (length names.links + length demands)
-  kind ← route_wide_at (route_column_at names.links demands) names.links (length names.links + length demands)
+  basis ← basis_at (route_column_branches names.links demands) (length names.links + length demands)
+  kind ← branch_at (route_wide_branches (route_column_branches names.links demands) names.links (length names.links + length demands))
   give (Route (record { 0 = state }) caps basis kind)
 
 unfoldable pub master_at : KnownNames → Reading ReportKind Evidence
 master_at names = do
-  basis ← basis_at (master_column_at names) (length names.links)
-  kind ← master_wide_at (master_column_at names) (length names.links)
+  basis ← basis_at (master_column_branches names) (length names.links)
+  kind ← branch_at (master_wide_branches (master_column_branches names) (length names.links))
   give (Master basis kind)
 
-abbrev pub evidence_branches : KnownNames → List Demand → Branches Evidence
-evidence_branches names demands = (codes "route", route_at names demands) ∷ (codes "master", master_at names) ∷ []
-
 abbrev pub evidence_at : KnownNames → List Demand → Reading ReportKind Evidence
-evidence_at names demands = branch_at (evidence_branches names demands)
+evidence_at names demands = branch_at ((codes "route", route_at names demands) ∷ (codes "master", master_at names) ∷ [])
 
 -- ---- quality
 
@@ -131,14 +116,8 @@ tight_at names demands = mapped Tight (fractional_at names demands)
 unfoldable pub too_wide_at : KnownNames → List Demand → Reading ReportKind Quality
 too_wide_at names demands = mapped (λ evidence. Loose (Wide evidence)) (evidence_at names demands)
 
-abbrev pub loose_branches : KnownNames → List Demand → Branches Quality
-loose_branches names demands = (codes "cuts", give (Loose Cuts)) ∷ (codes "wide", too_wide_at names demands) ∷ []
-
 abbrev pub loose_at : KnownNames → List Demand → Reading ReportKind Quality
-loose_at names demands = branch_at (loose_branches names demands)
-
-abbrev pub quality_branches : KnownNames → List Demand → Branches Quality
-quality_branches names demands = (codes "tight", tight_at names demands) ∷ (codes "loose", loose_at names demands) ∷ []
+loose_at names demands = branch_at ((codes "cuts", give (Loose Cuts)) ∷ (codes "wide", too_wide_at names demands) ∷ [])
 
 abbrev pub quality_at : KnownNames → List Demand → Reading ReportKind Quality
-quality_at names demands = branch_at (quality_branches names demands)
+quality_at names demands = branch_at ((codes "tight", tight_at names demands) ∷ (codes "loose", loose_at names demands) ∷ [])

@@ -1,7 +1,8 @@
 ghost use Rattle.std.specs.Prelude.{◌≡◌};
 ghost use Rattle.snd_tokens.specs.Terms.{left};
 ghost use Rattle.text_kit.specs.Terms.{ReadsAs};
-ghost use Rattle.report_parts.specs.ReadingQuality.{basis_at, carry_at, left_at, master_column_at, metric_at, price_at, route_column_at, slack_at};
+ghost use Rattle.report_words.specs.Terms.{branch_within};
+ghost use Rattle.report_parts.specs.ReadingQuality.{basis_at, carry_at, left_at, master_column_branches, metric_at, price_at, route_column_branches, slack_at};
 ghost use Rattle.report_parts.specs.Readers.{reader_demands, reader_links, reader_names};
 
 use crate::plan_reader::PlanReader;
@@ -32,14 +33,14 @@ struct RouteBasis<'a> {
 
 impl<'a> Element for RouteBasis<'a> {
     ghost use Rattle.text_kit.specs.Terms.{of_length};
-    ghost use Rattle.report_words.specs.Terms.{has_room};
-    ghost use Rattle.report_parts.specs.ReadingQuality.{route_column_at};
+    ghost use Rattle.report_words.specs.Terms.{branch_within, has_room};
+    ghost use Rattle.report_parts.specs.ReadingQuality.{route_column_branches};
     ghost use Rattle.report_parts.specs.Readers.{reader_demands, reader_links};
     ghost use Rattle.report_words.specs.declared.fault.ReportKind.TheVariants.{Limit};
 
     type Item = RouteColumn;
 
-    ghost reading = { λ b sofar. route_column_at (reader_links b.reader) (reader_demands b.reader) (has_room b.rows sofar) };
+    ghost reading = { λ b sofar. branch_within (has_room b.rows sofar) (route_column_branches (reader_links b.reader) (reader_demands b.reader)) };
 
     ghost fault = { λ b. of_length b.rows Limit };
 
@@ -66,14 +67,14 @@ struct MasterBasis<'a> {
 
 impl<'a> Element for MasterBasis<'a> {
     ghost use Rattle.text_kit.specs.Terms.{of_length};
-    ghost use Rattle.report_words.specs.Terms.{has_room};
-    ghost use Rattle.report_parts.specs.ReadingQuality.{master_column_at};
+    ghost use Rattle.report_words.specs.Terms.{branch_within, has_room};
+    ghost use Rattle.report_parts.specs.ReadingQuality.{master_column_branches};
     ghost use Rattle.report_parts.specs.Readers.{reader_names};
     ghost use Rattle.report_words.specs.declared.fault.ReportKind.TheVariants.{Limit};
 
     type Item = MasterColumn;
 
-    ghost reading = { λ b sofar. master_column_at (reader_names b.reader) (has_room b.rows sofar) };
+    ghost reading = { λ b sofar. branch_within (has_room b.rows sofar) (master_column_branches (reader_names b.reader)) };
 
     ghost fault = { λ b. of_length b.rows Limit };
 
@@ -128,7 +129,8 @@ impl<'a> PlanReader<'a> {
         room: bool,
         text: &mut Cursor,
     ) -> Result<RouteColumn, ReportRefusal>
-        ensures { ReadsAs (λ c. c) result (left text.new) (route_column_at (reader_links self.now) (reader_demands self.now) room (left text.old)) }
+        ensures { ReadsAs (λ c. c) result (left text.new)
+            (branch_within room (route_column_branches (reader_links self.now) (reader_demands self.now)) (left text.old)) }
     {
         let (at, word) = word(ReportKind::Token, ReportKind::Ended, text)?;
         if word != LINK && word != DEMAND && word != FLOW {
@@ -154,7 +156,8 @@ impl<'a> PlanReader<'a> {
         rows: usize,
         text: &mut Cursor,
     ) -> Result<List<RouteColumn>, ReportRefusal>
-        ensures { ReadsAs (λ l. l) result (left text.new) (basis_at (route_column_at (reader_links self.now) (reader_demands self.now)) rows (left text.old)) }
+        ensures { ReadsAs (λ l. l) result (left text.new)
+            (basis_at (route_column_branches (reader_links self.now) (reader_demands self.now)) rows (left text.old)) }
     {
         opening(text)?;
         let reader = *self;
@@ -188,7 +191,7 @@ impl<'a> PlanReader<'a> {
         room: bool,
         text: &mut Cursor,
     ) -> Result<MasterColumn, ReportRefusal>
-        ensures { ReadsAs (λ c. c) result (left text.new) (master_column_at (reader_names self.now) room (left text.old)) }
+        ensures { ReadsAs (λ c. c) result (left text.new) (branch_within room (master_column_branches (reader_names self.now)) (left text.old)) }
     {
         let (at, word) = word(ReportKind::Token, ReportKind::Ended, text)?;
         if word != LINK && word != CUT {
@@ -211,7 +214,7 @@ impl<'a> PlanReader<'a> {
         rows: usize,
         text: &mut Cursor,
     ) -> Result<List<MasterColumn>, ReportRefusal>
-        ensures { ReadsAs (λ l. l) result (left text.new) (basis_at (master_column_at (reader_names self.now)) rows (left text.old)) }
+        ensures { ReadsAs (λ l. l) result (left text.new) (basis_at (master_column_branches (reader_names self.now)) rows (left text.old)) }
     {
         opening(text)?;
         let reader = *self;

@@ -1,8 +1,8 @@
 ghost use Rattle.std.specs.Prelude.{◌≡◌, ◌+◌, ◌<◌, ◌^◌, length};
 ghost use Rattle.snd_tokens.specs.Terms.{left};
 ghost use Rattle.text_kit.specs.Terms.{ReadsAs};
-ghost use Rattle.report_words.specs.Terms.{number_at};
-ghost use Rattle.report_parts.specs.ReadingQuality.{caps_at, evidence_at, master_at, master_column_at, master_wide_at, route_at, route_column_at, route_wide_at, wide_entry_at, wide_length_at, wide_number_at, wide_row_at, wide_sum_at};
+ghost use Rattle.report_words.specs.Terms.{branch_at, number_at};
+ghost use Rattle.report_parts.specs.ReadingQuality.{caps_at, evidence_at, master_at, master_column_branches, master_wide_branches, route_at, route_column_branches, route_wide_branches, wide_entry_at, wide_length_at, wide_number_at, wide_row_at, wide_sum_at};
 ghost use Rattle.report_parts.specs.Readers.{reader_demands, reader_links, reader_names};
 
 use crate::plan_reader::PlanReader;
@@ -70,7 +70,8 @@ impl<'a> PlanReader<'a> {
     /// Takes a column of the routing program.
     #[tactic(auto, unfolding(crate::specs::ReadingQuality::wide_number_at))]
     fn route_number(&self, text: &mut Cursor) -> Result<WideKind<RouteColumn>, ReportRefusal>
-        ensures { ReadsAs (λ k. k) result (left text.new) (wide_number_at (route_column_at (reader_links self.now) (reader_demands self.now)) (left text.old)) }
+        ensures { ReadsAs (λ k. k) result (left text.new)
+            (wide_number_at (route_column_branches (reader_links self.now) (reader_demands self.now)) (left text.old)) }
     {
         let column = self.route_column(true, text)?;
         Ok(WideKind::Number(column))
@@ -85,7 +86,7 @@ impl<'a> PlanReader<'a> {
     ) -> Result<WideKind<RouteColumn>, ReportRefusal>
         requires { rows + 1 < 2 ^ 32 }
         ensures { ReadsAs (λ k. k) result (left text.new)
-            (wide_entry_at (route_column_at (reader_links self.now) (reader_demands self.now)) rows (left text.old)) }
+            (wide_entry_at (route_column_branches (reader_links self.now) (reader_demands self.now)) rows (left text.old)) }
     {
         let row = row(rows, text)?;
         let column = self.route_column(true, text)?;
@@ -109,7 +110,8 @@ impl<'a> PlanReader<'a> {
     ) -> Result<WideKind<RouteColumn>, ReportRefusal>
         requires { rows + 1 < 2 ^ 32 }
         ensures { ReadsAs (λ k. k) result (left text.new)
-            (route_wide_at (route_column_at (reader_links self.now) (reader_demands self.now)) (reader_links self.now) rows (left text.old)) }
+            (branch_at (route_wide_branches (route_column_branches (reader_links self.now) (reader_demands self.now)) (reader_links self.now) rows)
+            (left text.old)) }
     {
         let (at, word) = word(ReportKind::Token, ReportKind::Ended, text)?;
         if word == NUMBER {
@@ -136,7 +138,7 @@ impl<'a> PlanReader<'a> {
     /// Takes a column of the program of a certificate.
     #[tactic(auto, unfolding(crate::specs::ReadingQuality::wide_number_at))]
     fn master_number(&self, text: &mut Cursor) -> Result<WideKind<MasterColumn>, ReportRefusal>
-        ensures { ReadsAs (λ k. k) result (left text.new) (wide_number_at (master_column_at (reader_names self.now)) (left text.old)) }
+        ensures { ReadsAs (λ k. k) result (left text.new) (wide_number_at (master_column_branches (reader_names self.now)) (left text.old)) }
     {
         let column = self.master_column(true, text)?;
         Ok(WideKind::Number(column))
@@ -150,7 +152,7 @@ impl<'a> PlanReader<'a> {
         text: &mut Cursor,
     ) -> Result<WideKind<MasterColumn>, ReportRefusal>
         requires { rows + 1 < 2 ^ 32 }
-        ensures { ReadsAs (λ k. k) result (left text.new) (wide_entry_at (master_column_at (reader_names self.now)) rows (left text.old)) }
+        ensures { ReadsAs (λ k. k) result (left text.new) (wide_entry_at (master_column_branches (reader_names self.now)) rows (left text.old)) }
     {
         let row = row(rows, text)?;
         let column = self.master_column(true, text)?;
@@ -164,7 +166,8 @@ impl<'a> PlanReader<'a> {
         text: &mut Cursor,
     ) -> Result<WideKind<MasterColumn>, ReportRefusal>
         requires { rows + 1 < 2 ^ 32 }
-        ensures { ReadsAs (λ k. k) result (left text.new) (master_wide_at (master_column_at (reader_names self.now)) rows (left text.old)) }
+        ensures { ReadsAs (λ k. k) result (left text.new)
+            (branch_at (master_wide_branches (master_column_branches (reader_names self.now)) rows) (left text.old)) }
     {
         let (at, word) = word(ReportKind::Token, ReportKind::Ended, text)?;
         if word == NUMBER {
