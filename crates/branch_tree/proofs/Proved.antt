@@ -1,5 +1,5 @@
 -- a tree that is grown to its end gives a proof
-use Rattle.std.proofs.Common.{◌≡◌, ◌∙◌, ℕ, zero, suc, ◌+◌, ◌≤◌, ◌<◌, ◌⊎◌, inl, inr, ⊎_elim, ◌↔◌, Bool, true, false, cond, if◌then◌else◌, List, [], ◌∷◌, ◌++◌, Some, All, length, map, slice_get, take, refl, ap, sym, subst, arith}
+use Rattle.std.proofs.Common.{◌≡◌, ◌∙◌, ℕ, zero, suc, ◌+◌, ◌*◌, ◌≤◌, ◌<◌, ◌⊎◌, inl, inr, ⊎_elim, ◌↔◌, Bool, true, false, cond, if◌then◌else◌, List, [], ◌∷◌, ◌++◌, Some, All, length, map, slice_get, take, refl, ap, sym, subst, arith}
 use Rattle.net_core.proofs.Library.{cases_Bool, length-map, slice_get_within, sum_by-cons}
 use Rattle.plan_terms.specs.Terms.{Case, CutLine, IsCut}
 use Rattle.plan_types.specs.Terms.{IsCertifiedPlan}
@@ -10,6 +10,7 @@ use Rattle.tree_check.specs.Terms.{whole_box, HasBoxValue, HasOpenValue, HoldAll
 use Rattle.tree_check.specs.declared.proof.Verdict.TheVariants.{Cheapest, Above}
 use Rattle.line_check.specs.Terms.{NamesLine, sources_of, AreTested, names_by}
 use Rattle.box_search.specs.Terms.{cuts_among, lines_among, moved_certificate, moved_line, moved_node, place_of, source_of, Entry}
+use Rattle.box_search.specs.Terms.entry
 use Rattle.box_search.proofs.Lemmas.{names_are_kept}
 use Rattle.branch_tree.specs.FewSplits.{IsCheapNode, split_number}
 use Rattle.branch_tree.specs.Proving.{HasNodeCause, IsCertificateOfLeaves, IsProofOf}
@@ -92,6 +93,12 @@ told_proof plan entries twigs = record {
   tree = map (told_node (place_of entries)) twigs;
   verdict = verdict_of (all_shown plan.cost twigs);
 }
+
+-- a proof has as many cuts and lines as there are entries
+told_length : (to : ℕ → ℕ) (es : List Entry) → length (cuts_among es) + length (map (moved_line to) (lines_among es)) ≡ length es
+told_length to [] = refl
+told_length to (entry.Cut c ∷ es) = let rest = told_length to es in omega (arith, rest)
+told_length to (entry.Line l ∷ es) = let rest = told_length to es in omega (arith, rest)
 
 -- the cause of a node is that of the moved one
 cause_moved : (to : ℕ → ℕ) (p : Case) (plan : Plan) (handed : List CutLine) (limit : ℕ) (tree : List Node) (box : TreeBox) (node : Node)
@@ -330,8 +337,8 @@ module _ (p : Case) (plan : Plan) (handed : List CutLine) (entries : List Entry)
           }
 
       pub is_proof : (given : Plan) (limit : ℕ) → All (IsCut p) (cuts_among entries) → IsCheaperPlan p given plan → take (length handed) (cuts_among entries) ≡ handed → IsCertifiedPlan p plan → n ≤ limit → limit ≤ 9999 → AreSettled twigs ⊎ (n ≡ limit)
-          → IsProofOf p given handed limit proof_of
-      is_proof given limit sound cheaper first certified within few ends =
+          → length entries ≤ 3 * length handed + 2 * limit + 6145 → IsProofOf p given handed limit proof_of
+      is_proof given limit sound cheaper first certified within few ends room =
           let long = growing.few in
           let splits = growing.splits in
           record {
@@ -339,6 +346,7 @@ module _ (p : Case) (plan : Plan) (handed : List CutLine) (entries : List Entry)
             cuts = first;
             sound = sound;
             few = omega (arith, length-map twigs node_told, long, within, few);
+            short = omega (arith, told_length (place_of entries) entries, room);
             accepted = record { hold = hold_all; whole = whole; follows = follows };
             within = omega (arith, splits_same (place_of entries) twigs, splits, within);
             fewer = λ charged. splits_are_few p.links plan.cost (map node_told twigs) charged (cheap_node limit ends);

@@ -54,6 +54,7 @@ module _ (p : Case) where
     cuts = is.cuts;
     sound = is.sound;
     few = is.few;
+    short = is.short;
     accepted = is.accepted;
     within = is.within;
     fewer = is.fewer;
@@ -206,13 +207,18 @@ first_again p old new was now learned =
     ap (λ n. take n (cuts_among new.known.entries)) (handed_length p old was ∙ sym learned.handed)
     ∙ (front_cuts p new now ∙ handed_same old new learned was.inside)
 
+-- as few entries as a proof of this limit of splits has
+abbrev pub IsShort : Search → Search → ℕ → Type 0
+IsShort old new limit = length new.known.entries ≤ 3 * length (handed_in old) + 2 * limit + 6145
+
 -- a tree that is grown is a proof of the given plan or a cheaper one
 grown_proof : (p : Case) (given plan : Plan) (old new : Search) (tree : Tree) (limit : ℕ) → IsCheaperPlan p given plan → IsCertifiedPlan p given → limit ≤ 9999
-    → IsSearch p old → IsSearch p new → HasLearned old new → IsGrownTree p plan (handed_in old) new.known.tested limit tree
+    → IsSearch p old → IsSearch p new → HasLearned old new → IsShort old new limit → IsGrownTree p plan (handed_in old) new.known.tested limit tree
     → IsProofOf p given (handed_in old) limit (told_proof plan new.known.entries tree.twigs.items)
-grown_proof p given plan old new tree limit cheaper certified few was now learned is =
+grown_proof p given plan old new tree limit cheaper certified few was now learned short is =
     is_proof p plan (handed_in old) new.known.entries new.known.tested is.n now.known.tested tree.twigs.items is.growing given limit
-    (cuts_sound p new.known.entries now.known.sound) cheaper (first_again p old new was now learned) (certified_still p given plan cheaper certified) is.within few is.ends
+    (cuts_sound p new.known.entries now.known.sound) cheaper (first_again p old new was now learned) (certified_still p given plan cheaper certified)
+    is.within few is.ends short
 
 told_map : (to : ℕ → ℕ) (ts : List Twig) → map (moved_node to) (map twig_node ts) ≡ map (told_node to) ts
 told_map to [] = refl
@@ -231,15 +237,22 @@ made_told plan entries twigs made is =
 -- is such a proof too, without further lines where none were made
 pub made_proof : (p : Case) (given plan : Plan) (old new : Search) (tree : Tree) (limit : ℕ) (handed : List CutLine) (divides : Bool) → handed_in old ≡ handed
     → new.known.divides ≡ divides → IsCheaperPlan p given plan → IsCertifiedPlan p given → limit ≤ 9999 → IsSearch p old → IsSearch p new → HasLearned old new
-    → IsGrownTree p plan (handed_in old) new.known.tested limit tree → (made : Proof) → IsProofMade plan new.known.entries tree.twigs.items made
+    → IsShort old new limit → IsGrownTree p plan (handed_in old) new.known.tested limit tree → (made : Proof) → IsProofMade plan new.known.entries tree.twigs.items made
     → IsProofWith p divides given handed limit made
-made_proof p given plan old new tree limit handed divides same divided cheaper certified few was now learned is made as_is = record {
+made_proof p given plan old new tree limit handed divides same divided cheaper certified few was now learned short is made as_is = record {
   proof_is = subst (λ (proof : Proof). IsProofOf p given handed limit proof) (sym (made_told plan new.known.entries tree.twigs.items made as_is))
       (subst (λ (cuts : List CutLine). IsProofOf p given cuts limit (told_proof plan new.known.entries tree.twigs.items)) same
-      (grown_proof p given plan old new tree limit cheaper certified few was now learned is));
+      (grown_proof p given plan old new tree limit cheaper certified few was now learned short is));
   plain = λ none. as_is.lines ∙ ap (map (moved_line (place_of new.known.entries))) (now.known.plain (divided ∙ none));
 }
 
 -- there is room for the entries of an attempt
 pub attempt_room : (p : Case) (s : Search) (limit : ℕ) → IsSearch p s → length s.known.entries ≤ s.room → limit ≤ 9999 → most_entries s + 2 * limit + 1 < 2 ^ 31
 attempt_room p s limit is few le = let small = is.small in first_of (omega (arith, small, few, le), grind (arith, small, few, le))
+
+-- an attempt leaves few entries where a search begins with little room
+pub attempt_short : (first old new : Search) (limit : ℕ) → first.room ≤ 3 * length (handed_in first) + 6144 → old.room ≡ first.room → handed_in old ≡ handed_in first
+    → length old.known.entries ≤ old.room → length new.known.entries ≤ most_entries old + 2 * limit + 1 → IsShort old new limit
+attempt_short first old new limit small room handed few more =
+    let same = ap (λ (cuts : List CutLine). length cuts) handed in
+    first_of (omega (arith, small, room, same, few, more), grind (arith, small, room, same, few, more))

@@ -7,7 +7,7 @@ use Rattle.plan_types.specs.declared.plan.Plan.{Plan}
 use Rattle.tree_check.specs.Terms.{IsSplitOf, lower_side, upper_side, whole_box, TreeBox, Tested}
 use Rattle.box_search.specs.Terms.{AreCheaperCounts, Split, is_split, IsOpenBox, IsTwigOf, IsLeafTwig, twig_node}
 use Rattle.branch_tree.specs.inner.Growing.{AreSidesOf, IsChoiceOf, IsGrowing, IsGrownTo, IsGrownTree, growth_of}
-use Rattle.branch_tree.specs.inner.Places.{AreTwigsOf, twig_sides, twig_splits}
+use Rattle.branch_tree.specs.inner.Places.{AreTwigsOf, IsOpenPlace, twig_sides, twig_splits}
 use Rattle.branch_tree.specs.declared.choice.Choice.{Choice}
 use Rattle.branch_tree.specs.declared.tree.Tree.{Tree}
 use Rattle.box_search.specs.declared.found.Cheaper.{Cheaper}
@@ -66,7 +66,7 @@ module _ (p : Case) (plan : Plan) (handed : List CutLine) (tested : List Tested)
 
   module _ (n i : ℕ) (twigs : List Twig) (o : OpenBox) (at : slice_get twigs i ≡ Some (twig.Open o)) (growing : IsGrowing p plan handed tested n twigs) where
     -- what is known of an open box
-    pub open_known : IsOpenBox p plan handed tested n o.boxed o
+    open_known : IsOpenBox p plan handed tested n o.boxed o
     open_known =
         let found = place_of twig_sides (IsTwigOf p plan handed tested n) (whole_box p.links ∷ []) twigs i (twig.Open o) growing.placed at in
         let here : IsOpenBox p plan handed tested n found.0.place o = found.0.here in
@@ -164,6 +164,15 @@ module _ (p : Case) (plan : Plan) (handed : List CutLine) (tested : List Tested)
             length-append (take i twigs) (twig.Open o ∷ rest),
           );
         }
+
+-- an open place is one of the tree's
+pub open_inside : {twigs : List Twig} {i : ℕ} → IsOpenPlace twigs i → i < length twigs
+open_inside {twigs} {i} place = slice_get_within twigs i (twig.Open place.opened) place.at
+
+-- what is known of the open box that is read at a place
+pub read_known : {twigs : List Twig} {t : Twig} {o : OpenBox} {p : Case} {plan : Plan} {handed : List CutLine} {tested : List Tested} {n : ℕ} (i : ℕ)
+    → i < length twigs → t ≡ get_or twigs i t → t ≡ twig.Open o → IsGrowing p plan handed tested n twigs → IsOpenBox p plan handed tested n o.boxed o
+read_known {twigs} {t} {o} i inside read is growing = open_known _ _ _ _ _ i twigs o (read_open twigs i t o inside read is) growing
 
 -- what becomes of a tree that needn't grow, or of cheaper counts
 pub grown_with : (p : Case) (plan : Plan) (handed : List CutLine) (tested : List Tested) (limit : ℕ) (tree : Tree) (o : Option Cheaper)

@@ -29,12 +29,14 @@ IsCertificateOfLeaves p proof = (i value : ℕ) (leaf : IsOpenAt p proof i value
 -- The result of a search for a branch tree: the given plan or a cheaper one, and a proof that is accepted and whose nodes have their causes. All its cuts
 -- are cuts of the case, the handed-in ones first. Its tree has at most as many splits as the limit says, and, where all modules cost something, fewer than
 -- a tree has room for. Each open leaf is worth less than the plan costs. A value is told exactly if some leaf is open; it is at least the plan's bound if
--- the plan's certificate is valid for all open leaves.
+-- the plan's certificate is valid for all open leaves. There are at most 6,145 more cuts and lines than three times the handed-in cuts, and two more for
+-- each split of the limit.
 pub record IsProofOf (p : Case) (given : Plan) (handed : List CutLine) (limit : ℕ) (proof : Proof) : Type 0 where
   pub plan : IsCheaperPlan p given proof.plan
   pub cuts : take (length handed) proof.cuts ≡ handed
   pub sound : All (IsCut p) proof.cuts
   pub few : length proof.tree + 1 < 2 ^ 32
+  pub short : length proof.cuts + length proof.lines ≤ 3 * length handed + 2 * limit + 6145
   pub accepted : IsAcceptedProof p proof
   pub within : split_number proof.tree ≤ limit
   pub fewer : AreCharged p.links → split_number proof.tree < split_room proof.plan.cost p.links

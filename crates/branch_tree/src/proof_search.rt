@@ -1,4 +1,4 @@
-ghost use Rattle.std.specs.Prelude.{◌≡◌, [], ◌+◌, ◌^◌, ◌≤◌, ◌<◌, All, IfOk, OnOk, false, length, map, take};
+ghost use Rattle.std.specs.Prelude.{◌≡◌, [], ◌+◌, ◌*◌, ◌^◌, ◌≤◌, ◌<◌, All, IfOk, OnOk, false, length, map, take};
 ghost use Rattle.plan_terms.specs.Terms.{AreDemands, IsSurvivable, case, case_of};
 ghost use Rattle.plan_types.specs.Terms.{IsCertifiedPlan};
 ghost use Rattle.box_search.specs.Terms.{IsRoutedPlan, IsCheaperPlan, AreCheaperCounts, IsKnown, IsOwnCert, IsSearch, IsSoundEntry, IsTestOf, cuts_among, handed_in};
@@ -100,6 +100,7 @@ fn begin_anew(alloc: Global, instance: &Instance, search: &mut Search) -> Result
     ensures handed { OnOk result (handed_in search.new ≡ handed_in search.old) }
     ensures divides { OnOk result (search.new.known.divides ≡ search.old.known.divides) }
     ensures few { OnOk result (length search.new.known.entries ≤ search.new.room) }
+    ensures room { OnOk result (search.new.room ≡ search.old.room) }
 {
     keep_first(alloc, instance, &mut search.known, search.room)?;
     Ok(())
@@ -145,6 +146,7 @@ fn proved<'a, G: Gate>(
     requires certified { IsCertifiedPlan (case_of instance.now) plan }
     requires search { IsSearch (case_of instance.now) search }
     requires few { length search.known.entries ≤ search.room }
+    requires room { search.room ≤ 3 * length (handed_in search) + 6144 }
     requires own { IsOwnCert (map Entry.Cut (handed_in search)) plan own.now }
     ensures { IfOk result (IsProofWith (case_of instance.now) search.known.divides plan (handed_in search) limit) }
 {
@@ -173,6 +175,7 @@ fn room_for(handed: usize, divides: bool) -> usize
     requires { handed ≤ 8192 }
     ensures enough { handed ≤ result }
     ensures small { result ≤ 2 ^ 15 }
+    ensures thrice { result ≤ 3 * handed + 6144 }
 {
     if divides {
         handed + handed + handed + MOST_SET_CUTS + MOST_SET_CUTS + MOST_FURTHER
@@ -205,6 +208,7 @@ fn first_search(
     ensures handed { IfOk result (λ s. handed_in s ≡ cuts) }
     ensures divides { IfOk result (λ s. s.known.divides ≡ divides) }
     ensures few { IfOk result (λ s. length s.known.entries ≤ s.room) }
+    ensures room { IfOk result (λ s. s.room ≤ 3 * length cuts + 6144) }
 {
     let handed = cuts.len();
     let known = Known::new(alloc, instance, cuts, divides)?;
@@ -281,7 +285,8 @@ fn searched<G: Gate>(
 /// network with their right sides at the demands, at most 8,192, among them those of the plan's certificate.
 ///
 /// The answer's plan is the given one with other counts, cost and routings, and costs at most as much: exchanges of modules and counts
-/// found on the way make it cheaper. The tree is about this plan. The cuts that the search finds come after the given ones.
+/// found on the way make it cheaper. The tree is about this plan. The cuts that the search finds come after the given ones. The answer has
+/// at most 6,145 more cuts than three times the given ones, and two more for each split of the limit.
 ///
 /// If the tree has no open leaf, the verdict is `Cheapest`; else it is `Above`, with the least of the plan's cost and the open leaves'
 /// values, in units of the network. An open leaf is `Spent` if the limit of splits was reached. It is `Stuck` if it has a single choice of
@@ -337,9 +342,9 @@ pub fn prove<G: Gate>(
 /// If a link has more than two kinds of modules, up to 1,024 cuts of node sets come first, and rounds also make table lines of weights up
 /// to 20, from cuts and lines of right sides up to 4,096.
 ///
-/// The answer has at most 6,144 more cuts and lines than three times the given cuts, not counting cuts of boxes with a single choice of
-/// counts. A round takes a program, and time in the cuts and lines times the modules times the square of the kinds of modules; each table
-/// line takes up to 4,096 times the kinds. It fails only where memory runs out.
+/// The answer has at most 6,145 more cuts and lines than three times the given cuts, and two more for each split of the limit: boxes with a
+/// single choice of counts may add cuts when there is no room left. A round takes a program, and time in the cuts and lines times the
+/// modules times the square of the kinds of modules; each table line takes up to 4,096 times the kinds. It fails only where memory runs out.
 pub fn prove_instance<G: Gate>(
     alloc: Global,
     instance: &Instance,

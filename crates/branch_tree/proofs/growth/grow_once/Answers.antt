@@ -1,12 +1,12 @@
 use Rattle.std.proofs.Common.{◌+◌, ◌≤◌, List, IfOk, arith, length, subst}
-use Rattle.net_core.proofs.Library.{on_ok_weaker, slice_get_within}
+use Rattle.net_core.proofs.Library.{on_ok_weaker}
 use Rattle.plan_terms.specs.Terms.{CutLine}
 use Rattle.box_search.specs.declared.twigs.Twig.{Twig}
-use Rattle.box_search.specs.declared.twigs.Twig.TheVariants as twig
 use Rattle.branch_tree.specs.inner.Growing.{IsTurnTo}
 use Rattle.box_search.specs.Searches.{aimed, most_entries}
 use Rattle.branch_tree.specs.inner.Places.{AreSettled, IsOpenPlace}
 use Rattle.box_search.proofs.Extending.{aim_on, handed_same, learned_on, most_on}
+use Rattle.branch_tree.proofs.Turning.{open_inside}
 use Rattle.branch_tree.proofs.growth.grow_once.Goals as goal
 
 pub look_again-requires-clause-aim : goal.look_again-requires-clause-aim
@@ -17,9 +17,7 @@ look_again-requires-clause-room c = omega (arith, most_on c.args.search.now c.lo
 
 pub look_again-requires-clause-at : goal.look_again-requires-clause-at
 look_again-requires-clause-at c =
-    let twigs = c.loop.tree.twigs.items in
-    let place = subst (λ (ts : List Twig). IsOpenPlace ts c.in-Some.at) c.deref.ensures.value c.in-Some.ensures in
-    slice_get_within twigs c.in-Some.at (twig.Open place.opened) place.at
+    open_inside (subst (λ (ts : List Twig). IsOpenPlace ts c.in-Some.at) c.deref.ensures.value c.in-Some.ensures)
 
 pub returns-in_default-clause-turn : goal.returns-in_default-clause-turn
 returns-in_default-clause-turn c = (c.loop.invariant.growing, subst (λ (ts : List Twig). AreSettled ts) c.deref.ensures.value c.in_default.ensures)

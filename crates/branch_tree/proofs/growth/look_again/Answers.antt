@@ -6,25 +6,17 @@ use Rattle.box_search.specs.declared.twigs.Twig.{Twig}
 use Rattle.box_search.specs.Terms.{IsFoundAt, IsSearchBox, aimed, handed_in}
 use Rattle.branch_tree.specs.inner.Growing.{IsGrowing}
 use Rattle.branch_tree.proofs.Staying.{growing_on}
-use Rattle.branch_tree.proofs.Turning.{open_known, read_open, twig_growing}
+use Rattle.branch_tree.proofs.Turning.{read_known, read_open, twig_growing}
 use Rattle.branch_tree.proofs.growth.look_again.Goals as goal
 
 pub look-requires-clause-search_box : goal.look-requires-clause-search_box
 look-requires-clause-search_box c =
-    let a = c.args.aim.now in
-    let s = c.args.search.now in
-    let twigs = c.args.tree.now.twigs.items in
-    let there = read_open twigs c.args.at c.index.result.now c.in-Open.open c.requires.at c.index.ensures c.in-Open.is in
-    let known = open_known (aimed a) a.plan.now (handed_in s) s.known.tested c.args.splits c.args.at twigs c.in-Open.open there c.requires.growing in
-    subst (λ (box : TreeBox). IsSearchBox a.instance.now.net.now.links c.args.splits box) (sym c.in_ok-boxed.ensures) known.search_box
+    let known = read_known c.args.at c.requires.at c.index.ensures c.in-Open.is c.requires.growing in
+    subst (λ (box : TreeBox). IsSearchBox c.args.aim.now.instance.now.net.now.links c.args.splits box) (sym c.in_ok-boxed.ensures) known.search_box
 
 pub returns-in-Cheaper-clause-few : goal.returns-in-Cheaper-clause-few
 returns-in-Cheaper-clause-few c =
-    let a = c.args.aim.now in
-    let s = c.args.search.now in
-    let twigs = c.args.tree.now.twigs.items in
-    let there = read_open twigs c.args.at c.index.result.now c.in-Open.open c.requires.at c.index.ensures c.in-Open.is in
-    let known = open_known (aimed a) a.plan.now (handed_in s) s.known.tested c.args.splits c.args.at twigs c.in-Open.open there c.requires.growing in
+    let known = read_known c.args.at c.requires.at c.index.ensures c.in-Open.is c.requires.growing in
     c.in_ok-cheaper.ensures.unfixed (λ fixed. known.unfixed (subst IsFixedBox c.in_ok-boxed.ensures fixed))
 
 pub returns-in-Cheaper-clause-growing : goal.returns-in-Cheaper-clause-growing
@@ -36,11 +28,7 @@ returns-in-Cheaper-clause-growing c =
 
 pub returns-clause-few : goal.returns-clause-few
 returns-clause-few c =
-    let a = c.args.aim.now in
-    let s = c.args.search.now in
-    let twigs = c.args.tree.now.twigs.items in
-    let there = read_open twigs c.args.at c.index.result.now c.in-Open.open c.requires.at c.index.ensures c.in-Open.is in
-    let known = open_known (aimed a) a.plan.now (handed_in s) s.known.tested c.args.splits c.args.at twigs c.in-Open.open there c.requires.growing in
+    let known = read_known c.args.at c.requires.at c.index.ensures c.in-Open.is c.requires.growing in
     c.in_ok-cheaper.ensures.unfixed (λ fixed. known.unfixed (subst IsFixedBox c.in_ok-boxed.ensures fixed))
 
 pub returns-clause-growing : goal.returns-clause-growing

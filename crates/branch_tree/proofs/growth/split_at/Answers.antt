@@ -1,5 +1,4 @@
 use Rattle.std.proofs.Common.{◌+◌, ◌^◌, List, insert, set, subst, sym, arith}
-use Rattle.net_core.proofs.Library.{slice_get_within}
 use Rattle.box_search.specs.Terms.{Node, aimed, handed_in}
 use Rattle.branch_tree.specs.declared.growth.Sides.{Sides}
 use Rattle.branch_tree.specs.declared.growth.Sides.TheVariants as sides
@@ -9,86 +8,46 @@ use Rattle.branch_tree.specs.inner.Growing.{AreSidesOf, IsGrowing}
 use Rattle.branch_tree.proofs.Staying.{growing_on}
 use Rattle.box_search.proofs.Extending.{low_box}
 use Rattle.branch_tree.proofs.Sides.{split_link_small, split_module_small}
-use Rattle.branch_tree.proofs.Turning.{open_known, read_open, split_growing}
+use Rattle.branch_tree.proofs.Turning.{open_inside, read_known, read_open, split_growing}
 use Rattle.branch_tree.proofs.growth.split_at.Goals as goal
 
 pub choose-requires-clause-search_box : goal.choose-requires-clause-search_box
 choose-requires-clause-search_box c =
-    let a = c.args.aim.now in
-    let s = c.args.search.now in
-    let twigs = c.args.tree.now.twigs.items in
-    let inside = slice_get_within twigs c.args.at (twig.Open c.requires.open.opened) c.requires.open.at in
-    let there = read_open twigs c.args.at c.index.result.now c.in-Open.open inside c.index.ensures c.in-Open.is in
-    let known = open_known (aimed a) a.plan.now (handed_in s) s.known.tested c.args.splits c.args.at twigs c.in-Open.open there c.requires.growing in
-    low_box a.instance.now.net.now.links c.args.splits (2 ^ 14) c.in-Open.open.boxed (omega (arith, c.requires.splits)) known.search_box
+    let known = read_known c.args.at (open_inside c.requires.open) c.index.ensures c.in-Open.is c.requires.growing in
+    low_box c.args.aim.now.instance.now.net.now.links c.args.splits (2 ^ 14) c.in-Open.open.boxed (omega (arith, c.requires.splits)) known.search_box
 
 pub choose-requires-clause-unfixed : goal.choose-requires-clause-unfixed
-choose-requires-clause-unfixed c =
-    let a = c.args.aim.now in
-    let s = c.args.search.now in
-    let twigs = c.args.tree.now.twigs.items in
-    let inside = slice_get_within twigs c.args.at (twig.Open c.requires.open.opened) c.requires.open.at in
-    let there = read_open twigs c.args.at c.index.result.now c.in-Open.open inside c.index.ensures c.in-Open.is in
-    (open_known (aimed a) a.plan.now (handed_in s) s.known.tested c.args.splits c.args.at twigs c.in-Open.open there c.requires.growing).unfixed
+choose-requires-clause-unfixed c = (read_known c.args.at (open_inside c.requires.open) c.index.ensures c.in-Open.is c.requires.growing).unfixed
 
 pub choose-requires-clause-by_none : goal.choose-requires-clause-by_none
-choose-requires-clause-by_none c =
-    let a = c.args.aim.now in
-    let s = c.args.search.now in
-    let twigs = c.args.tree.now.twigs.items in
-    let inside = slice_get_within twigs c.args.at (twig.Open c.requires.open.opened) c.requires.open.at in
-    let there = read_open twigs c.args.at c.index.result.now c.in-Open.open inside c.index.ensures c.in-Open.is in
-    (open_known (aimed a) a.plan.now (handed_in s) s.known.tested c.args.splits c.args.at twigs c.in-Open.open there c.requires.growing).unsettled.by_none
+choose-requires-clause-by_none c = (read_known c.args.at (open_inside c.requires.open) c.index.ensures c.in-Open.is c.requires.growing).unsettled.by_none
 
 pub look_sides-requires-clause-open : goal.look_sides-requires-clause-open
-look_sides-requires-clause-open c =
-    let a = c.args.aim.now in
-    let s = c.args.search.now in
-    let twigs = c.args.tree.now.twigs.items in
-    let inside = slice_get_within twigs c.args.at (twig.Open c.requires.open.opened) c.requires.open.at in
-    let there = read_open twigs c.args.at c.index.result.now c.in-Open.open inside c.index.ensures c.in-Open.is in
-    open_known (aimed a) a.plan.now (handed_in s) s.known.tested c.args.splits c.args.at twigs c.in-Open.open there c.requires.growing
+look_sides-requires-clause-open c = read_known c.args.at (open_inside c.requires.open) c.index.ensures c.in-Open.is c.requires.growing
 
 pub look_sides-requires-clause-choice : goal.look_sides-requires-clause-choice
 look_sides-requires-clause-choice c =
-    let a = c.args.aim.now in
-    let s = c.args.search.now in
-    let twigs = c.args.tree.now.twigs.items in
-    let inside = slice_get_within twigs c.args.at (twig.Open c.requires.open.opened) c.requires.open.at in
-    let there = read_open twigs c.args.at c.index.result.now c.in-Open.open inside c.index.ensures c.in-Open.is in
-    let known = open_known (aimed a) a.plan.now (handed_in s) s.known.tested c.args.splits c.args.at twigs c.in-Open.open there c.requires.growing in
+    let known = read_known c.args.at (open_inside c.requires.open) c.index.ensures c.in-Open.is c.requires.growing in
     c.in_ok-choice.ensures c.args.splits known.search_box.low
 
 pub split_of-requires-clause-link : goal.split_of-requires-clause-link
 split_of-requires-clause-link c =
-    let a = c.args.aim.now in
-    let net = a.instance.now.net.now in
-    let s = c.args.search.now in
-    let twigs = c.args.tree.now.twigs.items in
-    let o = c.in-Open.open in
-    let choice = c.in_ok-choice.choice in
-    let inside = slice_get_within twigs c.args.at (twig.Open c.requires.open.opened) c.requires.open.at in
-    let there = read_open twigs c.args.at c.index.result.now o inside c.index.ensures c.in-Open.is in
-    let known = open_known (aimed a) a.plan.now (handed_in s) s.known.tested c.args.splits c.args.at twigs o there c.requires.growing in
+    let net = c.args.aim.now.instance.now.net.now in
+    let place = c.in_ok-choice.choice.place in
+    let known = read_known c.args.at (open_inside c.requires.open) c.index.ensures c.in-Open.is c.requires.growing in
     let is = c.in_ok-choice.ensures c.args.splits known.search_box.low in
-    split_link_small net.nodes net.links c.args.splits o.boxed choice.place.link choice.place.module choice.at net.checked known.search_box is.split
+    split_link_small net.nodes net.links c.args.splits c.in-Open.open.boxed place.link place.module c.in_ok-choice.choice.at net.checked known.search_box is.split
 
 pub split_of-requires-clause-inside : goal.split_of-requires-clause-inside
 split_of-requires-clause-inside c =
-    let a = c.args.aim.now in
-    let net = a.instance.now.net.now in
-    let s = c.args.search.now in
-    let twigs = c.args.tree.now.twigs.items in
-    let o = c.in-Open.open in
-    let choice = c.in_ok-choice.choice in
-    let inside = slice_get_within twigs c.args.at (twig.Open c.requires.open.opened) c.requires.open.at in
-    let there = read_open twigs c.args.at c.index.result.now o inside c.index.ensures c.in-Open.is in
-    let known = open_known (aimed a) a.plan.now (handed_in s) s.known.tested c.args.splits c.args.at twigs o there c.requires.growing in
+    let net = c.args.aim.now.instance.now.net.now in
+    let place = c.in_ok-choice.choice.place in
+    let known = read_known c.args.at (open_inside c.requires.open) c.index.ensures c.in-Open.is c.requires.growing in
     let is = c.in_ok-choice.ensures c.args.splits known.search_box.low in
-    split_module_small net.nodes net.links c.args.splits o.boxed choice.place.link choice.place.module choice.at net.checked known.search_box is.split
+    split_module_small net.nodes net.links c.args.splits c.in-Open.open.boxed place.link place.module c.in_ok-choice.choice.at net.checked known.search_box is.split
 
 pub split-requires : goal.split-requires
-split-requires c = slice_get_within c.args.tree.now.twigs.items c.args.at (twig.Open c.requires.open.opened) c.requires.open.at
+split-requires c = open_inside c.requires.open
 
 pub returns-in_ok-split-in-Twigs-clause-turn : goal.returns-in_ok-split-in-Twigs-clause-turn
 returns-in_ok-split-in-Twigs-clause-turn c =
@@ -105,9 +64,8 @@ returns-in_ok-split-in-Twigs-clause-turn c =
     let choice = c.in_ok-choice.choice in
     let lower = c.in-Twigs.lower in
     let upper = c.in-Twigs.upper in
-    let inside = slice_get_within twigs i (twig.Open c.requires.open.opened) c.requires.open.at in
-    let there = read_open twigs i c.index.result.now o inside c.index.ensures c.in-Open.is in
-    let known = open_known p plan handed s.known.tested n i twigs o there c.requires.growing in
+    let there = read_open twigs i c.index.result.now o (open_inside c.requires.open) c.index.ensures c.in-Open.is in
+    let known = read_known i (open_inside c.requires.open) c.index.ensures c.in-Open.is c.requires.growing in
     let is = c.in_ok-choice.ensures n known.search_box.low in
     let both : AreSidesOf p plan handed tested (n + 1) o.boxed choice (sides.Twigs lower upper) =
     subst (λ (found : Sides). AreSidesOf p plan handed tested (n + 1) o.boxed choice found) c.in-Twigs.is c.in_ok-cheaper.ensures.found in

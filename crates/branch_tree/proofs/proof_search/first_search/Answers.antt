@@ -26,3 +26,9 @@ returns-clause-few c =
     let long = c.len-handed.ensures in
     let enough = c.room_for.ensures.enough in
     omega (arith, long, enough, ap (λ (es : List Entry). length es) c.in_ok-known.ensures.entries, length-map c.args.cuts entry.Cut)
+
+pub returns-clause-room : goal.returns-clause-room
+returns-clause-room c =
+    let long = c.len-handed.ensures in
+    let thrice = c.room_for.ensures.thrice in
+    omega (arith, long, thrice)

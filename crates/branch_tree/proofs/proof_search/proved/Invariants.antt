@@ -3,7 +3,7 @@ use Rattle.plan_terms.specs.Terms.{case_of}
 use Rattle.box_search.specs.Terms.{IsCheaperPlan, IsSearch, handed_in}
 use Rattle.branch_tree.proofs.proof_search.proved.Given as goal
 
--- the plan is the given one or a cheaper one, and the handed-in cuts are the first ones still
+-- the plan is the given one or a cheaper one, the handed-in cuts are the first ones still, and there is as much room
 abbrev pub invariant-attempt : goal.invariant-attempt
 invariant-attempt g l = record {
   plan : IsCheaperPlan (case_of l.instance) l.fn.plan l.plan;
@@ -11,6 +11,7 @@ invariant-attempt g l = record {
   handed : handed_in l.search ≡ handed_in l.fn.search;
   divides : l.search.known.divides ≡ l.fn.search.known.divides;
   few : length l.search.known.entries ≤ l.search.room;
+  room : l.search.room ≡ l.fn.search.room;
 }
 
 -- each attempt begins with a cheaper plan

@@ -1,4 +1,4 @@
-use Rattle.std.proofs.Common.{◌≡◌, Bool, List, IfOk, map, subst, sym}
+use Rattle.std.proofs.Common.{◌≡◌, ◌+◌, ◌*◌, ◌≤◌, Bool, List, IfOk, length, map, subst, sym}
 use Rattle.plan_terms.specs.Terms.{CutLine, case_of}
 use Rattle.box_search.specs.Terms.entry
 use Rattle.box_search.specs.Searches.{IsOwnCert, handed_in}
@@ -9,6 +9,12 @@ pub proved-requires-clause-own : goal.proved-requires-clause-own
 proved-requires-clause-own g c =
     let handed : handed_in c.in-Ok.search ≡ c.args.cuts = rw c.in-Ok.is at c.first_search.ensures.handed in
     subst (λ (cuts : List CutLine). IsOwnCert (map entry.Cut cuts) c.args.plan c.args.own.now) (sym handed) c.requires.own
+
+pub proved-requires-clause-room : goal.proved-requires-clause-room
+proved-requires-clause-room g c =
+    let handed : handed_in c.in-Ok.search ≡ c.args.cuts = rw c.in-Ok.is at c.first_search.ensures.handed in
+    let room : c.in-Ok.search.room ≤ 3 * length c.args.cuts + 6144 = rw c.in-Ok.is at c.first_search.ensures.room in
+    subst (λ (cuts : List CutLine). c.in-Ok.search.room ≤ 3 * length cuts + 6144) (sym handed) room
 
 pub returns-in-Ok : goal.returns-in-Ok
 returns-in-Ok g c =
