@@ -1,96 +1,81 @@
 -- The readings of the notes, the journal and the pool take exactly their texts.
-use Rattle.std.proofs.Common.{◌≡◌, ◌⊎◌, inl, inr, ℕ, ◌+◌, ◌^◌, ◌<◌, ◌≤◌, Bool, true, false, List, [], ◌∷◌, ◌++◌, length, All, IfOk, Result, Ok, Err, refl, sym, ap, subst, arith, append_assoc, codes, flat_map}
-use Rattle.plan_terms.specs.Terms.{Set, Add, Drop, Entry, Edited, Pooled, Reply, Accepted, UnknownDemand, KnownDemand, UnknownNode, SelfDemand, TooMany, TooMuch, Notes, Places, CutLine}
+use Rattle.std.proofs.Common.{◌≡◌, inl, inr, ℕ, ◌+◌, ◌^◌, ◌<◌, ◌≤◌, Bool, true, false, List, [], ◌∷◌, ◌++◌, length, All, IfOk, Option, None, Some, Result, Ok, Err, refl, sym, ap, subst, ◌∙◌, arith, append-nil, append_assoc, codes, flat_map}
+use Rattle.plan_terms.specs.Terms.{are_same, Set, Add, Drop, Entry, Edited, Pooled, Reply, Accepted, UnknownDemand, KnownDemand, UnknownNode, SelfDemand, TooMany, TooMuch, Notes, Places, CutLine}
 use Rattle.snd_tokens.specs.Terms.{Text}
-use Rattle.text_kit.specs.Terms.{ReadsAs, Item, Verbatim, Closing, no_fault, IsEditInForm, edit_items, ends_items}
+use Rattle.text_kit.specs.Reading.{ended_or}
+use Rattle.text_kit.specs.Terms.{ReadsAs, Read, Reading, after, ◌>>=◌, Begins, Item, Verbatim, Closing, no_fault, past_ending, TheWord, IsEditInForm, edit_items, ends_items}
 use Rattle.text_kit.specs.declared.refusal.Refusal.{Refusal}
-use Rattle.text_kit.proofs.Beginnings.{AnyText}
+use Rattle.text_kit.proofs.Beginnings.{AnyText, IsOther, begins_both, begins_parts, ending_again, ending_takes, is_same, no_ending}
 use Rattle.text_kit.proofs.Lemmas.{lawful_as}
-use Rattle.text_kit.proofs.Spelled.{Lawful}
+use Rattle.text_kit.proofs.Spelled.{Lawful, Spelled}
 use Rattle.plan_report.specs.Terms.{IsCutInForm, IsEditedInForm, IsReplyInForm, entry_items, event_items, note_items, notes_items, numbered_from, pool_line_items, reply_items, KnownNames}
 use Rattle.report_words.specs.declared.fault.ReportKind.{ReportKind}
 use Rattle.report_words.specs.declared.fault.ReportKind.TheVariants.{Token}
-use Rattle.report_words.specs.Terms.{closing_at, has_room}
-use Rattle.report_reader.specs.ReadingJournal.{edit_branches, event_branches, notes_branches, reply_branches, routing_note_branches, setup_note_branches, accepted_at, add_at, drop_at, edit_at, edited_at, entries_at, journal_entry_at, event_at, noted, notes_at, notes_end_at, pool_at, pool_cut_at, pool_line_at, pooled_at, reply_at, routing_note_at, set_at, setup_note_at, too_much_at, two_names_at}
-use Rattle.report_words.proofs.Lemmas.{branches_law, either_form, lawful_branch, lawful_closed, lawful_no_branch, few_rooms, lawful_placed, numbered_items, rooms_few, MadeOf, law_made, made_give, made_last, made_law, made_then, field_law, numbers_law, amount_law, closing_law, money_law, name_law, number_law, opening_law, opening_within_law, this_number_law}
+use Rattle.report_words.specs.Terms.{branch_at, closing_at, has_room}
+use Rattle.report_reader.specs.ReadingJournal.{reply_branches, accepted_at, add_at, drop_at, edit_at, edited_at, entries_at, journal_entry_at, event_at, flag_at, notes_at, pool_at, pool_cut_at, pool_line_at, pooled_at, set_at, too_much_at, two_names_at}
+use Rattle.report_words.proofs.Making.{Made}
+use Rattle.report_words.proofs.Lemmas.{branches_law, either_form, lawful_branch, lawful_no_branch, few_rooms, lawful_placed, numbered_items, rooms_few, law_made, made_give, made_last, made_then, field_law, numbers_law, amount_law, closing_law, money_law, name_law, number_law, opening_law, opening_within_law, this_number_law}
 use Rattle.report_reader.proofs.Variants.{edit_cases, entry_cases, reply_cases}
 
 -- ---- notes
 
--- these very notes, by a word and the closing parenthesis
-abbrev WasNoted : Notes → Notes → Type 0
-WasNoted v n = (true ≡ true) × MadeOf {P = Unit {0}} (λ u. v) (λ u. Unit {0}) n
+-- a word that may come next, and what is read after it, which begins with another item
+module _ {P X : Type 0} (w : List ℕ) (f : Bool → Reading ReportKind X) (value : Bool → P → X) (each : Bool → P → List Item) (ok : Bool → P → Type 0) (law : (b : Bool) → Spelled (f b) (λ x is. Made (value b) (each b) (ok b) x is) AnyText) (other : (p : P) → IsOther w (each false p)) where
+  abbrev Flagged : X → List Item → Type 0
+  Flagged x is = Made {P = Bool × P} (λ q. value q.0 q.1) (λ q. note_items q.0 w ++ each q.0 q.1) (λ q. ok q.0 q.1) x is
 
-this_noted : (v n : Notes) → v ≡ n → WasNoted v n
-this_noted v n e = (refl, record { parts = tt; right = tt; gives = e })
+  with_flag : (b : Bool) (x : X) (is : List Item) → Made (value b) (each b) (ok b) x is → Flagged x (note_items b w ++ is)
+  with_flag b x is m = record { parts = (b, m.parts); right = m.right; gives = m.gives; spelled = ap (λ (js : List Item). note_items b w ++ js) m.spelled }
 
-abbrev setup_items : Notes → List Item
-setup_items n = note_items n.setup_cost (codes "setup") ++ Closing ∷ []
+  abbrev read_by : Option Text → Text → Read ReportKind X
+  read_by o text = after (ended_or {A = Read ReportKind Bool} o (λ t. Ok (true, t)) (Ok (false, text))) f
 
-abbrev HasSetup : Bool → Bool → Notes → Type 0
-HasSetup fixed routing n = noted fixed routing n.setup_cost ≡ n
+  flag_takes : (text : Text) (o : Option Text) (x : X) (rest : Text) → past_ending (TheWord w) text ≡ o → read_by o text ≡ Ok (x, rest) → (is : List Item) × Flagged x is × Begins is text rest × AnyText rest
+  flag_takes text (Some t) x rest there e =
+      let m = (law true).takes t x rest e in
+      (Verbatim w ∷ m.0, with_flag true x m.0 m.1, begins_both (Verbatim w ∷ []) m.0 text t rest (ending_takes (TheWord w) text t there).0 m.2, tt)
+  flag_takes text None x rest there e = let m = (law false).takes text x rest e in (m.0, with_flag false x m.0 m.1, m.2, tt)
 
-find_setup : (fixed routing : Bool) (n : Notes) (s : Bool) → noted fixed routing s ≡ n → WasNoted (noted fixed routing true) n ⊎ (noted fixed routing false ≡ n)
-find_setup fixed routing n true e = inl (this_noted (noted fixed routing true) n e)
-find_setup fixed routing n false e = inr e
+  flag_again : (b : Bool) (p : P) (text rest : Text) → ok b p → Begins (note_items b w ++ each b p) text rest → read_by (past_ending (TheWord w) text) text ≡ Ok (value b p, rest)
+  flag_again true p text rest h begun =
+      let m = begins_parts (Verbatim w ∷ []) (each true p) text rest begun in
+      ap (λ (o : Option Text). read_by o text) (ending_again (TheWord w) text m.0 m.1 tt)
+      ∙ (law true).again m.0 (value true p) rest (each true p) (record { parts = p; right = h; gives = refl; spelled = refl }) m.2 tt
+  flag_again false p text rest h begun =
+      let before : Begins (each false p ++ []) text rest = subst (λ (js : List Item). Begins js text rest) (sym (append-nil (each false p))) begun in
+      ap (λ (o : Option Text). read_by o text) (no_ending (TheWord w) (each false p) [] text rest (other p) before)
+      ∙ (law false).again text (value false p) rest (each false p) (record { parts = p; right = h; gives = refl; spelled = refl }) begun tt
 
-setup_note_law : (fixed routing : Bool) → Lawful (setup_note_at fixed routing) setup_items (HasSetup fixed routing) AnyText
-unfolding setup_note_at notes_end_at
-setup_note_law fixed routing = branches_law true (Ok (noted fixed routing false)) (setup_note_branches fixed routing) setup_items _ (HasSetup fixed routing)
-    (either_form true _ _ _ (HasSetup fixed routing) (λ u m h. refl) (λ n e. subst (HasSetup fixed routing) e refl))
-    (λ n h. find_setup fixed routing n n.setup_cost h)
-    (lawful_branch true (Ok (noted fixed routing false)) (codes "setup") (notes_end_at (noted fixed routing true)) _ _ _ _ setup_items _ refl (λ p h. refl)
-    (made_last closing_at (λ (u : Unit {0}). noted fixed routing true) _ _ closing_law)
-    (lawful_closed true (noted fixed routing false) setup_items refl))
+  made_flag : Spelled (flag_at w >>= f) (λ x is. Flagged x is) AnyText
+  made_flag = record {
+    takes = λ text x rest e. flag_takes text (past_ending (TheWord w) text) x rest refl e;
+    again = λ text x rest is m begun left. flag_again m.parts.0 m.parts.1 text rest m.right (subst (λ (js : List Item). Begins js text rest) m.spelled begun) ∙ ap (λ (y : X). Ok (y, rest)) m.gives;
+  }
 
-abbrev routing_items : Notes → List Item
-routing_items n = note_items n.routing_cost (codes "routing") ++ setup_items n
+-- another word than one that may come first, and than what comes after it
+other_note : (w v : List ℕ) (b : Bool) (is : List Item) → are_same w v ≡ false → IsOther w is → IsOther w (note_items b v ++ is)
+other_note w v true is differ other = λ e. let two : false ≡ true = sym differ ∙ (ap (λ (u : List ℕ). are_same w u) (sym e) ∙ is_same w) in absurd cc
+other_note w v false is differ other = other
 
-abbrev HasRouting : Bool → Notes → Type 0
-HasRouting fixed n = noted fixed n.routing_cost n.setup_cost ≡ n
-
-abbrev WasAfter : (Notes → Type 0) → Notes → Type 0
-WasAfter P n = (true ≡ true) × MadeOf {P = Notes} (λ m. m) P n
-
-find_routing : (fixed : Bool) (n : Notes) (r s : Bool) → noted fixed r s ≡ n → WasAfter (HasSetup fixed true) n ⊎ (WasNoted (noted fixed false true) n ⊎ (noted fixed false false ≡ n))
-find_routing fixed n true s e = inl (refl, record { parts = n; right = subst (HasSetup fixed true) e refl; gives = refl })
-find_routing fixed n false true e = inr (inl (this_noted (noted fixed false true) n e))
-find_routing fixed n false false e = inr (inr e)
-
-routing_note_law : (fixed : Bool) → Lawful (routing_note_at fixed) routing_items (HasRouting fixed) AnyText
-unfolding routing_note_at notes_end_at
-routing_note_law fixed = branches_law true (Ok (noted fixed false false)) (routing_note_branches fixed) routing_items _ (HasRouting fixed)
-    (either_form true _ _ _ (HasRouting fixed) (λ n m h. subst (HasRouting fixed) h refl)
-    (either_form true _ _ _ (HasRouting fixed) (λ u m h. refl) (λ n e. subst (HasRouting fixed) e refl)))
-    (λ n h. find_routing fixed n n.routing_cost n.setup_cost h)
-    (lawful_branch true (Ok (noted fixed false false)) (codes "routing") (setup_note_at fixed true) _ _ _ _ routing_items _ refl (λ n h. subst (λ (m : Notes). Verbatim (codes "routing") ∷ setup_items m ≡ routing_items m) h refl)
-    (made_law _ _ _ (setup_note_law fixed true))
-    (lawful_branch true (Ok (noted fixed false false)) (codes "setup") (notes_end_at (noted fixed false true)) _ _ _ _ routing_items _ refl (λ p h. refl)
-    (made_last closing_at (λ (u : Unit {0}). noted fixed false true) _ _ closing_law)
-    (lawful_closed true (noted fixed false false) routing_items refl)))
+joined : (a b c d : List Item) → a ++ (b ++ (c ++ d)) ≡ ((a ++ b) ++ c) ++ d
+joined a b c d = sym (append_assoc a b (c ++ d)) ∙ sym (append_assoc (a ++ b) c d)
 
 abbrev all_items : Notes → List Item
 all_items n = notes_items n ++ Closing ∷ []
 
-find_notes : (n : Notes) (f r s : Bool) → noted f r s ≡ n → WasAfter (HasRouting true) n ⊎ (WasAfter (HasSetup false true) n ⊎ (WasNoted (noted false false true) n ⊎ (noted false false false ≡ n)))
-find_notes n true r s e = inl (refl, record { parts = n; right = subst (HasRouting true) e refl; gives = refl })
-find_notes n false true s e = inr (inl (refl, record { parts = n; right = subst (HasSetup false true) e refl; gives = refl }))
-find_notes n false false true e = inr (inr (inl (this_noted (noted false false true) n e)))
-find_notes n false false false e = inr (inr (inr e))
-
 pub notes_law : Lawful notes_at all_items (λ n. Unit {0}) AnyText
-unfolding notes_at notes_end_at
-notes_law = branches_law true (Ok (noted false false false)) notes_branches all_items _ (λ n. Unit {0})
-    (λ n h. tt)
-    (λ n h. find_notes n n.fixed_cost n.routing_cost n.setup_cost refl)
-    (lawful_branch true (Ok (noted false false false)) (codes "fixed") (routing_note_at true) _ _ _ _ all_items _ refl
-    (λ n h. subst (λ (m : Notes). Verbatim (codes "fixed") ∷ routing_items m ≡ all_items m) h (ap (λ (is : List Item). Verbatim (codes "fixed") ∷ is) (sym (append_assoc (note_items n.routing_cost (codes "routing")) (note_items n.setup_cost (codes "setup")) (Closing ∷ [])))))
-    (made_law _ _ _ (routing_note_law true))
-    (lawful_branch true (Ok (noted false false false)) (codes "routing") (setup_note_at false true) _ _ _ _ all_items _ refl (λ n h. subst (λ (m : Notes). Verbatim (codes "routing") ∷ setup_items m ≡ all_items m) h refl)
-    (made_law _ _ _ (setup_note_law false true))
-    (lawful_branch true (Ok (noted false false false)) (codes "setup") (notes_end_at (noted false false true)) _ _ _ _ all_items _ refl (λ p h. refl)
-    (made_last closing_at (λ (u : Unit {0}). noted false false true) _ _ closing_law)
-    (lawful_closed true (noted false false false) all_items refl))))
+unfolding notes_at
+notes_law = law_made notes_at _ _ _ all_items (λ n. Unit {0})
+    (λ q h. tt)
+    (λ q h. joined (note_items q.0 (codes "fixed")) (note_items q.1.0 (codes "routing")) (note_items q.1.1.0 (codes "setup")) (Closing ∷ []))
+    (λ n h. record { parts = (n.fixed_cost, (n.routing_cost, (n.setup_cost, tt))); right = tt; gives = refl })
+    (made_flag (codes "fixed") _ _ _ _ (λ fixed.
+    made_flag (codes "routing") _ _ _ _ (λ routing.
+    made_flag (codes "setup") _ _ _ _ (λ setup.
+    made_last closing_at (λ (u : Unit {0}). record { fixed_cost = fixed; routing_cost = routing; setup_cost = setup }) _ _ closing_law)
+    (λ p h. h))
+    (λ p. other_note (codes "routing") (codes "setup") p.0 (Closing ∷ []) refl (λ h. h)))
+    (λ p. other_note (codes "fixed") (codes "routing") p.0 (note_items p.1.0 (codes "setup") ++ Closing ∷ []) refl (other_note (codes "fixed") (codes "setup") p.1.0 (Closing ∷ []) refl (λ h. h))))
 
 -- ---- edits and replies
 
@@ -107,7 +92,7 @@ two_names_law = law_made two_names_at _ _ _ (λ e. ends_items e.0 e.1) (λ e. (l
 
 pub edit_law : (p : Places) → Lawful (edit_at p) (edit_items p) IsEditInForm AnyText
 unfolding set_at add_at drop_at
-edit_law p = branches_law true (Err Token) (edit_branches p) (edit_items p) _ IsEditInForm
+edit_law p = branches_law true (Err Token) _ (edit_items p) _ IsEditInForm
     (either_form true _ _ _ IsEditInForm (λ q m h. (h.0, h.1))
     (either_form true _ _ _ IsEditInForm (λ q m h. (h.0, h.1.0.0, h.1.0.1, h.1.1))
     (either_form true _ _ _ IsEditInForm (λ n m h. h)
@@ -127,7 +112,7 @@ edit_law p = branches_law true (Err Token) (edit_branches p) (edit_items p) _ Is
     (made_last _ (λ (name : List ℕ). Drop name) _ _ name_law)
     (lawful_no_branch true Token (edit_items p)))))
 
-pub reply_law : (p : Places) → Lawful (reply_at p) (reply_items p) IsReplyInForm AnyText
+pub reply_law : (p : Places) → Lawful (branch_at (reply_branches p)) (reply_items p) IsReplyInForm AnyText
 unfolding accepted_at too_much_at
 reply_law p = branches_law true (Err Token) (reply_branches p) (reply_items p) _ IsReplyInForm
     (either_form true _ _ _ IsReplyInForm (λ v m h. omega (arith, h.1))
@@ -164,7 +149,7 @@ IsPlain (Pooled index state lengths) = (index < 4096) × (Pooled index (record {
 
 event_law : (p : Places) → Lawful (event_at p) (event_items p) IsPlain AnyText
 unfolding edited_at pooled_at
-event_law p = branches_law true (Err Token) (event_branches p) (event_items p) _ IsPlain
+event_law p = branches_law true (Err Token) _ (event_items p) _ IsPlain
     (either_form true _ _ _ IsPlain (λ q m h. record { some = h.0.0; most = omega (arith, h.0.1); asked = h.1.0; answered = h.1.1 })
     (either_form true _ _ _ IsPlain (λ i m h. (h.1, refl))
     (λ e n. absurd n)))

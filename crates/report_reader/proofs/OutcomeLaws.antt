@@ -8,7 +8,7 @@ use Rattle.plan_report.specs.Terms.{IsHeadInForm, IsOutcomeInForm, head_items, o
 use Rattle.report_words.specs.declared.fault.ReportKind.TheVariants.{Token}
 use Rattle.report_reader.specs.declared.parts.Head.{Head}
 use Rattle.report_words.specs.Terms.{closing_at, has_room, branch_within}
-use Rattle.report_reader.specs.ReadingReport.{head_at, outcome_at, outcome_branches, outcomes_at, planned_at, separated_at, unsurvivable_at}
+use Rattle.report_reader.specs.ReadingReport.{head_at, outcome_branches, outcomes_at, planned_at, separated_at, unsurvivable_at}
 use Rattle.report_words.proofs.Lemmas.{branches_law, either_form, lawful_branch, lawful_no_branch, field_law, few_law, law_made, made_last, made_then, closing_law, keyword_law, name_law, opening_law, this_name_law}
 use Rattle.report_parts.proofs.Lemmas.{IsSound, IsPoolInForm, AreLinksApart}
 use Rattle.report_reader.proofs.PlanLaws.{IsPlanOf, form_plan, plan_form, plan_law}
@@ -103,4 +103,4 @@ module _ (names : KnownNames) (pool : List CutLine) (nodes_apart : AllPairs (λ 
       (lawful_no_branch room Token all_items)))
 
   pub outcomes_law : Lawful (outcomes_at names pool) (λ os. flat_map all_items os ++ Closing ∷ []) (λ os. (length os ≤ 64) × All (IsOutcomeInForm names pool) os) AnyText
-  outcomes_law = few_law 64 (outcome_at names pool) all_items (IsOutcomeInForm names pool) (outcome_cases _ (λ c s p. tt) (λ c s v w e d. tt)) (λ sofar. outcome_law (has_room 64 sofar))
+  outcomes_law = few_law 64 (λ sofar. branch_within (has_room 64 sofar) (outcome_branches names pool)) all_items (IsOutcomeInForm names pool) (outcome_cases _ (λ c s p. tt) (λ c s v w e d. tt)) (λ sofar. outcome_law (has_room 64 sofar))

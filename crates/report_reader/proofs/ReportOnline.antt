@@ -1,35 +1,61 @@
 -- Each part of a report is read without a look at what comes after it.
-use Rattle.std.proofs.Common.{ℕ, ◌+◌, ◌^◌, Bool, true, false, List, [], length, Ok, Err, refl, codes}
-use Rattle.plan_terms.specs.Terms.{Entry, Notes, Demand, Places, CutLine, Listed}
-use Rattle.text_kit.specs.Terms.{no_fault, Parenthesis}
+use Rattle.std.proofs.Common.{◌≡◌, ℕ, ◌+◌, ◌^◌, Bool, true, false, cond, List, [], ◌∷◌, length, None, Some, Result, Ok, Err, refl, codes}
+use Rattle.plan_terms.specs.Terms.{are_same, Entry, Demand, Places, CutLine, Listed}
+use Rattle.snd_tokens.specs.Terms.{Text, WordAt, OpenAt, CloseAt, EndAt}
+use Rattle.text_kit.specs.Reading.{ended_or}
+use Rattle.text_kit.specs.Terms.{Read, Reading, after, ◌>>=◌, give, no_fault, Parenthesis}
 use Rattle.text_kit.proofs.Lemmas.{IsOnline, TakesSome, online_close, online_give, online_list, online_open, online_then, online_whole, online_word, takes_some}
 use Rattle.plan_report.specs.Terms.{KnownNames, Outcome}
+use Rattle.report_words.specs.declared.fault.ReportKind.{ReportKind}
 use Rattle.report_words.specs.declared.fault.ReportKind.TheVariants.{Section, Token, Ended}
 use Rattle.report_reader.specs.declared.parts.Head.{Head}
-use Rattle.report_words.specs.Terms.{has_room}
-use Rattle.report_reader.specs.ReadingJournal.{accepted_at, add_at, drop_at, edit_at, edited_at, entries_at, journal_entry_at, event_at, notes_at, notes_end_at, pool_at, pool_cut_at, pool_line_at, pooled_at, reply_at, routing_note_at, set_at, setup_note_at, too_much_at, two_names_at, edit_branches, event_branches, noted, notes_branches, reply_branches, routing_note_branches, setup_note_branches}
+use Rattle.report_words.specs.ReportChoices.{branch_of}
+use Rattle.report_words.specs.Terms.{Branches, branch_at, branch_or, branch_within, closing_at, has_room}
+use Rattle.report_reader.specs.ReadingJournal.{accepted_at, add_at, drop_at, edit_at, edited_at, entries_at, journal_entry_at, event_at, flag_at, notes_at, pool_at, pool_cut_at, pool_line_at, pooled_at, set_at, too_much_at, two_names_at, reply_branches}
 use Rattle.report_reader.specs.ReadingPlan.{plan_at, plan_parts_at, routed_at, values_at}
-use Rattle.report_reader.specs.ReadingReport.{head_at, last_sections_at, separated_at, outcome_at, outcome_branches, outcomes_at, planned_at, report_at, section_at, sections_at, unsurvivable_at}
+use Rattle.report_reader.specs.ReadingReport.{head_at, last_sections_at, separated_at, outcome_branches, outcomes_at, planned_at, report_at, section_at, sections_at, unsurvivable_at}
+use Rattle.report_words.proofs.Branching.{AllOnline, online_same}
 use Rattle.report_words.proofs.Lemmas.{online_branch, field_online, column_some, numbers_online, opening_within_online}
 use Rattle.report_parts.proofs.PartsOnline.{certificate_online, modules_online, plan_demands_online, quality_online, routings_online}
 
 -- ---- the notes
 
-notes_end_online : (n : Notes) → IsOnline (notes_end_at n)
-unfolding notes_end_at
-notes_end_online n = online_then _ _ (online_close Token Ended) (λ x. online_give _)
+-- a reading that answers as branches do
+record Chosen {X : Type 0} (r : Reading ReportKind X) : Type 0 where
+  pub closing : Result X ReportKind
+  pub branches : Branches X
+  pub all : AllOnline branches
+  pub same : (t : Text) → branch_or true closing branches t ≡ r t
 
-setup_note_online : (fixed routing : Bool) → IsOnline (setup_note_at fixed routing)
-unfolding setup_note_at
-setup_note_online fixed routing = online_branch true (Ok (noted fixed routing false)) (setup_note_branches fixed routing) (notes_end_online _, tt)
+chosen_online : {X : Type 0} (r : Reading ReportKind X) → Chosen r → IsOnline r
+chosen_online r c = online_same (branch_or true c.closing c.branches) r c.same (online_branch true c.closing c.branches c.all)
 
-routing_note_online : (fixed : Bool) → IsOnline (routing_note_at fixed)
-unfolding routing_note_at
-routing_note_online fixed = online_branch true (Ok (noted fixed false false)) (routing_note_branches fixed) (setup_note_online _ _, (notes_end_online _, tt))
+-- a word that may come before such a reading is one branch more
+flag_same : {X : Type 0} (w : List ℕ) (f : Bool → Reading ReportKind X) (c : Chosen (f false)) (t : Text) → branch_or true c.closing ((w, f true) ∷ c.branches) t ≡ (flag_at w >>= f) t
+flag_same w f c (WordAt at v rest) =
+    elim (are_same v w) as (λ s. cond s (f true rest) (branch_of true c.branches at v rest) ≡ after (ended_or {A = Read ReportKind Bool} (cond s (Some rest) None) (λ t. Ok (true, t)) (Ok (false, WordAt at v rest))) f) [
+      | true ↦ refl
+      | false ↦ c.same (WordAt at v rest)
+    ]
+flag_same w f c (OpenAt at rest) = c.same (OpenAt at rest)
+flag_same w f c (CloseAt at rest) = c.same (CloseAt at rest)
+flag_same w f c (EndAt at) = c.same (EndAt at)
+
+flag_chosen : {X : Type 0} (w : List ℕ) (f : Bool → Reading ReportKind X) → ((b : Bool) → Chosen (f b)) → Chosen (flag_at w >>= f)
+flag_chosen w f each = record { closing = (each false).closing; branches = (w, f true) ∷ (each false).branches; all = (chosen_online (f true) (each true), (each false).all); same = flag_same w f (each false) }
+
+end_same : {X : Type 0} (x : X) (t : Text) → branch_or true (Ok x) [] t ≡ (closing_at >>= λ u. give x) t
+end_same x (WordAt at w rest) = refl
+end_same x (OpenAt at rest) = refl
+end_same x (CloseAt at rest) = refl
+end_same x (EndAt at) = refl
+
+end_chosen : {X : Type 0} (x : X) → Chosen (closing_at >>= λ u. give x)
+end_chosen x = record { closing = Ok x; branches = []; all = tt; same = end_same x }
 
 pub notes_online : IsOnline notes_at
 unfolding notes_at
-notes_online = online_branch true (Ok (noted false false false)) notes_branches (routing_note_online _, (setup_note_online _ _, (notes_end_online _, tt)))
+notes_online = chosen_online _ (flag_chosen (codes "fixed") _ (λ fixed. flag_chosen (codes "routing") _ (λ routing. flag_chosen (codes "setup") _ (λ setup. end_chosen _))))
 
 -- ---- the journal and the pool
 
@@ -64,7 +90,7 @@ drop_online =
     online_give _)
 
 pub edit_online : (p : Places) → IsOnline (edit_at p)
-edit_online p = online_branch true (Err Token) (edit_branches p) (set_online p, (add_online p, (drop_online, tt)))
+edit_online p = online_branch true (Err Token) ((_, _) ∷ (_, _) ∷ (_, _) ∷ []) (set_online p, (add_online p, (drop_online, tt)))
 
 pub accepted_online : IsOnline (accepted_at)
 unfolding accepted_at
@@ -78,7 +104,7 @@ too_much_online p =
     online_then _ _ (online_word Token Ended _) (λ total.
     online_give _)
 
-pub reply_online : (p : Places) → IsOnline (reply_at p)
+pub reply_online : (p : Places) → IsOnline (branch_at (reply_branches p))
 reply_online p = online_branch true (Err Token) (reply_branches p) (accepted_online, (online_give _, (online_give _, (online_give _, (online_give _, (online_give _, (too_much_online p, tt)))))))
 
 pub edited_online : (p : Places) → IsOnline (edited_at p)
@@ -96,7 +122,7 @@ pooled_online =
     online_give _)
 
 pub event_online : (p : Places) → IsOnline (event_at p)
-event_online p = online_branch true (Err Token) (event_branches p) (edited_online p, (pooled_online, tt))
+event_online p = online_branch true (Err Token) ((_, _) ∷ (_, _) ∷ []) (edited_online p, (pooled_online, tt))
 
 pub entry_online : (p : Places) (sofar : List Entry) → IsOnline (journal_entry_at p sofar)
 unfolding journal_entry_at
@@ -199,14 +225,14 @@ unsurvivable_online listed =
     online_then _ _ (online_close Token Ended) (λ x.
     online_give _)))))))
 
-pub outcome_online : (names : KnownNames) (pool : List CutLine) (sofar : List Outcome) → IsOnline (outcome_at names pool sofar)
+pub outcome_online : (names : KnownNames) (pool : List CutLine) (sofar : List Outcome) → IsOnline (branch_within (has_room 64 sofar) (outcome_branches names pool))
 outcome_online names pool sofar = online_branch (has_room 64 sofar) (Err Token) (outcome_branches names pool) (planned_online names pool, (unsurvivable_online names.listed, tt))
 
-pub outcome_some : (names : KnownNames) (pool : List CutLine) (sofar : List Outcome) → TakesSome (outcome_at names pool sofar)
+pub outcome_some : (names : KnownNames) (pool : List CutLine) (sofar : List Outcome) → TakesSome (branch_within (has_room 64 sofar) (outcome_branches names pool))
 outcome_some names pool sofar = column_some (has_room 64 sofar) (outcome_branches names pool) (planned_online names pool, (unsurvivable_online names.listed, tt))
 
 pub outcomes_online : (names : KnownNames) (pool : List CutLine) → IsOnline (outcomes_at names pool)
-outcomes_online names pool = online_list Parenthesis no_fault (outcome_at names pool) (outcome_online names pool) (outcome_some names pool) []
+outcomes_online names pool = online_list Parenthesis no_fault (λ sofar. branch_within (has_room 64 sofar) (outcome_branches names pool)) (outcome_online names pool) (outcome_some names pool) []
 
 pub section_online : (w : List ℕ) → IsOnline (section_at w)
 unfolding section_at

@@ -1,40 +1,25 @@
 -- Reading the notes, the journal and the pool of a report.
 use Rattle.std.specs.Prelude.{ℕ, ◌+◌, ◌^◌, Bool, true, false, List, [], ◌∷◌, length, Ok, codes}
 use Rattle.plan_terms.specs.Terms.{Edit, Set, Add, Drop, Entry, Edited, Pooled, Reply, Accepted, UnknownDemand, KnownDemand, UnknownNode, SelfDemand, TooMany, TooMuch, Notes, Places, CutLine}
-use Rattle.text_kit.specs.Terms.{Reading, ◌>>=◌, give, list_at, mapped, no_fault, Parenthesis}
+use Rattle.text_kit.specs.Reading.{ended_or}
+use Rattle.text_kit.specs.Terms.{Reading, ◌>>=◌, give, list_at, mapped, no_fault, past_ending, Parenthesis, TheWord}
 use Rattle.plan_report.specs.Terms.{KnownNames}
 use Rattle.report_words.specs.declared.fault.ReportKind.{ReportKind}
-use Rattle.report_words.specs.Terms.{amount_at, closing_at, has_room, money_at, name_at, number_at, opening_at, opening_within, this_number_at, field_at, Branches, branch_at, branch_or, numbers_at}
+use Rattle.report_words.specs.Terms.{amount_at, closing_at, has_room, money_at, name_at, number_at, opening_at, opening_within, this_number_at, field_at, Branches, branch_at, numbers_at}
 
 -- ---- the notes: up to three words in order, and the closing parenthesis
 
-abbrev pub noted : Bool → Bool → Bool → Notes
-noted fixed routing setup = record { fixed_cost = fixed; routing_cost = routing; setup_cost = setup }
-
--- nothing after the last word
-unfoldable pub notes_end_at : Notes → Reading ReportKind Notes
-notes_end_at n = closing_at >>= λ _. give n
-
--- the setup cost, or none
-abbrev pub setup_note_branches : Bool → Bool → Branches Notes
-setup_note_branches fixed routing = (codes "setup", notes_end_at (noted fixed routing true)) ∷ []
-
-unfoldable pub setup_note_at : Bool → Bool → Reading ReportKind Notes
-setup_note_at fixed routing = branch_or true (Ok (noted fixed routing false)) (setup_note_branches fixed routing)
-
--- the routing cost and what may follow it
-abbrev pub routing_note_branches : Bool → Branches Notes
-routing_note_branches fixed = (codes "routing", setup_note_at fixed true) ∷ (codes "setup", notes_end_at (noted fixed false true)) ∷ []
-
-unfoldable pub routing_note_at : Bool → Reading ReportKind Notes
-routing_note_at fixed = branch_or true (Ok (noted fixed false false)) (routing_note_branches fixed)
-
-abbrev pub notes_branches : Branches Notes
-notes_branches = (codes "fixed", routing_note_at true) ∷ (codes "routing", setup_note_at false true) ∷ (codes "setup", notes_end_at (noted false false true))
-    ∷ []
+-- whether this word is next, which is then taken
+abbrev pub flag_at : List ℕ → Reading ReportKind Bool
+flag_at w text = ended_or (past_ending (TheWord w) text) (λ rest. Ok (true, rest)) (Ok (false, text))
 
 unfoldable pub notes_at : Reading ReportKind Notes
-notes_at = branch_or true (Ok (noted false false false)) notes_branches
+notes_at = do
+  fixed ← flag_at (codes "fixed")
+  routing ← flag_at (codes "routing")
+  setup ← flag_at (codes "setup")
+  _ ← closing_at
+  give (record { fixed_cost = fixed; routing_cost = routing; setup_cost = setup })
 
 -- ---- the journal
 
@@ -63,11 +48,8 @@ add_at p = do
 unfoldable pub drop_at : Reading ReportKind Edit
 drop_at = mapped Drop name_at
 
-abbrev pub edit_branches : Places → Branches Edit
-edit_branches p = (codes "set", set_at p) ∷ (codes "add", add_at p) ∷ (codes "drop", drop_at) ∷ []
-
 abbrev pub edit_at : Places → Reading ReportKind Edit
-edit_at p = branch_at (edit_branches p)
+edit_at p = branch_at ((codes "set", set_at p) ∷ (codes "add", add_at p) ∷ (codes "drop", drop_at) ∷ [])
 
 unfoldable pub accepted_at : Reading ReportKind Reply
 accepted_at = mapped Accepted (number_at 0 65537)
@@ -80,25 +62,19 @@ reply_branches p = (codes "accepted", accepted_at) ∷ (codes "unknown-demand", 
     ∷ (codes "unknown-node", give UnknownNode)
     ∷ (codes "self-demand", give SelfDemand) ∷ (codes "too-many", give TooMany) ∷ (codes "too-much", too_much_at p) ∷ []
 
-abbrev pub reply_at : Places → Reading ReportKind Reply
-reply_at p = branch_at (reply_branches p)
-
 unfoldable pub edited_at : Places → Reading ReportKind Entry
 edited_at p = do
   caller ← number_at 1 9
   edit ← edit_at p
-  reply ← reply_at p
+  reply ← branch_at (reply_branches p)
   give (Edited caller edit reply)
 
 -- a cut of the pool, which comes later: its place alone
 unfoldable pub pooled_at : Reading ReportKind Entry
 pooled_at = mapped (λ index. Pooled index (record { 0 = 0 }) []) (number_at 0 4096)
 
-abbrev pub event_branches : Places → Branches Entry
-event_branches p = (codes "caller", edited_at p) ∷ (codes "cut", pooled_at) ∷ []
-
 abbrev pub event_at : Places → Reading ReportKind Entry
-event_at p = branch_at (event_branches p)
+event_at p = branch_at ((codes "caller", edited_at p) ∷ (codes "cut", pooled_at) ∷ [])
 
 -- an entry after earlier ones
 unfoldable pub journal_entry_at : Places → List Entry → Reading ReportKind Entry

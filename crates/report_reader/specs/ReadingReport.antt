@@ -44,15 +44,12 @@ unsurvivable_at listed = do
   head ← head_at
   separated_at listed head
 
--- an outcome after earlier ones
 abbrev pub outcome_branches : KnownNames → List CutLine → Branches Outcome
 outcome_branches names pool = (codes "PLAN", planned_at names pool) ∷ (codes "UNSURVIVABLE", unsurvivable_at names.listed) ∷ []
 
-abbrev pub outcome_at : KnownNames → List CutLine → List Outcome → Reading ReportKind Outcome
-outcome_at names pool sofar = branch_within (has_room 64 sofar) (outcome_branches names pool)
-
+-- up to 64 outcomes
 abbrev pub outcomes_at : KnownNames → List CutLine → Reading ReportKind (List Outcome)
-outcomes_at names pool = list_at Parenthesis no_fault (outcome_at names pool) []
+outcomes_at names pool = list_at Parenthesis no_fault (λ sofar. branch_within (has_room 64 sofar) (outcome_branches names pool)) []
 
 -- ---- the whole report
 

@@ -1,7 +1,8 @@
 ghost use Rattle.std.specs.Prelude.{◌≡◌};
 ghost use Rattle.snd_tokens.specs.Terms.{left};
 ghost use Rattle.text_kit.specs.Terms.{ReadsAs};
-ghost use Rattle.report_reader.specs.ReadingJournal.{accepted_at, add_at, drop_at, edit_at, reply_at, set_at, too_much_at, two_names_at};
+ghost use Rattle.report_words.specs.Terms.{branch_at};
+ghost use Rattle.report_reader.specs.ReadingJournal.{accepted_at, add_at, drop_at, edit_at, reply_branches, set_at, too_much_at, two_names_at};
 
 use net_core::{Edit, Name, Places, Reply};
 use report_words::fault::{ReportKind, ReportRefusal};
@@ -119,7 +120,7 @@ fn too_much(places: Places, text: &mut Cursor) -> Result<Reply, ReportRefusal>
 
 /// Takes a reply.
 pub(crate) fn reply(places: Places, text: &mut Cursor) -> Result<Reply, ReportRefusal>
-    ensures { ReadsAs (λ r. r) result (left text.new) (reply_at places (left text.old)) }
+    ensures { ReadsAs (λ r. r) result (left text.new) (branch_at (reply_branches places) (left text.old)) }
 {
     let (at, word) = word(ReportKind::Token, ReportKind::Ended, text)?;
     if word == ACCEPTED {

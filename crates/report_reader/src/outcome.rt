@@ -120,12 +120,12 @@ impl<'a> OutcomeList<'a> {
 
 impl<'a> Element for OutcomeList<'a> {
     ghost use Rattle.text_kit.specs.Terms.{no_fault};
-    ghost use Rattle.report_words.specs.Terms.{known_in};
-    ghost use Rattle.report_reader.specs.ReadingReport.{outcome_at};
+    ghost use Rattle.report_words.specs.Terms.{branch_within, has_room, known_in};
+    ghost use Rattle.report_reader.specs.ReadingReport.{outcome_branches};
 
     type Item = Outcome;
 
-    ghost reading = { λ l. outcome_at (known_in l.context.now) l.pool.now };
+    ghost reading = { λ l sofar. branch_within (has_room 64 sofar) (outcome_branches (known_in l.context.now) l.pool.now) };
 
     ghost fault = { λ _. no_fault };
 
