@@ -1,14 +1,13 @@
 -- the report of one plan command
-use Rattle.std.proofs.Common.{◌≡◌, ℕ, ◌++◌, List, [], ◌∷◌, codes, decimal, refl, sym, subst, inl, inr}
+use Rattle.std.proofs.Common.{◌≡◌, ℕ, List, refl, inl}
 use Rattle.plan_terms.specs.Terms.{Notes, Case}
-use Rattle.plan_report.specs.Terms.{state_name, known_to, SpellsReport, report_text}
+use Rattle.plan_report.specs.Terms.{known_to, SpellsReport, report_text}
 use Rattle.plan_import.specs.Terms.{IsTranscript, plan_commands, PlannedReport}
-use Rattle.proof_report.specs.Terms.{IsSeparationOf, whole_report}
+use Rattle.proof_report.specs.Terms.{whole_report}
 use Rattle.plan_import.proofs.Lemmas.{lone_plans_are_accepted}
-use Rattle.check_answers.specs.Separations.{NamesFirstSeparation}
 use Rattle.command_answers.specs.Answers.{EndsPlan, IsPlanReport, IsSummary, summary}
 use Rattle.check_answers.specs.declared.status.Status.{Status}
-use Rattle.check_answers.specs.declared.status.Status.TheVariants.{Done, NotSurvivable}
+use Rattle.check_answers.specs.declared.status.Status.TheVariants.{Done}
 
 module _ (p : Case) (notes : Notes) (r : PlannedReport) (t : IsTranscript p notes plan_commands (whole_report r)) where
   -- its text is the report of a plan
@@ -35,20 +34,3 @@ module _ (p : Case) (notes : Notes) (r : PlannedReport) (t : IsTranscript p note
     planned = plan_report (report_text (known_to p) (whole_report r)) refl;
     printed = printed;
   }
-
--- the line of a separation names it
-pub separation_named : (p : Case) (state : ℕ) (name text : List ℕ) → IsSeparationOf p state name
-    → text ≡ codes "not survivable: state " ++ decimal state ++ 32 ∷ state_name p.listed state ++ codes " demand " ++ name ++ 10 ∷ []
-    → NamesFirstSeparation p text
-separation_named p state name text is printed = record {
-  state = state;
-  place = is.place;
-  first = is.first;
-  printed = subst (λ n. text ≡ codes "not survivable: state " ++ decimal state ++ 32 ∷ state_name p.listed state ++ codes " demand " ++ n ++ 10 ∷ []) (sym is.named) printed;
-}
-
--- and so the run ends
-pub separation_ends : (p : Case) (notes : Notes) (state : ℕ) (name : List ℕ) (status : Status) (text : List ℕ) → IsSeparationOf p state name → status ≡ NotSurvivable
-    → text ≡ codes "not survivable: state " ++ decimal state ++ 32 ∷ state_name p.listed state ++ codes " demand " ++ name ++ 10 ∷ []
-    → EndsPlan p notes status text
-separation_ends p notes state name status text is same printed = inr (same, separation_named p state name text is printed)

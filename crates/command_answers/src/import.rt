@@ -3,7 +3,7 @@ ghost use Rattle.plan_terms.specs.Terms.{case, case_of};
 ghost use Rattle.plan_report.specs.Terms.{known_of};
 ghost use Rattle.flow_file.specs.FlowFiles.{IsFlowFile};
 ghost use Rattle.flow_file.specs.declared.flow.FlowFile.{FlowFile as File};
-ghost use Rattle.proof_report.specs.Terms.{IsSeparationOf, whole_report};
+ghost use Rattle.proof_report.specs.Terms.{whole_report};
 ghost use Rattle.plan_import.specs.ImportedPlans.{HasImportFault, IsImportEnding, IsImportedReport};
 ghost use Rattle.check_answers.specs.Findings.{spaced};
 ghost use Rattle.command_answers.specs.ImportFaults.{import_fault_line, import_fault_words};
@@ -13,7 +13,7 @@ use crate::plan::{planned, separated};
 use check_answers::{Answer, Status, put_word};
 use flow_file::FlowFile;
 use flow_import::ImportFault;
-use net_core::{Bytes, Instance, List, Name, NoMemory, Problem, StateId};
+use net_core::{Bytes, Instance, List, NoMemory, Problem};
 use outside_io::Gate;
 use part_names::{demand_name, link_name, node_name, state_name};
 use plan_import::lone_plan::PlannedReport;
@@ -108,19 +108,6 @@ fn answer_imported(
     planned(alloc, instance.net, instance.states, report)
 }
 
-/// The answer to an import into an instance without a plan.
-fn answer_separated(
-    alloc: Global,
-    instance: &Instance,
-    state: StateId,
-    demand: &Name,
-) -> Result<Answer, NoMemory>
-    requires { IsSeparationOf (case_of instance.now) state.0 demand.now }
-    ensures { IfOk result (λ a. (file : File) → EndsImported (case_of instance.now) instance.now.net.now.notes file a.status a.text) }
-{
-    separated(alloc, instance.states, state, demand)
-}
-
 /// The answer to the result of an import.
 fn answer_ending(
     alloc: Global,
@@ -134,9 +121,7 @@ fn answer_ending(
     match ending {
         ImportEnding::Imported(report) => answer_imported(alloc, instance, report),
         ImportEnding::Faulty(fault) => answer_fault(alloc, instance, fault),
-        ImportEnding::Separated { state, demand } => {
-            answer_separated(alloc, instance, state, &demand)
-        }
+        ImportEnding::Separated { state, demand } => separated(alloc, instance, state, &demand),
     }
 }
 

@@ -1,8 +1,9 @@
-ghost use Rattle.std.specs.Prelude.{◌≡◌, ◌++◌, ◌∷◌, [], IfOk, codes, decimal};
+ghost use Rattle.std.specs.Prelude.{◌≡◌, IfOk};
 ghost use Rattle.plan_terms.specs.Terms.{case, case_of};
-ghost use Rattle.plan_report.specs.Terms.{known_of, IsReportInForm, state_name, SpellsReport, report_text};
+ghost use Rattle.plan_report.specs.Terms.{known_of, IsReportInForm, SpellsReport, report_text};
 ghost use Rattle.plan_import.specs.Terms.{IsTranscript, IsLoneAnswer, plan_commands};
 ghost use Rattle.proof_report.specs.Terms.{IsSeparationOf, whole_report};
+ghost use Rattle.check_answers.specs.Separations.{NamesFirstSeparation};
 ghost use Rattle.command_answers.specs.Answers.{EndsPlan};
 
 use check_answers::{Answer, Status};
@@ -16,20 +17,19 @@ use std::alloc::Global;
 use std::sync::Wait;
 use std::thread::Threads;
 
-/// The answer to a network that isn't survivable: the line of the first demand that a state separates.
+/// The answer to an instance without a plan: the line of the first demand that a state separates.
 pub fn separated(
     alloc: Global,
-    states: &States,
+    instance: &Instance,
     state: StateId,
     demand: &Name,
 ) -> Result<Answer, NoMemory>
-    ensures status { IfOk result (λ a. a.status ≡ Status.NotSurvivable) }
-    ensures text { IfOk result (λ a. a.text ≡ codes "not survivable: state " ++ decimal state.0 ++ 32
-        ∷ state_name states.now.listed state.0 ++ codes " demand " ++ demand.now ++ 10 ∷ []) }
+    requires { IsSeparationOf (case_of instance.now) state.0 demand.now }
+    ensures { IfOk result (λ a. (a.status ≡ Status.NotSurvivable) × NamesFirstSeparation (case_of instance.now) a.text) }
 {
     Ok(Answer {
         status: Status::NotSurvivable,
-        text: separated_line(alloc, states, state, demand.bytes())?,
+        text: separated_line(alloc, instance.states, state, demand.bytes())?,
     })
 }
 
@@ -80,19 +80,6 @@ fn answer_planned(
     planned(alloc, instance.net, instance.states, report)
 }
 
-/// The answer to an instance without a plan.
-fn answer_separated(
-    alloc: Global,
-    instance: &Instance,
-    state: StateId,
-    demand: &Name,
-) -> Result<Answer, NoMemory>
-    requires { IsSeparationOf (case_of instance.now) state.0 demand.now }
-    ensures { IfOk result (λ a. EndsPlan (case_of instance.now) instance.now.net.now.notes a.status a.text) }
-{
-    separated(alloc, instance.states, state, demand)
-}
-
 /// The answer to the result of one plan command.
 fn answer_lone(alloc: Global, instance: &Instance, lone: LonePlan) -> Result<Answer, NoMemory>
     requires { IsLoneAnswer (case_of instance.now) instance.now.net.now.notes lone }
@@ -100,7 +87,7 @@ fn answer_lone(alloc: Global, instance: &Instance, lone: LonePlan) -> Result<Ans
 {
     match lone {
         LonePlan::Planned(report) => answer_planned(alloc, instance, report),
-        LonePlan::Separated { state, demand } => answer_separated(alloc, instance, state, &demand),
+        LonePlan::Separated { state, demand } => separated(alloc, instance, state, &demand),
     }
 }
 

@@ -1,13 +1,13 @@
 ghost use Rattle.std.specs.Prelude.{◌≡◌, ◌≤◌, IfOk};
 ghost use Rattle.plan_terms.specs.Terms.{case, case_of};
-ghost use Rattle.proof_report.specs.Terms.{IsSeparationOf, AreCharged};
+ghost use Rattle.proof_report.specs.Terms.{AreCharged};
 ghost use Rattle.proof_report.specs.ProvedReports.{IsProofEnding, IsProvedReport};
 ghost use Rattle.command_answers.specs.Answers.{EndsProve, EndsCharged, free_module_line};
 ghost use Rattle.check_answers.specs.declared.status.Status.{Status};
 
 use crate::plan::separated;
 use check_answers::{Answer, Status};
-use net_core::{Instance, List, Name, NoMemory, Problem, StateId};
+use net_core::{Instance, List, NoMemory, Problem};
 use outside_io::Gate;
 use proof_report::{ProofEnding, ProvedReport, are_charged, prove_once, write_lined};
 use std::alloc::Global;
@@ -40,21 +40,6 @@ fn answer_proved(
     })
 }
 
-/// The answer to an instance without a plan.
-fn answer_separated(
-    alloc: Global,
-    instance: &Instance,
-    state: StateId,
-    demand: &Name,
-    limit: u32,
-) -> Result<Answer, NoMemory>
-    requires { IsSeparationOf (case_of instance.now) state.0 demand.now }
-    ensures { IfOk result (λ a. EndsCharged limit (case_of instance.now) instance.now.net.now.notes a.status a.text) }
-{
-    let _ = limit;
-    separated(alloc, instance.states, state, demand)
-}
-
 /// The answer to the result of a proof.
 fn answer_ending(
     alloc: Global,
@@ -67,9 +52,7 @@ fn answer_ending(
 {
     match ending {
         ProofEnding::Proved(report) => answer_proved(alloc, instance, report, limit),
-        ProofEnding::Separated { state, demand } => {
-            answer_separated(alloc, instance, state, &demand, limit)
-        }
+        ProofEnding::Separated { state, demand } => separated(alloc, instance, state, &demand),
     }
 }
 

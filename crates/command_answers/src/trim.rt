@@ -1,11 +1,11 @@
 ghost use Rattle.std.specs.Prelude.{IfOk};
 ghost use Rattle.plan_terms.specs.Terms.{case, case_of};
-ghost use Rattle.proof_report.specs.Terms.{IsSeparationOf, IsTrimEnding, IsTrimmedReport};
+ghost use Rattle.proof_report.specs.Terms.{IsTrimEnding, IsTrimmedReport};
 ghost use Rattle.command_answers.specs.Answers.{EndsTrim};
 
 use crate::plan::separated;
 use check_answers::{Answer, Status};
-use net_core::{Instance, List, Name, NoMemory, Problem, StateId};
+use net_core::{Instance, List, NoMemory, Problem};
 use outside_io::Gate;
 use plan_import::lone_plan::PlannedReport;
 use proof_report::trim_plan::Block;
@@ -30,19 +30,6 @@ fn answer_trimmed(
     })
 }
 
-/// The answer to an instance without a plan.
-fn answer_separated(
-    alloc: Global,
-    instance: &Instance,
-    state: StateId,
-    demand: &Name,
-) -> Result<Answer, NoMemory>
-    requires { IsSeparationOf (case_of instance.now) state.0 demand.now }
-    ensures { IfOk result (λ a. EndsTrim (case_of instance.now) instance.now.net.now.notes a.status a.text) }
-{
-    separated(alloc, instance.states, state, demand)
-}
-
 /// The answer to the result of a trimming.
 fn answer_ending(alloc: Global, instance: &Instance, ending: TrimEnding) -> Result<Answer, NoMemory>
     requires { IsTrimEnding (case_of instance.now) instance.now.net.now.notes ending }
@@ -50,9 +37,7 @@ fn answer_ending(alloc: Global, instance: &Instance, ending: TrimEnding) -> Resu
 {
     match ending {
         TrimEnding::Trimmed { report, blocks } => answer_trimmed(alloc, instance, report, &blocks),
-        TrimEnding::Separated { state, demand } => {
-            answer_separated(alloc, instance, state, &demand)
-        }
+        TrimEnding::Separated { state, demand } => separated(alloc, instance, state, &demand),
     }
 }
 

@@ -1,4 +1,4 @@
-use Rattle.std.proofs.Common.{subst}
+use Rattle.std.proofs.Common.{inr, subst}
 use Rattle.net_core.proofs.Library.{IfOk-weaker}
 use Rattle.plan_terms.specs.Terms.{case_of}
 use Rattle.plan_import.specs.ImportedPlans.{IsImportEnding}
@@ -19,10 +19,10 @@ returns-in-Faulty c =
     let i = c.args.instance.now in
     IfOk-weaker c.answer_fault.result _ _ (λ a ends file is. ends file (subst (IsImportEnding (case_of i) i.net.now.notes file) c.in-Faulty.is is)) c.answer_fault.ensures
 
-pub answer_separated-requires : goal.answer_separated-requires
-answer_separated-requires c =
+pub separated-requires : goal.separated-requires
+separated-requires c =
     let i = c.args.instance.now in
     subst (IsImportEnding (case_of i) i.net.now.notes c.requires.0) c.in-Separated.is c.requires.1
 
 pub returns-in-Separated : goal.returns-in-Separated
-returns-in-Separated c = IfOk-weaker c.answer_separated.result _ _ (λ a ends file is. ends file) c.answer_separated.ensures
+returns-in-Separated c = IfOk-weaker c.separated.result _ _ (λ a is file ending. inr (inr is)) c.separated.ensures
