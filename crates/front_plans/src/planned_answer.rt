@@ -1,5 +1,5 @@
-ghost use Rattle.std.specs.Prelude.{◌≡◌, ◌++◌, ◌∷◌, ◌<◌, ◌^◌, [], All, IfOk, false, length, true};
-ghost use Rattle.plan_report.specs.Terms.{SpellsReport, known_to, report_text, Outcome};
+ghost use Rattle.std.specs.Prelude.{◌≡◌, ◌++◌, ◌<◌, ◌^◌, All, IfOk, false, length, true};
+ghost use Rattle.plan_report.specs.Terms.{SpellsReport, known_to, report_text};
 ghost use Rattle.proof_report.specs.Terms.{whole_report};
 ghost use Rattle.view_text.specs.Terms.{HasSoundPlan, HoldsOfSingle, IsFirstBlock, IsReportView, problem_case};
 ghost use Rattle.proof_report.specs.ProvedReports.{IsLinedReport, proof_text, proved_report};
@@ -9,7 +9,7 @@ ghost use Rattle.front_plans.specs.FrontPlans.{PrintsPlan, told_outcomes, told_o
 use crate::answer::PlanAnswer;
 use check_answers::Status;
 use net_core::{Bytes, Copied, Instance, List, NoMemory, Problem};
-use plan_types::{Outcome, Plan};
+use plan_types::Outcome;
 use proof_report::{ProvedReport, write_lined};
 use std::alloc::Global;
 use tree_check::{Proof, Verdict};
@@ -27,10 +27,11 @@ fn told(proof: &Proof) -> CostProof
     }
 }
 
-/// The outcomes of a report that has only this plan.
-fn lone_outcomes(alloc: Global, plan: Plan) -> Result<List<Outcome>, NoMemory>
-    ensures { IfOk result (λ outcomes. outcomes ≡ Outcome.Planned 1 1 plan ∷ []) }
+/// The outcomes of a report with a proved plan.
+fn report_outcomes(alloc: Global, report: &ProvedReport) -> Result<List<Outcome>, NoMemory>
+    ensures { IfOk result (λ outcomes. outcomes ≡ told_outcomes report.now) }
 {
+    let plan = report.proof.plan.copy()?;
     let mut outcomes = List::new(alloc);
     outcomes.push(Outcome::Planned {
         caller: 1,
@@ -38,14 +39,6 @@ fn lone_outcomes(alloc: Global, plan: Plan) -> Result<List<Outcome>, NoMemory>
         plan,
     })?;
     Ok(outcomes)
-}
-
-/// The outcomes of a report with a proved plan.
-fn report_outcomes(alloc: Global, report: &ProvedReport) -> Result<List<Outcome>, NoMemory>
-    ensures { IfOk result (λ outcomes. outcomes ≡ told_outcomes report.now) }
-{
-    let plan = report.proof.plan.copy()?;
-    lone_outcomes(alloc, plan)
 }
 
 /// The view of these outcomes.

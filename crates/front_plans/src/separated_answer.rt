@@ -7,7 +7,7 @@ ghost use Rattle.front_plans.specs.FrontPlans.{SaysSeparations, separated_words}
 
 use crate::answer::PlanAnswer;
 use check_answers::Status;
-use net_core::{Bytes, Instance, List, NoMemory, StateId};
+use net_core::{Bytes, Instance, List, Name, NoMemory, StateId};
 use separation_texts::{put_separations, separated_line, separations};
 use std::alloc::Global;
 
@@ -59,12 +59,12 @@ pub(crate) fn separated_answer(
     network: &[u8],
     instance: &Instance,
     state: StateId,
-    demand: &[u8],
+    demand: &Name,
 ) -> Result<PlanAnswer, NoMemory>
     requires { IsSeparationOf (case_of instance.now) state.0 demand.now }
     ensures { IfOk result (λ a. (a.status ≡ Status.NotSurvivable) × (a.text ≡ []) × SaysSeparations network.now (case_of instance.now) a.message) }
 {
-    let message = separated_text(alloc, network, instance, state, demand)?;
+    let message = separated_text(alloc, network, instance, state, demand.bytes())?;
     Ok(PlanAnswer {
         status: Status::NotSurvivable,
         text: List::new(alloc),

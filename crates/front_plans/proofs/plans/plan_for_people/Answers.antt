@@ -1,16 +1,20 @@
+use Rattle.std.proofs.Common.{◌≡◌, [], inl}
 use Rattle.std.proofs.lemmas.Result.{IfOk-weaker}
-use Rattle.view_text.specs.Terms.{problem_case}
-use Rattle.front_plans.specs.FrontPlans.{EndsPlanForPeople, EndsPlanWithin}
+use Rattle.check_answers.specs.declared.status.Status.TheVariants.{BadNetwork}
+use Rattle.front_plans.specs.FrontPlans.{free_link_message}
 use Rattle.front_plans.specs.declared.answer.PlanAnswer.{PlanAnswer}
 use Rattle.front_plans.proofs.plans.plan_for_people.Goals as goal
 
-pub returns : goal.returns
-returns g c =
-    let p = problem_case c.args.problem.now in
-    let notes = c.args.problem.now.net.notes in
-    let net = c.args.network.now in
-    let limit = c.limit_of-limit.result in
-    IfOk-weaker c.plan_within.result
-    (λ (a : PlanAnswer). EndsPlanWithin net limit c.args.wanted p notes a.status a.text a.message)
-    (λ (a : PlanAnswer). EndsPlanForPeople net c.args.splits c.args.wanted p notes a.status a.text a.message)
-    (λ a is. (limit, (rw (c.len.ensures, c.nodes.ensures) at c.limit_of-limit.ensures.limit), is)) c.plan_within.ensures
+pub returns-in-Some : goal.returns-in-Some
+returns-in-Some g c =
+    let link = c.in-Some.link.now in
+    let within = rw (c.len.ensures, c.nodes.ensures) at c.limit_of-limit.ensures.limit in
+    let first = rw (c.items.ensures, c.links.ensures) at c.in-Some.ensures in
+    IfOk-weaker c.free_answer.result
+    (λ (a : PlanAnswer). (a.status ≡ BadNetwork) × (a.text ≡ []) × (a.message ≡ free_link_message c.args.network.now link.name)) _
+    (λ a is. (c.limit_of-limit.result, within, inl (is.0, is.1, (first.0, link, first.1, is.2)))) (rw c.bytes.ensures.value at c.free_answer.ensures)
+
+pub returns-in-None : goal.returns-in-None
+returns-in-None g c =
+    let within = rw (c.len.ensures, c.nodes.ensures) at c.limit_of-limit.ensures.limit in
+    IfOk-weaker c.answer_charged.result _ _ (λ a is. (c.limit_of-limit.result, within, is)) c.answer_charged.ensures
