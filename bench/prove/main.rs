@@ -3,8 +3,8 @@
 #![allow(dead_code, unused)]
 mod able_counts;
 mod box_program;
-mod box_search;
-mod branch_tree;
+mod tree_boxes;
+mod tree_search;
 mod checked_fraction;
 mod cover_table;
 mod flow_mending;
@@ -86,7 +86,7 @@ use module_choice::{Fallback, fallback_plan};
 use module_prices::unit_pair;
 use net_core::{Caps, Copied, CutLine, Demand, Demands, Global, Instance, Link, List, Module, Network, NodeId, StateId, States};
 use outside_io::OpenGate;
-use branch_tree::prove_instance;
+use tree_search::prove_instance;
 use plan_types::{CertLine, Cause, Certificate, Plan, Quality, Spot};
 use separator::separate_state;
 use share_covers::{Chosen, choose};

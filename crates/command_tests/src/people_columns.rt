@@ -1,6 +1,6 @@
 use crate::people_runs::ends_with;
 use crate::runs::{shelf_with, words_of};
-use front_commands::Status;
+use people_commands::Status;
 use net_core::{Bytes, List, Name, NoMemory};
 use outside_io::MemFile;
 use std::alloc::Global;

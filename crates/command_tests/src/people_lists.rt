@@ -1,5 +1,5 @@
 use crate::people_runs::{Faults, Row, comes_to};
-use front_commands::Status;
+use people_commands::Status;
 
 const USAGE: &str = "these words are no command; zorgwint --help tells which are
 usage: zorgwint plan NET [--model F] [--failures F] [--survive links] [--splits N] [--report] [--quiet]

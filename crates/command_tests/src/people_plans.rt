@@ -1,6 +1,6 @@
 use check_answers::Status;
-use front_commands::front_plans::{PlanAnswer, plan_for_people};
-use front_commands::front_views::view_report;
+use people_commands::people_plans::{PlanAnswer, plan_for_people};
+use people_commands::people_views::view_report;
 use net_core::{Bytes, Module, Problem};
 use outside_io::OpenGate;
 use std::alloc::Global;

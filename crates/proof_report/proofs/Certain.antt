@@ -5,7 +5,7 @@ use Rattle.plan_terms.specs.Terms.{Case, IsCut, raw_value, IsBound, IsGreatestDi
 use Rattle.plan_terms.proofs.Bounds.{divisor_unique}
 use Rattle.plan_types.specs.Terms.{IsCertifiedPlan, lines_of_certificate}
 use Rattle.plan_types.specs.declared.plan.Plan.{Plan}
-use Rattle.branch_tree.proofs.Lemmas.{divisor_exists}
+use Rattle.tree_search.proofs.Lemmas.{divisor_exists}
 
 module _ (p : Case) (plan : Plan) (told : ∥ IsCertifiedPlan p plan ∥₁) where
   abbrev IsOwnBound : Type 0

@@ -5,9 +5,9 @@ use Rattle.plan_report.specs.Terms.{Certificate, Plan}
 use Rattle.comment_lines.specs.Comments.{comment_line}
 use Rattle.trimmed_report.specs.Terms.{IsTranscript, PlannedReport, IsAcceptable, IsSeparationOf, plan_commands, whole_report, Block}
 use Rattle.trimmed_report.specs.TrimmedReports.{IsTrimmedReport}
-use Rattle.branch_tree.specs.Terms.{Proof}
+use Rattle.tree_search.specs.Terms.{Proof}
 use Rattle.tree_lines.specs.TreeLines.{proof_lines}
-use Rattle.branch_tree.specs.Proving.{IsProofOf, ShowsBound, ShowsCheapest}
+use Rattle.tree_search.specs.Proving.{IsProofOf, ShowsBound, ShowsCheapest}
 use Rattle.proof_report.specs.declared.ending.ProofEnding.{ProofEnding}
 use Rattle.proof_report.specs.declared.ending.ProofEnding.TheVariants as ending
 use Rattle.proof_report.specs.declared.ending.ProvedReport.{ProvedReport}

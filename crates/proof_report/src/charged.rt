@@ -1,5 +1,5 @@
 ghost use Rattle.std.specs.Prelude.{◌<◌, ◌↔◌, All, IsTrue};
-ghost use Rattle.branch_tree.specs.FewSplits.{AreCharged};
+ghost use Rattle.tree_search.specs.FewSplits.{AreCharged};
 
 use net_core::{Link, Module};
 

@@ -1,12 +1,12 @@
 ghost use Rattle.std.specs.Prelude.{◌≡◌, [], ◌≤◌, IfOk, false};
 ghost use Rattle.plan_terms.specs.Terms.{case_of};
 ghost use Rattle.trimmed_report.specs.TrimmedReports.{IsTrimEnding};
-ghost use Rattle.branch_tree.specs.FewSplits.{AreCharged};
+ghost use Rattle.tree_search.specs.FewSplits.{AreCharged};
 ghost use Rattle.proof_report.specs.ProvedReports.{IsLinedEnding, IsLinedReport, IsProofEnding, IsTrimmedOnce};
 
 use crate::handed_cuts::{handed_cuts, work_out};
-use branch_tree::prove_instance;
-use branch_tree::tree_check::Proof;
+use tree_search::prove_instance;
+use tree_search::tree_check::Proof;
 use net_core::{CutLine, Entry, Instance, List, Name, NoMemory, Notes, StateId};
 use outside_io::Gate;
 use std::alloc::Global;

@@ -2,8 +2,8 @@ ghost use Rattle.std.specs.Prelude.{◌≡◌, ◌⊎◌, ◌++◌, ◌∷◌, [
 ghost use Rattle.plan_terms.specs.Terms.{IsCut, case_of};
 ghost use Rattle.proof_report.specs.ProvedReports.{AreHandedIn, certificate_cuts};
 
-use branch_tree::index_of;
-use branch_tree::line_check::tested_lines::tested_cut;
+use tree_search::index_of;
+use tree_search::line_check::tested_lines::tested_cut;
 use net_core::{Copied, CutLine, Instance, List, NoMemory};
 use plan_types::Certificate;
 use std::alloc::Global;

@@ -7,7 +7,7 @@ ghost use Rattle.tree_lines.specs.TreeLines.{IsToldProof, proof_lines};
 ghost use Rattle.proof_report.specs.ProvedReports.{IsLinedReport, proved_report, proof_text};
 
 use crate::ending::ProvedReport;
-use branch_tree::tree_check::Proof;
+use tree_search::tree_check::Proof;
 use net_core::{Bytes, Copied, Instance, NoMemory};
 use plan_report::write_report;
 use std::alloc::Global;

@@ -1,5 +1,5 @@
 //! Where a report ends. Its tree comes below that place.
-use proof_reader::report_end;
+use tree_reader::report_end;
 
 /// A text, and the place after its last token, counted by hand.
 const ENDS: [(&[u8], u64); 8] = [

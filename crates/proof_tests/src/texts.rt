@@ -1,5 +1,5 @@
 use net_core::{Bytes, List, NoMemory, Problem};
-use proof_reader::{ReadTree, read_tree};
+use tree_reader::{ReadTree, read_tree};
 use report_words::fault::ReportRefusal;
 use std::alloc::Global;
 

@@ -3,7 +3,7 @@ use crate::rows::worked;
 use crate::texts::{LINED_TREE, TREE, changed, read};
 use crate::tree_rows::{answer_of, plan_of};
 use net_core::{CutLine, Evidence, List, Problem, WideKind};
-use proof_reader::ReadTree;
+use tree_reader::ReadTree;
 use std::alloc::Global;
 use tree_check::TreeAnswer::{Accepted, Rejected};
 use tree_check::{

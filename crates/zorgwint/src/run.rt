@@ -1,10 +1,10 @@
 ghost use Rattle.std.specs.Prelude.{◌≡◌, ℕ, List, ◌≤◌};
 ghost use Rattle.input_files.specs.Shelves.{KeepsShelf};
-ghost use Rattle.front_commands.specs.Endings.{EndsFront, PutsBoth};
+ghost use Rattle.people_commands.specs.Endings.{EndsFront, PutsBoth};
 ghost use Rattle.check_answers.specs.declared.status.Status.{Status};
 
 use check_answers::Status;
-use front_commands::run as commands;
+use people_commands::run as commands;
 use outside_io::{Shelf, Sink};
 use plan_progress::Teller;
 use std::alloc::Global;

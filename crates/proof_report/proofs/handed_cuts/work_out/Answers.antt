@@ -1,7 +1,7 @@
 use Rattle.std.proofs.Common.{◌≡◌, ◌∙◌, ◌+◌, ◌<◌, ◌++◌, inl, true, false, [], ◌∷◌, All, ap, arith, length, refl, subst, sym, take, take_all}
 use Rattle.net_core.proofs.Library.{∥∥₁_elim, props, take_more, All-push}
 use Rattle.plan_terms.specs.Terms.{CutLine, IsCut, case_of}
-use Rattle.branch_tree.specs.Terms.{line_of_cut, IsMadeFrom, names_by}
+use Rattle.tree_search.specs.Terms.{line_of_cut, IsMadeFrom, names_by}
 use Rattle.proof_report.proofs.handed_cuts.work_out.Goals as goal
 
 pub loop-cut-preserved : goal.loop-cut-preserved

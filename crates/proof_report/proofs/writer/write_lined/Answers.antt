@@ -4,7 +4,7 @@ use Rattle.plan_report.specs.Terms.{IsReportInForm, SpellsReport, known_to, repo
 use Rattle.comment_lines.specs.Comments.{AddsLines}
 use Rattle.trimmed_report.specs.Terms.{whole_report}
 use Rattle.report_comments.proofs.Spelling.{reports_take_comments}
-use Rattle.branch_tree.specs.Terms.{Proof}
+use Rattle.tree_search.specs.Terms.{Proof}
 use Rattle.tree_lines.specs.TreeLines.{IsToldProof, proof_lines}
 use Rattle.proof_report.specs.ProvedReports.{proof_text, proved_report}
 use Rattle.proof_report.proofs.Told.{proof_told}

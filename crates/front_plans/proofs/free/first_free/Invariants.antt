@@ -1,7 +1,0 @@
-use Rattle.std.proofs.Common.{All, take}
-use Rattle.front_plans.specs.FrontPlans.{IsDearLink}
-use Rattle.front_plans.proofs.free.first_free.Given as goal
-
--- all modules of the links so far cost something
-abbrev pub invariant-loop-link : goal.invariant-loop-link
-invariant-loop-link l = All IsDearLink (take l.link-index l.links)

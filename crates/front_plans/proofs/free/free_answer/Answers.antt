@@ -1,5 +1,0 @@
-use Rattle.std.proofs.Common.{refl}
-use Rattle.front_plans.proofs.free.free_answer.Goals as goal
-
-pub returns : goal.returns
-returns c = (refl, c.new.ensures, c.in_ok-message.ensures)

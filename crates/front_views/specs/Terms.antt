@@ -1,8 +1,0 @@
--- The words of this crate, passed on from one place to other crates. Declares nothing.
-pub use Rattle.front_views.specs.AcceptedReports.{IsAcceptedReport}
-pub use Rattle.front_views.specs.ProofLines.{HasTreeLine, ReadsProof, SpellsPlanTree, proof_by, told_by}
-pub use Rattle.front_views.specs.ReportEnds.{EndsReport, ShowsReportFault, ViewsReport}
-pub use Rattle.front_views.specs.StateForms.{LacksState, NamesState, PicturesState}
-pub use Rattle.view_forms.specs.Forms.{IsFormOf}
-pub use Rattle.view_forms.specs.declared.form.ViewForm.TheVariants.{Tables, Values}
-pub use Rattle.view_forms.specs.declared.form.ViewForm.{ViewForm}

@@ -1,9 +1,0 @@
-use Rattle.std.proofs.Common.{◌≡◌, drop, map}
-use Rattle.front_words.specs.GivenWords.{are_among}
-use Rattle.front_words.specs.inner.Causes.{given_option}
-use Rattle.front_words.proofs.options.are_among.Given as goal
-
--- all are among these where those that are left are
-abbrev pub invariant-loop-given : goal.invariant-loop-given
-invariant-loop-given l =
-    are_among (map (λ w. w.now) l.taken) (map given_option (drop l.given-index l.options)) ≡ are_among (map (λ w. w.now) l.taken) (map given_option l.options)

@@ -1,7 +1,0 @@
-use Rattle.std.proofs.Common.{◌≡◌, drop, map}
-use Rattle.front_words.specs.GivenWords.{is_among}
-use Rattle.front_words.proofs.options.is_among.Given as goal
-
--- it is among all where it is among those that are left
-abbrev pub invariant-loop-word : goal.invariant-loop-word
-invariant-loop-word l = is_among (map (λ w. w.now) (drop l.word-index l.taken)) l.name ≡ is_among (map (λ w. w.now) l.taken) l.name

@@ -1,8 +1,0 @@
-use Rattle.std.proofs.Common.{◌≡◌, drop, map}
-use Rattle.front_words.specs.GivenWords.{value_given}
-use Rattle.front_words.specs.inner.Causes.{given_option}
-use Rattle.front_words.proofs.options.value_given.Given as goal
-
--- the value is that among those that are left
-abbrev pub invariant-loop-given : goal.invariant-loop-given
-invariant-loop-given l = value_given (map given_option (drop l.given-index l.options)) l.name ≡ value_given (map given_option l.options) l.name

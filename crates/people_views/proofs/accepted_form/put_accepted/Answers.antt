@@ -1,0 +1,8 @@
+use Rattle.view_text.specs.Terms.{problem_case}
+use Rattle.people_views.proofs.SoundOutcomes.{outcomes_sound}
+use Rattle.people_views.proofs.accepted_form.put_accepted.Goals as goal
+
+pub put_view-requires-clause-sound : goal.put_view-requires-clause-sound
+put_view-requires-clause-sound c =
+    let problem = c.args.problem.now in
+    rw c.items.ensures (outcomes_sound (problem_case problem) c.args.report.now problem.belong problem.net.notes c.requires.accepted)

@@ -1,5 +1,0 @@
-use Rattle.proof_reader.proofs.Spelling.{trees_are_read}
-use Rattle.proof_reader.proofs.law.trees_are_read.Goals as goal
-
-pub returns : goal.returns
-returns c = trees_are_read

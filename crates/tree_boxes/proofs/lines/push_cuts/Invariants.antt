@@ -1,0 +1,12 @@
+use Rattle.std.proofs.Common.{◌≡◌, ◌≤◌, length, true}
+use Rattle.tree_boxes.specs.Searches.{HasLearned, IsSearch, aimed, most_entries}
+use Rattle.tree_boxes.proofs.lines.push_cuts.Given as goal
+
+-- the search has learned more
+abbrev pub invariant-loop-i : goal.invariant-loop-i
+invariant-loop-i l = record {
+  search : IsSearch (aimed l.aim) l.search;
+  learned : HasLearned l.fn.search l.search;
+  divides : l.search.known.divides ≡ true;
+  few : length l.search.known.entries ≤ most_entries l.fn.search;
+}
