@@ -80,8 +80,7 @@ def in_form(text, own):
 
     for line in text.split("\n"):
         match = LINE.match(line)
-        is_module = match and not match[3].endswith("}") and not match[1]
-        if match and not is_module and "*" not in re.sub(r"[^\s,{}.]+ ?\*|\*[^\s,{}.]+|◌\*◌", "", match[3]).split("{")[0]:
+        if match and match[3].endswith("}") and "*" not in match[3].split("{")[0]:
             ghost = bool(match[1])
             for module, name in names_of(match[3]):
                 found.setdefault(match[2], {}).setdefault(module, []).append(name)

@@ -1,8 +1,7 @@
 -- routings that are found are in form
 use Rattle.std.proofs.Common.{◌≡◌, ◌≢◌, ℕ, ◌^◌, ◌<◌, ◌≤◌, List, [], ◌∷◌, get_or, length, subst, arith}
 use Rattle.net_core.proofs.Library.{slice_get_within, get_or_from_slice_get}
-use Rattle.plan_terms.specs.Terms.{Demand, LinkId, Caps, Flow, Routing, AreDemands, IsDemand, Graph, Joins, IsFlow, IsPath, Leads, last_node}
-use Rattle.plan_terms.proofs.Lemmas.{path_links_known}
+use Rattle.plan_terms.{specs.Terms.{Demand, LinkId, Caps, Flow, Routing, AreDemands, IsDemand, Graph, Joins, IsFlow, IsPath, Leads, last_node}, proofs.Lemmas.path_links_known}
 use Rattle.plan_report.specs.Terms.{IsFlowInForm, IsPathInForm, IsRoutingInForm}
 use Rattle.separator.specs.Terms.{IsRouted}
 

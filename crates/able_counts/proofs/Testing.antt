@@ -4,9 +4,7 @@ use Rattle.net_core.proofs.Library.{cases_lt, slice_get_within}
 use Rattle.plan_terms.specs.Terms.{Caps, CutLine, Routing, Case, graph_in, AreDemands, Joins, IsCut, Carries, IsSurvivable}
 use Rattle.route_law.specs.Terms.{AreJoined}
 use Rattle.separator.specs.Terms.{IsRouted}
-use Rattle.able_counts.proofs.FoundForms.{routing_found}
-use Rattle.able_counts.specs.AbleTests.{AreKeptOrWithin, AreRoutingsWithin, IsRoutingWithin, IsStopAt}
-use Rattle.able_counts.specs.declared.stop.Stop.{Stop}
+use Rattle.able_counts.{proofs.FoundForms.routing_found, specs.AbleTests.{AreKeptOrWithin, AreRoutingsWithin, IsRoutingWithin, IsStopAt}, specs.declared.stop.Stop.Stop}
 
 module _ (p : Case) (nums : List ℕ) where
   pub kept_none : (a : List Routing) → AreKeptOrWithin p nums a a

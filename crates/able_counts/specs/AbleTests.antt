@@ -4,9 +4,7 @@ use Rattle.plan_terms.specs.Terms.{Caps, Routing, Case, graph_in, Joins, AreCoun
 use Rattle.plan_report.specs.Terms.{IsRoutingInForm}
 use Rattle.route_law.specs.Terms.{IsLowestRouting}
 use Rattle.separator.specs.Terms.{IsEvidenceHere}
-use Rattle.able_counts.specs.declared.able_test.AbleTest.{AbleTest}
-use Rattle.able_counts.specs.declared.stop.Stop.{Stop}
-use Rattle.able_counts.specs.declared.stop.Stop.TheVariants.{Cut, Wide}
+use Rattle.able_counts.{specs.declared.able_test.AbleTest.AbleTest, specs.declared.stop.Stop.Stop, specs.declared.stop.Stop.TheVariants.{Cut, Wide}}
 
 -- ---- routings
 

@@ -1,6 +1,5 @@
 ghost use Rattle.std.specs.Prelude.{◌≡◌, ◌⊎◌, ◌^◌, ◌<◌, All, IfOk, IfSome};
-ghost use Rattle.able_counts.specs.AbleTests.{IsRoutingOf, IsRoutingWithin, IsStopAt};
-ghost use Rattle.able_counts.specs.inner.Tasks.{task_case};
+ghost use Rattle.able_counts.{specs.AbleTests.{IsRoutingOf, IsRoutingWithin, IsStopAt}, specs.inner.Tasks.task_case};
 
 use crate::stop::Stop;
 use net_core::{NoMemory, RouteTask, Routing};

@@ -2,8 +2,7 @@ ghost use Rattle.std.specs.Prelude.{◌≡◌, ◌⊎◌, ◌^◌, ◌<◌, All,
 ghost use Rattle.plan_terms.specs.Terms.{graph_of, IsSurvivable};
 ghost use Rattle.route_law.specs.Terms.{AreJoined};
 ghost use Rattle.separator.specs.Terms.{IsFinding};
-ghost use Rattle.able_counts.specs.AbleTests.{IsRoutingOf, IsRoutingWithin, IsStopAt};
-ghost use Rattle.able_counts.specs.inner.Tasks.{task_case};
+ghost use Rattle.able_counts.{specs.AbleTests.{IsRoutingOf, IsRoutingWithin, IsStopAt}, specs.inner.Tasks.task_case};
 
 use crate::stop::Stop;
 use net_core::{Copied, Flow, Instance, List, NoMemory, RouteColumn, RouteTask, Routing};

@@ -1,19 +1,13 @@
 -- a sound report has no finding, kind by kind
 use Rattle.std.proofs.Common.{◌≡◌, ◌∙◌, ℕ, ◌≤◌, List, Some, length, get_or, take, nat_le, sym, ap, arith, slice_get, ⊎_elim, option_map}
 use Rattle.net_core.proofs.Library.{length-map, get_or_from_slice_get, slice_get-map, slice_get_within, all_at}
-use Rattle.plan_terms.specs.Terms.{Entry, Edited, Pooled, Notes, CutLine, Case, graph_in, Joins, AreKept, IsRight}
-use Rattle.plan_types.specs.declared.report.Outcome.{Outcome}
-use Rattle.plan_types.specs.declared.report.Outcome.TheVariants.{Planned, Unsurvivable}
-use Rattle.plan_types.specs.declared.report.Report.{Report}
+use Rattle.plan_terms.{specs.Terms.{Entry, Edited, Pooled, Notes, CutLine, Case, graph_in, Joins, AreKept, IsRight}, proofs.Lemmas.right_once}
+use Rattle.plan_types.{specs.declared.report.Outcome.Outcome, specs.declared.report.Outcome.TheVariants.{Planned, Unsurvivable}, specs.declared.report.Report.Report}
 use Rattle.cut_pool.specs.Terms.{IsLegalHistory, IsPoolAfter, cut_of_line, cuts_of, demands_left, version_at, case_left}
 use Rattle.plan_checker.specs.Terms.{HoldNone, HoldsNone, HoldsAt}
+use Rattle.report_checker.{specs.Terms.{HoldsEntryDiffers, HoldsNotesDiffer, IsOtherEntry, HoldsVersionDiffers, case_at, outcome_findings, HoldsBadCut, HoldsPoolCount, HoldsPoolDiffers, IsBadCut}, proofs.Apart.no_survivable}
+use Rattle.acceptance.{specs.Reports.{IsSoundOutcomeOf, SoundReportsAreAccepted}, proofs.Histories.history_cuts, proofs.Sound.sound_plans_are_accepted}
 use Rattle.plan_checker.specs.declared.finding.Finding.TheVariants as finding
-use Rattle.report_checker.specs.Terms.{HoldsEntryDiffers, HoldsNotesDiffer, IsOtherEntry, HoldsVersionDiffers, case_at, outcome_findings, HoldsBadCut, HoldsPoolCount, HoldsPoolDiffers, IsBadCut}
-use Rattle.acceptance.specs.Reports.{IsSoundOutcomeOf, SoundReportsAreAccepted}
-use Rattle.acceptance.proofs.Histories.{history_cuts}
-use Rattle.acceptance.proofs.Sound.{sound_plans_are_accepted}
-use Rattle.report_checker.proofs.Apart.{no_survivable}
-use Rattle.plan_terms.proofs.Lemmas.{right_once}
 
 no_notes : (own printed : Notes) → printed ≡ own → HoldsNone (HoldsNotesDiffer own printed)
 no_notes own printed same finding.NotesDiffer h = h same

@@ -3,9 +3,7 @@ use Rattle.std.proofs.Common.{◌≡◌, ℕ, zero, suc, ◌+◌, ◌*◌, ◌�
 use Rattle.net_core.proofs.Library.{length-map, sum_by-cons, slice_get-get_or, length-zip}
 use Rattle.module_prices.specs.declared.cheapest.UnitPair.{UnitPair}
 use Rattle.plan_terms.specs.Terms.{Link, Module, Routing, Case, IsUnitPair}
-use Rattle.plan_types.specs.declared.plan.Plan.{Plan}
-use Rattle.plan_types.specs.declared.quality.Fractional.{Fractional}
-use Rattle.plan_types.specs.declared.quality.Share.{Share}
+use Rattle.plan_types.{specs.declared.plan.Plan.Plan, specs.declared.quality.Fractional.Fractional, specs.declared.quality.Share.Share}
 use Rattle.master_law.specs.Terms.{AreUnitPairs, IsPairOfLink, share_capacities, share_cost}
 use Rattle.plan_law.specs.TightPlans.{AreCarriedByShare, IsTightPlan}
 use Rattle.plan_checker.specs.Terms.{AreCarried, GivesShare, IsShareOf, IsTight}

@@ -2,17 +2,12 @@
 use Rattle.std.proofs.Common.{◌≡◌, ◌∙◌, List, refl, subst, true}
 use Rattle.net_core.proofs.Library.{∥∥₁_elim}
 use Rattle.plan_terms.specs.Terms.{Entry, Case}
-use Rattle.plan_types.specs.declared.plan.Plan.{Plan}
-use Rattle.plan_types.specs.declared.quality.Fractional.{Fractional}
-use Rattle.plan_types.specs.declared.quality.Quality.{Quality}
-use Rattle.plan_types.specs.declared.quality.Quality.TheVariants.{Tight}
+use Rattle.plan_types.{specs.declared.plan.Plan.Plan, specs.declared.quality.Fractional.Fractional, specs.declared.quality.Quality.Quality, specs.declared.quality.Quality.TheVariants.Tight}
 use Rattle.cut_pool.specs.declared.snapshot.Snapshot.{Snapshot}
 use Rattle.plan_law.specs.LoosePlans.{HasQuality}
 use Rattle.session_run.specs.Terms.{IsSnapshotPlan}
 use Rattle.plan_checker.specs.Terms.{HoldNone, plan_findings, IsTight}
-use Rattle.acceptance.specs.Laws.{SnapshotPlansAreAccepted}
-use Rattle.acceptance.proofs.Shares.{tight_by_share}
-use Rattle.acceptance.proofs.Sound.{none_prop, sound_plans_are_accepted}
+use Rattle.acceptance.{specs.Laws.SnapshotPlansAreAccepted, proofs.Shares.tight_by_share, proofs.Sound.{none_prop, sound_plans_are_accepted}}
 
 -- it is tight where it claims so
 pub tight_where_claimed : (p : Case) (snapshot : Snapshot) (history : List Entry) (plan : Plan) → IsSnapshotPlan p snapshot history plan → (f : Fractional) → plan.quality ≡ Tight f → IsTight p plan f

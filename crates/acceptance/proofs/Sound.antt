@@ -1,18 +1,11 @@
 -- a sound plan has no finding, kind by kind
 use Rattle.std.proofs.Common.{◌≡◌, ℕ, ◌*◌, ◌≤◌, Bool, true, List, [], ◌∷◌, Some, All, get_or, sym, ◌∙◌, ap, subst, arith, slice_get, ⊎_elim, option_map}
 use Rattle.net_core.proofs.Library.{props, get_or_from_slice_get, slice_get-map, all_at}
-use Rattle.plan_terms.specs.Terms.{Module, Flow, Case, graph_in, Joins, capacities, CertificateLine, IsCut, price, IsFlow}
-use Rattle.plan_types.specs.Terms.{IsCarryingPlan, IsCertifiedPlan, IsCostedPlan, lines_of_certificate}
-use Rattle.plan_types.specs.declared.certificate.CertLine.{CertLine}
-use Rattle.plan_types.specs.declared.certificate.Spot.TheVariants.{Local}
-use Rattle.plan_types.specs.declared.plan.Plan.{Plan}
-use Rattle.plan_types.specs.declared.quality.Fractional.{Fractional}
-use Rattle.plan_types.specs.declared.quality.Quality.TheVariants.{Tight}
-use Rattle.plan_checker.specs.Terms.{HasBadPath, IsOverloaded, IsUncarried, HasStaleRight, HoldsCostDiffers, IsLocalCut, IsOverpriced, HoldNone, HoldsNone, Kind, HoldsAt, HoldsDemandsDiffer, plan_case, HoldsNotTight, IsTight}
-use Rattle.plan_checker.specs.declared.finding.Finding.TheVariants as finding
-use Rattle.plan_checker.proofs.Telling.{no_bound, no_local, no_overloaded, no_place, no_price, no_raw, no_right, no_uncarried, no_wide}
+use Rattle.plan_terms.{specs.Terms.{Module, Flow, Case, graph_in, Joins, capacities, CertificateLine, IsCut, price, IsFlow}, proofs.Lemmas.right_once}
+use Rattle.plan_types.{specs.Terms.{IsCarryingPlan, IsCertifiedPlan, IsCostedPlan, lines_of_certificate}, specs.declared.certificate.CertLine.CertLine, specs.declared.certificate.Spot.TheVariants.Local, specs.declared.plan.Plan.Plan, specs.declared.quality.Fractional.Fractional, specs.declared.quality.Quality.TheVariants.Tight}
+use Rattle.plan_checker.{specs.Terms.{HasBadPath, IsOverloaded, IsUncarried, HasStaleRight, HoldsCostDiffers, IsLocalCut, IsOverpriced, HoldNone, HoldsNone, Kind, HoldsAt, HoldsDemandsDiffer, plan_case, HoldsNotTight, IsTight}, proofs.Telling.{no_bound, no_local, no_overloaded, no_place, no_price, no_raw, no_right, no_uncarried, no_wide}}
 use Rattle.acceptance.specs.Laws.{SoundPlansAreAccepted}
-use Rattle.plan_terms.proofs.Lemmas.{right_once}
+use Rattle.plan_checker.specs.declared.finding.Finding.TheVariants as finding
 
 -- that no finding holds has one proof at most
 pub none_prop : (kinds : List Kind) → IsProp (HoldNone kinds)

@@ -1,29 +1,15 @@
 -- a transcript of commands has no finding, and the bounds of its plans hold
 use Rattle.std.proofs.Common.{◌≡◌, ◌∙◌, ℕ, ◌+◌, ◌≤◌, ◌++◌, ◌==◌, List, [], ◌∷◌, All, length, get_or, take, drop, sym, ap, subst, arith, refl, ⊎_elim, eq-eqb, length-append, length-take-le, take-append-drop}
 use Rattle.net_core.proofs.Library.{∥∥₁_elim, props, nat_tests, length-map, All-cons, All-nil}
-use Rattle.plan_terms.specs.Terms.{Entry, Notes, Case, IsAble, total_cost}
-use Rattle.plan_terms.proofs.Lemmas.{weak_duality}
-use Rattle.plan_types.specs.Terms.{IsCarryingPlan, IsCertifiedPlan, lines_of_certificate}
-use Rattle.plan_types.specs.declared.plan.Plan.{Plan}
-use Rattle.plan_types.specs.declared.report.Outcome.{Outcome}
-use Rattle.plan_types.specs.declared.report.Outcome.TheVariants.{Planned, Unsurvivable}
-use Rattle.plan_types.specs.declared.report.Report.{Report}
+use Rattle.plan_terms.{specs.Terms.{Entry, Notes, Case, IsAble, total_cost}, proofs.Lemmas.weak_duality}
+use Rattle.plan_types.{specs.Terms.{IsCarryingPlan, IsCertifiedPlan, lines_of_certificate}, specs.declared.plan.Plan.Plan, specs.declared.report.Outcome.Outcome, specs.declared.report.Outcome.TheVariants.{Planned, Unsurvivable}, specs.declared.report.Report.Report}
 use Rattle.cut_pool.specs.Terms.{cut_of_line, cuts_of, demands_left, version_left, case_left}
-use Rattle.session_run.specs.Terms.{IsFullHistory, IsSpotIn}
-use Rattle.session_run.proofs.Lemmas.{cuts_both}
+use Rattle.session_run.{specs.Terms.{IsFullHistory, IsSpotIn}, proofs.Lemmas.cuts_both, specs.Transcripts.{IsOutcomeAfter, IsPlanBetween, IsSeparationOf, IsTranscript, RunsFrom, acts_of, outcome_caller, outcomes_of}, proofs.Counts.few_entries, proofs.OutcomeForms.kept_one}
 use Rattle.plan_checker.specs.Terms.{HoldNone, IsTight}
 use Rattle.report_checker.specs.Terms.{IsBelowAllAble, SeparatesNamed, case_at, outcome_findings, HasNoFinding, whole_findings}
-use Rattle.session_script.specs.declared.script.Act.{Act}
+use Rattle.session_script.{specs.declared.script.Act.Act, specs.declared.script.Command.Command}
+use Rattle.acceptance.{specs.Reports.{IsSoundOutcomeOf, IsSoundPlanOf, IsSoundRefusalOf}, specs.Transcripts.{TranscriptsAreAccepted, TranscriptsAreSound}, proofs.Reports.{outcome_none, sound_reports_are_accepted}, proofs.Snapshots.tight_where_claimed, proofs.Sound.none_prop}
 use Rattle.session_script.specs.declared.script.Act.TheVariants as acts
-use Rattle.session_script.specs.declared.script.Command.{Command}
-use Rattle.session_run.specs.Transcripts.{IsOutcomeAfter, IsPlanBetween, IsSeparationOf, IsTranscript, RunsFrom, acts_of, outcome_caller, outcomes_of}
-use Rattle.session_run.proofs.Counts.{few_entries}
-use Rattle.session_run.proofs.OutcomeForms.{kept_one}
-use Rattle.acceptance.specs.Reports.{IsSoundOutcomeOf, IsSoundPlanOf, IsSoundRefusalOf}
-use Rattle.acceptance.specs.Transcripts.{TranscriptsAreAccepted, TranscriptsAreSound}
-use Rattle.acceptance.proofs.Reports.{outcome_none, sound_reports_are_accepted}
-use Rattle.acceptance.proofs.Snapshots.{tight_where_claimed}
-use Rattle.acceptance.proofs.Sound.{none_prop}
 
 module _ (p : Case) (notes : Notes) (commands : List Command) (r : Report) (few : length commands ≤ 1000) (t : IsTranscript p notes commands r) where
   abbrev es : List Entry

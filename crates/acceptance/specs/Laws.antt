@@ -1,11 +1,7 @@
 -- which plans have no finding
 use Rattle.std.specs.Prelude.{◌≡◌, Bool, true, List, All}
 use Rattle.plan_terms.specs.Terms.{Entry, Case}
-use Rattle.plan_types.specs.Terms.{IsCarryingPlan, IsCertifiedPlan, IsCostedPlan}
-use Rattle.plan_types.specs.declared.certificate.Spot.TheVariants.{Local}
-use Rattle.plan_types.specs.declared.plan.Plan.{Plan}
-use Rattle.plan_types.specs.declared.quality.Fractional.{Fractional}
-use Rattle.plan_types.specs.declared.quality.Quality.TheVariants.{Tight}
+use Rattle.plan_types.{specs.Terms.{IsCarryingPlan, IsCertifiedPlan, IsCostedPlan}, specs.declared.certificate.Spot.TheVariants.Local, specs.declared.plan.Plan.Plan, specs.declared.quality.Fractional.Fractional, specs.declared.quality.Quality.TheVariants.Tight}
 use Rattle.cut_pool.specs.declared.snapshot.Snapshot.{Snapshot}
 use Rattle.session_run.specs.Terms.{IsSnapshotPlan}
 use Rattle.plan_checker.specs.Terms.{HoldNone, plan_findings, IsTight}

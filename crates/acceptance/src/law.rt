@@ -1,6 +1,4 @@
-ghost use Rattle.acceptance.specs.Laws.{SnapshotPlansAreAccepted, SoundPlansAreAccepted};
-ghost use Rattle.acceptance.specs.Reports.{SoundReportsAreAccepted};
-ghost use Rattle.acceptance.specs.Transcripts.{TranscriptsAreAccepted, TranscriptsAreSound};
+ghost use Rattle.acceptance.{specs.Laws.{SnapshotPlansAreAccepted, SoundPlansAreAccepted}, specs.Reports.SoundReportsAreAccepted, specs.Transcripts.{TranscriptsAreAccepted, TranscriptsAreSound}};
 
 /// A plan whose parts are sound has no finding. The call does nothing, and takes no time.
 pub fn sound_plans_are_accepted()

@@ -1,12 +1,8 @@
 -- a caller's pass, and what it has seen
 use Rattle.std.proofs.Common.{◌≡◌, List, Option, None, Some, length, refl, subst, true}
 use Rattle.plan_terms.specs.Terms.{Demand, Entry, Network, States}
-use Rattle.cut_pool.specs.contracts.board.BoardChronicle.TheImpl.{ghosts}
-use Rattle.cut_pool.specs.declared.board.Board.{Board}
-use Rattle.turn_lock.specs.declared.desk.Desk.{Desk}
-use Rattle.turn_lock.specs.declared.desk.Pass.{Pass}
-use Rattle.turn_lock.specs.declared.desk.Turn.{Turn}
-use Rattle.turn_lock.specs.Terms.{are_places, IsPassOf, items_at}
+use Rattle.cut_pool.{specs.contracts.board.BoardChronicle.TheImpl.ghosts, specs.declared.board.Board.Board}
+use Rattle.turn_lock.{specs.declared.desk.Desk.Desk, specs.declared.desk.Pass.Pass, specs.declared.desk.Turn.Turn, specs.Terms.{are_places, IsPassOf, items_at}}
 use Rattle.board_desk.specs.Turns.{IsPassThere, places_in, seen_in}
 
 -- a desk with a board, a pass of one, and a turn at one

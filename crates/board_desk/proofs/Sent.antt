@@ -4,9 +4,9 @@ use denote.RattleType.{RattleType}
 use denote.Struct.Declared.{shape}
 use denote.Struct.Tuple.{Tuple}
 use denote.Param.Send.{IsSend, recorded_send, sendable, shr_send, struct_send}
-use Rattle.std.proofs.Common.{[], ◌∷◌}
-use Rattle.std.specs.contracts.option.Option.{the_field as option_of}
+use Rattle.std.{proofs.Common.{[], ◌∷◌}, specs.contracts.option.Option.{the_field as option_of}}
 use Rattle.net_core.proofs.Library.{crosses}
+use Rattle.cut_pool.specs.contracts.board.BoardChronicle.TheImpl.{ghosts}
 use Rattle.net_core.specs.contracts.demand.Demand as demand
 use Rattle.net_core.specs.contracts.journal.Entry as entry
 use Rattle.net_core.specs.contracts.list.List as list
@@ -20,7 +20,6 @@ use Rattle.turn_lock.proofs.desk.Pass.TheSendSync as passes
 use Rattle.cut_pool.proofs.pooled_cut.PooledCut.TheSendSync as pools
 use Rattle.cut_pool.specs.contracts.board.Board as board
 use Rattle.cut_pool.specs.contracts.entries.Told as told
-use Rattle.cut_pool.specs.contracts.board.BoardChronicle.TheImpl.{ghosts}
 use Rattle.board_desk.specs.contracts.caller.Caller as caller
 
 -- the origin of a board, as a type of the language

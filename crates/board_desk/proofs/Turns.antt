@@ -3,17 +3,11 @@ use Rattle.std.proofs.Common.{◌≡◌, ◌∙◌, ℕ, ◌-◌, ◌++◌, List
 use Rattle.net_core.proofs.Library.{range_with_len}
 use Rattle.plan_terms.specs.Terms.{Edit, Entry, Edited, Pooled}
 use Rattle.metric_cut.specs.declared.cut.Cut.{Cut}
-use Rattle.cut_pool.specs.declared.answers.AdmitAnswer.{AdmitAnswer}
-use Rattle.cut_pool.specs.declared.answers.AdmitAnswer.TheVariants as admitting
-use Rattle.cut_pool.specs.declared.answers.EditAnswer.{EditAnswer}
-use Rattle.cut_pool.specs.declared.answers.EditAnswer.TheVariants as editing
-use Rattle.cut_pool.specs.declared.board.Board.{Board}
-use Rattle.cut_pool.specs.Terms.{AnswersAdmit, AnswersEdit, origin_of}
+use Rattle.cut_pool.{specs.declared.answers.AdmitAnswer.AdmitAnswer, specs.declared.answers.EditAnswer.EditAnswer, specs.declared.board.Board.Board, specs.Terms.{AnswersAdmit, AnswersEdit, origin_of}}
 use Rattle.turn_lock.specs.Terms.{IsPrefix, AreOfOneDesk, IsPassOf, own_places, own_units, seen_by, turn_history, turn_places, turn_units}
-use Rattle.board_desk.specs.declared.caller.Caller.{Caller}
-use Rattle.board_desk.specs.Turns.{HasTurn, IsPassThere, IsSameCaller, board_made, places_in, seen_in, units_in}
-use Rattle.board_desk.specs.inner.Endings.{IsGrown, cut_enters, edit_enters}
-use Rattle.board_desk.proofs.Passes.{BoardPass, BoardTurn, some_pass}
+use Rattle.board_desk.{specs.declared.caller.Caller.Caller, specs.Turns.{HasTurn, IsPassThere, IsSameCaller, board_made, places_in, seen_in, units_in}, specs.inner.Endings.{IsGrown, cut_enters, edit_enters}, proofs.Passes.{BoardPass, BoardTurn, some_pass}}
+use Rattle.cut_pool.specs.declared.answers.AdmitAnswer.TheVariants as admitting
+use Rattle.cut_pool.specs.declared.answers.EditAnswer.TheVariants as editing
 
 -- no entry more has no place
 place_of_none : (own : List ℕ) (before after : List Entry) → after ≡ before → own ≡ own ++ range_with_len (length before) (length after - length before)

@@ -1,18 +1,9 @@
 -- what a caller's turn does
-use Rattle.std.specs.Prelude.{◌≡◌, ℕ, ◌-◌, ◌++◌, List, [], length, IfOk, Option, None, Some}
-use Rattle.std.specs.List.{range_with_len}
-use Rattle.std.specs.declared.result.Result.{Result}
+use Rattle.std.{specs.Prelude.{◌≡◌, ℕ, ◌-◌, ◌++◌, List, [], length, IfOk, Option, None, Some}, specs.List.range_with_len, specs.declared.result.Result.Result}
 use Rattle.plan_terms.specs.Terms.{Edit, Entry, NoMemory}
 use Rattle.metric_cut.specs.declared.cut.Cut.{Cut}
-use Rattle.cut_pool.specs.declared.answers.AdmitAnswer.{AdmitAnswer}
-use Rattle.cut_pool.specs.declared.answers.EditAnswer.{EditAnswer}
-use Rattle.cut_pool.specs.declared.board.Board.{Board}
-use Rattle.cut_pool.specs.declared.snapshot.Snapshot.{Snapshot}
-use Rattle.cut_pool.specs.Terms.{AnswersAdmit, AnswersEdit, IsSnapshotOf, origin_of}
-use Rattle.turn_lock.specs.declared.chronicle.Chronicle.{Ghosts}
-use Rattle.turn_lock.specs.declared.desk.Desk.{Desk}
-use Rattle.turn_lock.specs.declared.desk.Pass.{Pass}
-use Rattle.turn_lock.specs.Terms.{IsPrefix, IsPassOf, Seen, opening_of, own_places, own_units, seen_of}
+use Rattle.cut_pool.{specs.declared.answers.AdmitAnswer.AdmitAnswer, specs.declared.answers.EditAnswer.EditAnswer, specs.declared.board.Board.Board, specs.declared.snapshot.Snapshot.Snapshot, specs.Terms.{AnswersAdmit, AnswersEdit, IsSnapshotOf, origin_of}}
+use Rattle.turn_lock.{specs.declared.chronicle.Chronicle.Ghosts, specs.declared.desk.Desk.Desk, specs.declared.desk.Pass.Pass, specs.Terms.{IsPrefix, IsPassOf, Seen, opening_of, own_places, own_units, seen_of}}
 use Rattle.board_desk.specs.declared.caller.Caller.{Caller}
 
 module _ {T I O : Type 0} {g : Ghosts T I O} where

@@ -1,5 +1,4 @@
-ghost use Rattle.std.specs.Prelude.{◌≡◌, ◌+◌, ◌-◌, ◌/◌, ◌<◌, ◌≤◌, ◌^◌, ◌++◌, [], None, Some, length};
-ghost use Rattle.std.specs.List.{range_with_len};
+ghost use Rattle.std.{specs.Prelude.{◌≡◌, ◌+◌, ◌-◌, ◌/◌, ◌<◌, ◌≤◌, ◌^◌, ◌++◌, [], None, Some, length}, specs.List.range_with_len};
 ghost use Rattle.plan_terms.specs.Terms.{graph, edit_need};
 ghost use Rattle.metric_cut.specs.Cuts.{IsCutOf};
 ghost use Rattle.turn_lock.specs.Terms.{IsPrefix, longer, merged, AreOfOneDesk, IsPassOf, own_units, seen_by, turn_history, turn_origin, turn_places, turn_units, own_places};

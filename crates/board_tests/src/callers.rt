@@ -1,6 +1,5 @@
 //! Tests of callers at a desk with a board.
-ghost use Rattle.std.specs.Prelude.{◌≡◌, ◌≤◌, ◌^◌, [], IfSome, length};
-ghost use Rattle.std.specs.Thread.{IsSync};
+ghost use Rattle.std.{specs.Prelude.{◌≡◌, ◌≤◌, ◌^◌, [], IfSome, length}, specs.Thread.IsSync};
 ghost use Rattle.plan_terms.specs.Terms.{graph};
 ghost use Rattle.metric_cut.specs.Cuts.{IsCutOf};
 ghost use Rattle.turn_lock.specs.Passes.{IsPassOf, opening_of, own_places, own_units};

@@ -1,8 +1,6 @@
 //! Tests of the hint board.
-ghost use Rattle.std.specs.Prelude.{◌≡◌, ◌≤◌, IfOk};
-ghost use Rattle.std.specs.Thread.{IsSync};
-ghost use Rattle.hint_board.specs.Hints.{IsHintOf, hint_links};
-ghost use Rattle.hint_board.specs.Priced.{AreHintLengths};
+ghost use Rattle.std.{specs.Prelude.{◌≡◌, ◌≤◌, IfOk}, specs.Thread.IsSync};
+ghost use Rattle.hint_board.{specs.Hints.{IsHintOf, hint_links}, specs.Priced.AreHintLengths};
 
 use hint_board::{Hint, HintBoard};
 use net_core::{Lengths, List, NoMemory};

@@ -1,16 +1,9 @@
 -- amounts of the modules of rows
-use Rattle.std.proofs.Common.{◌≡◌, ℕ, zero, suc, ◌+◌, ◌<◌, ◌≤◌, ◌++◌, List, [], ◌∷◌, All, AllPairs, Contains, Option, None, Some, IfSome, get_or, length, take, inl, inr, ⊎_elim, add-one, refl, sym, ap, ◌∙◌, subst, arith}
-use Rattle.std.specs.List.{AllZip}
-use Rattle.std.proofs.lemmas.List.Kept.{AllPairs-cons}
+use Rattle.std.{proofs.Common.{◌≡◌, ℕ, zero, suc, ◌+◌, ◌<◌, ◌≤◌, ◌++◌, List, [], ◌∷◌, All, AllPairs, Contains, Option, None, Some, IfSome, get_or, length, take, inl, inr, ⊎_elim, add-one, refl, sym, ap, ◌∙◌, subst, arith}, specs.List.AllZip, proofs.lemmas.List.Kept.AllPairs-cons}
 use Rattle.net_core.proofs.Library.{All-cons, All-head, All-tail, All-weaker}
 use Rattle.plan_terms.specs.Terms.{Link}
-use Rattle.tree_check.specs.Boxes.{span_at}
-use Rattle.tree_check.specs.declared.boxes.Span.{Span}
-use Rattle.box_program.specs.Solutions.{AreOfDifferentModules, HasAmount, IsAmountOf, IsCertificateOf, IsFree, IsMultiplierOf, IsSolutionOf, LiesIn, rounded_up}
-use Rattle.box_program.specs.declared.shape.ModuleRow.{ModuleRow}
-use Rattle.box_program.specs.declared.solution.Amount.{Amount}
-use Rattle.box_program.specs.declared.solution.Solution.{Solution}
-use Rattle.box_program.specs.inner.BoxRows.{AreRowsApart, AreRowsOf, HasRow, IsAmountAt, IsRowOf}
+use Rattle.tree_check.{specs.Boxes.span_at, specs.declared.boxes.Span.Span}
+use Rattle.box_program.{specs.Solutions.{AreOfDifferentModules, HasAmount, IsAmountOf, IsCertificateOf, IsFree, IsMultiplierOf, IsSolutionOf, LiesIn, rounded_up}, specs.declared.shape.ModuleRow.ModuleRow, specs.declared.solution.Amount.Amount, specs.declared.solution.Solution.Solution, specs.inner.BoxRows.{AreRowsApart, AreRowsOf, HasRow, IsAmountAt, IsRowOf}}
 
 module _ (den : ℕ) where
   amounts_suc : (rows : List ModuleRow) (amounts : List Amount) (i : ℕ) (d : ModuleRow) (a : Amount) → i < length rows

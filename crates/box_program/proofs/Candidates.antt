@@ -3,12 +3,8 @@ use Rattle.std.proofs.Common.{◌≡◌, ℕ, ◌+◌, ◌≤◌, ◌⊎◌, Lis
 use Rattle.net_core.proofs.Library.{cases_eq, slice_get_within}
 use Rattle.checked_fraction.specs.declared.row.Row.{Row}
 use Rattle.simplex_law.specs.Terms.{ColumnOf}
-use Rattle.simplex_core.specs.Terms.{GainsAt, IsGainingColumn, column_of}
-use Rattle.simplex_core.specs.declared.columns.Column.{Column}
-use Rattle.box_program.specs.declared.candidate.Candidate.{Candidate}
-use Rattle.box_program.specs.declared.program.Rated.{Rated}
-use Rattle.box_program.specs.inner.BoxPrograms.{AreBoxColumns, FindsColumn, GainsAtPlace, IsCandidateAt, IsListedColumn}
-use Rattle.box_program.proofs.Entries.{are_entries}
+use Rattle.simplex_core.{specs.Terms.{GainsAt, IsGainingColumn, column_of}, specs.declared.columns.Column.Column}
+use Rattle.box_program.{specs.declared.candidate.Candidate.Candidate, specs.declared.program.Rated.Rated, specs.inner.BoxPrograms.{AreBoxColumns, FindsColumn, GainsAtPlace, IsCandidateAt, IsListedColumn}, proofs.Entries.are_entries}
 
 same_some : {X : Type 0} (x y : X) → Some x ≡ Some y → x ≡ y
 same_some x y e = cc e

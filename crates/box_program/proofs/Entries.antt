@@ -2,8 +2,7 @@
 use Rattle.std.proofs.Common.{◌≡◌, ◌≢◌, ℕ, suc, ◌+◌, ◌<◌, ◌≤◌, ◌++◌, List, [], ◌∷◌, AllPairs, cond, length, refl, ⊎_elim, sym, ap, ◌∙◌, subst, arith, ℤ, pos, ◌+ℤ◌, ◌<ℤ◌, eq-eqb, ne_eqb}
 use Rattle.net_core.proofs.Library.{All-get_or, All-head, All-push, All-weaker, AllByRecursion, all_pairs_push, cases_eq, ints, recursion_from_All}
 use Rattle.checked_fraction.specs.Terms.{IsNarrow}
-use Rattle.simplex_core.specs.Terms.{AreEntries, HaveApartRows, IsEntry, entry_of}
-use Rattle.simplex_core.specs.declared.columns.Entry.{Entry}
+use Rattle.simplex_core.{specs.Terms.{AreEntries, HaveApartRows, IsEntry, entry_of}, specs.declared.columns.Entry.Entry}
 use Rattle.box_program.specs.inner.BoxPrograms.{AreBoxEntries, IsBoxBound, IsBoxEntry}
 
 zero_plus : (x : ℤ) → pos 0 +ℤ x ≡ x

@@ -2,13 +2,9 @@
 use Rattle.std.proofs.Common.{◌≡◌, ◌≢◌, ℕ, ◌+◌, ◌<◌, ◌++◌, List, [], ◌∷◌, All, Some, length, length-append, slice_get, ⊎_elim, sym, ap, ◌∙◌, subst, arith, ℤ, pos, ◌<ℤ◌}
 use Rattle.net_core.proofs.Library.{cases_eq, ints}
 use Rattle.checked_fraction.specs.Terms.{IsNarrow, num}
-use Rattle.simplex_law.specs.Terms.{ColumnOf, IsPacking, IsProgramColumn, IsSlack, unit_vector}
-use Rattle.simplex_law.proofs.Lemmas.{unit-other, unit-same}
-use Rattle.simplex_core.specs.Terms.{column_of}
-use Rattle.simplex_core.proofs.Starts.{each_push}
-use Rattle.box_program.specs.declared.program.Rated.{Rated}
-use Rattle.box_program.specs.inner.BoxPrograms.{AreBoxColumns, HasColumnMore, IsBoxBound, IsBoxColumn, IsListedColumn}
-use Rattle.box_program.proofs.Entries.{are_entries, entry_fits, takes_some}
+use Rattle.simplex_law.{specs.Terms.{ColumnOf, IsPacking, IsProgramColumn, IsSlack, unit_vector}, proofs.Lemmas.{unit-other, unit-same}}
+use Rattle.simplex_core.{specs.Terms.column_of, proofs.Starts.each_push}
+use Rattle.box_program.{specs.declared.program.Rated.Rated, specs.inner.BoxPrograms.{AreBoxColumns, HasColumnMore, IsBoxBound, IsBoxColumn, IsListedColumn}, proofs.Entries.{are_entries, entry_fits, takes_some}}
 
 pub columns_none : (rows : ℕ) → AreBoxColumns rows []
 columns_none rows k r e = absurd (cc e)

@@ -2,10 +2,8 @@
 use Rattle.std.proofs.Common.{◌≡◌, ◌≢◌, ℕ, ◌+◌, ◌<◌, ◌⊎◌, ◌++◌, List, [], ◌∷◌, length, inl, inr, ⊎_elim, sym, ◌∙◌, subst, arith}
 use Rattle.net_core.proofs.Library.{All-get_or, All-push, All-weaker, Contains-append_left, Contains-push, all_pairs_push, cases_eq}
 use Rattle.plan_terms.specs.Terms.{Link}
-use Rattle.tree_check.specs.Terms.{module_number, IsFixedSpan, span_at}
-use Rattle.tree_check.specs.declared.boxes.Span.{Span}
-use Rattle.box_program.specs.declared.shape.ModuleRow.{ModuleRow}
-use Rattle.box_program.specs.inner.BoxRows.{AreRowsApart, AreRowsBefore, AreRowsOf, HasRow, IsBefore, IsRowOf}
+use Rattle.tree_check.{specs.Terms.{module_number, IsFixedSpan, span_at}, specs.declared.boxes.Span.Span}
+use Rattle.box_program.{specs.declared.shape.ModuleRow.ModuleRow, specs.inner.BoxRows.{AreRowsApart, AreRowsBefore, AreRowsOf, HasRow, IsBefore, IsRowOf}}
 
 before_more : (k n e m : ℕ) → IsBefore k n e m → IsBefore k (n + 1) e m
 before_more k n e m is = ⊎_elim (λ lt. inl lt) (λ here. inr (here.0, omega (arith, here.1))) is

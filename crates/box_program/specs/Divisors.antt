@@ -1,6 +1,5 @@
 -- numbers that divide all numbers of lines
-use Rattle.std.specs.Prelude.{ℕ, ◌-◌, ◌↔◌, List, All}
-use Rattle.std.specs.Int.{◌∣◌}
+use Rattle.std.{specs.Prelude.{ℕ, ◌-◌, ◌↔◌, List, All}, specs.Int.◌∣◌}
 use Rattle.tree_check.specs.Terms.{Inequality, Tested}
 
 -- a number divides each coefficient of a line, and what the line asks for beyond what is given

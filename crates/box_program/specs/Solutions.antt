@@ -2,11 +2,8 @@
 use Rattle.std.specs.Prelude.{◌≡◌, ◌≢◌, ℕ, ◌+◌, ◌<◌, ◌≤◌, ◌^◌, ◌⊎◌, List, All, AllPairs, Contains, length, min}
 use Rattle.plan_terms.specs.Terms.{Link}
 use Rattle.master_bound.specs.declared.answer.Multiplier.{Multiplier}
-use Rattle.tree_check.specs.Terms.{module_number, IsFixedSpan, IsInSpan, span_at}
-use Rattle.tree_check.specs.declared.boxes.Span.{Span}
-use Rattle.tree_check.specs.declared.proof.BoxCert.{BoxCert}
-use Rattle.box_program.specs.declared.solution.Amount.{Amount}
-use Rattle.box_program.specs.declared.solution.Solution.{Solution}
+use Rattle.tree_check.{specs.Terms.{module_number, IsFixedSpan, IsInSpan, span_at}, specs.declared.boxes.Span.Span, specs.declared.proof.BoxCert.BoxCert}
+use Rattle.box_program.{specs.declared.solution.Amount.Amount, specs.declared.solution.Solution.Solution}
 
 -- module m of link e of the network has several counts in the box, or none
 pub record IsFree (links : List Link) (box : List (List Span)) (e m : ℕ) : Type 0 where

@@ -1,5 +1,4 @@
-ghost use Rattle.std.specs.Prelude.{ℕ, ◌↔◌, ◌<◌, All};
-ghost use Rattle.std.specs.Int.{◌∣◌};
+ghost use Rattle.std.{specs.Prelude.{ℕ, ◌↔◌, ◌<◌, All}, specs.Int.◌∣◌};
 ghost use Rattle.box_program.specs.Divisors.{IsCommonUnit, IsDivisorWith};
 
 use checked_fraction::gcd;

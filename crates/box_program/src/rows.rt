@@ -1,8 +1,7 @@
 ghost use Rattle.std.specs.Prelude.{◌≡◌, ◌+◌, ◌<◌, ◌≤◌, ◌^◌, All, IfOk, IfSome, OnOk, length, pos};
 ghost use Rattle.checked_fraction.specs.Terms.{IsNarrow};
 ghost use Rattle.tree_check.specs.Terms.{module_number};
-ghost use Rattle.box_program.specs.inner.BoxPrograms.{IsBoxBound};
-ghost use Rattle.box_program.specs.inner.BoxRows.{AreRowsBefore, AreRowsOf};
+ghost use Rattle.box_program.{specs.inner.BoxPrograms.IsBoxBound, specs.inner.BoxRows.{AreRowsBefore, AreRowsOf}};
 
 use crate::divisors::cost_unit;
 use crate::shape::{Cap, ModuleRow, Rows, Scale};

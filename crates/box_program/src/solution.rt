@@ -1,7 +1,5 @@
-ghost use Rattle.std.specs.Prelude.{◌≡◌, ◌<◌, ◌≤◌, ◌^◌, All, IfOk, IfSome, length};
-ghost use Rattle.std.specs.List.{AllZip};
-ghost use Rattle.box_program.specs.Solutions.{IsFrom, IsSolutionOf};
-ghost use Rattle.box_program.specs.inner.BoxRows.{AreRowsOf, IsAmountAt};
+ghost use Rattle.std.{specs.Prelude.{◌≡◌, ◌<◌, ◌≤◌, ◌^◌, All, IfOk, IfSome, length}, specs.List.AllZip};
+ghost use Rattle.box_program.{specs.Solutions.{IsFrom, IsSolutionOf}, specs.inner.BoxRows.{AreRowsOf, IsAmountAt}};
 
 use crate::certificate::certificate_of;
 use crate::columns::columns_of;

@@ -1,11 +1,8 @@
 -- the lines of a check
-use Rattle.std.specs.Prelude.{ℕ, zero, suc, List, [], ◌∷◌, ◌++◌, codes, decimal, flat_map, slice_get}
-use Rattle.std.specs.Option.{option_map_or}
+use Rattle.std.{specs.Prelude.{ℕ, zero, suc, List, [], ◌∷◌, ◌++◌, codes, decimal, flat_map, slice_get}, specs.Option.option_map_or}
 use Rattle.plan_terms.specs.Terms.{Demand, Link, Places}
 use Rattle.plan_report.specs.Terms.{demand_name, link_name, Outcome, Planned, Unsurvivable}
-use Rattle.report_checker.specs.Terms.{Finding, NotesDiffer, EntryDiffers, PoolCount, BadCut, PoolDiffers, VersionDiffers, DemandsDiffer, Survivable, BadPath}
-use Rattle.report_checker.specs.Terms.{NotCarried, Overloaded, CostDiffers, LocalCut, RightDiffers, PriceExceeded, CertificateWide, RawDiffers, BoundDiffers}
-use Rattle.report_checker.specs.Terms.{NotTight}
+use Rattle.report_checker.specs.Terms.{Finding, NotesDiffer, EntryDiffers, PoolCount, BadCut, PoolDiffers, VersionDiffers, DemandsDiffer, Survivable, BadPath, NotCarried, Overloaded, CostDiffers, LocalCut, RightDiffers, PriceExceeded, CertificateWide, RawDiffers, BoundDiffers, NotTight}
 use Rattle.text_kit.specs.Terms.{money_word}
 
 -- words, each after a space

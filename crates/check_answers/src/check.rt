@@ -1,8 +1,7 @@
 ghost use Rattle.std.specs.Prelude.{◌≡◌, IfOk, length};
 ghost use Rattle.plan_terms.specs.Terms.{case};
 ghost use Rattle.plan_report.specs.Terms.{known_of, IsReportInForm};
-ghost use Rattle.check_answers.specs.Findings.{accepted_line, rejected_line};
-ghost use Rattle.check_answers.specs.Checks.{IsJudged};
+ghost use Rattle.check_answers.{specs.Findings.{accepted_line, rejected_line}, specs.Checks.IsJudged};
 
 use crate::answer::Answer;
 use crate::finding::{accepted_line, rejected_line};

@@ -1,7 +1,6 @@
 -- the order of fractions, by whole parts and rests
-use Rattle.std.proofs.Common.{◌≡◌, ℕ, ◌+◌, ◌*◌, ◌/◌, ◌%◌, ◌<◌, ◌≤◌, ◌⊎◌, inl, inr, ⊎_elim, sym, ap, ◌∙◌, arith, nat_cmp, Less, Equal, Greater, div-add-mod'}
+use Rattle.std.{proofs.Common.{◌≡◌, ℕ, ◌+◌, ◌*◌, ◌/◌, ◌%◌, ◌<◌, ◌≤◌, ◌⊎◌, inl, inr, ⊎_elim, sym, ap, ◌∙◌, arith, nat_cmp, Less, Equal, Greater, div-add-mod'}, proofs.Math.Nat.{lt-div-mul-add, mul-le-mul_left}}
 use Rattle.net_core.proofs.Library.{nat_cmp_is, cases_order}
-use Rattle.std.proofs.Math.Nat.{lt-div-mul-add, mul-le-mul_left}
 
 -- two pairs compare alike where each order of the first is that of the second
 alike : (x y v w : ℕ) → (x < y → v < w) → (x ≡ y → v ≡ w) → (y < x → w < v) → nat_cmp x y ≡ nat_cmp v w

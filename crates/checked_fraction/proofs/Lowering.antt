@@ -1,11 +1,7 @@
 -- rows of given numbers in lowest terms
 use Rattle.std.proofs.Common.{◌≡◌, ℕ, ℤ, pos, ◌<◌, ◌/◌, unsigned_abs, refl, arith, inl, ◌<ℤ◌}
 use Rattle.net_core.proofs.Library.{ints}
-use Rattle.checked_fraction.specs.Rows.{IsReduced}
-use Rattle.checked_fraction.specs.Mixed.{IsTooWide}
-use Rattle.checked_fraction.specs.inner.Passes.{over, IsRowGcd, IsFirstOver}
-use Rattle.checked_fraction.specs.declared.wide.WideNumber.{WideNumber}
-use Rattle.checked_fraction.proofs.Reduced.{made}
+use Rattle.checked_fraction.{specs.Rows.IsReduced, specs.Mixed.IsTooWide, specs.inner.Passes.{over, IsRowGcd, IsFirstOver}, specs.declared.wide.WideNumber.WideNumber, proofs.Reduced.made}
 
 module _ (f : ℕ → ℤ) (n : ℕ) (whole : ℤ) (size g : ℕ) (positive : pos 0 <ℤ whole) (is : size ≡ unsigned_abs whole) (row : IsRowGcd f n size g) where
   is_whole : pos size ≡ whole

@@ -1,9 +1,7 @@
 -- there is one row in lowest terms
-use Rattle.std.proofs.Common.{ℕ, ℤ, zero, suc, pos, ◌≡◌, ◌+◌, ◌-◌, ◌*◌, ◌/◌, ◌%◌, ◌<◌, ◌*ℤ◌, unsigned_abs, sym, ap, subst, ◌∙◌, arith, ◌<ℤ◌, div-add-mod'}
+use Rattle.std.{proofs.Common.{ℕ, ℤ, zero, suc, pos, ◌≡◌, ◌+◌, ◌-◌, ◌*◌, ◌/◌, ◌%◌, ◌<◌, ◌*ℤ◌, unsigned_abs, sym, ap, subst, ◌∙◌, arith, ◌<ℤ◌, div-add-mod'}, proofs.Math.Nat.dvd-sub}
 use Rattle.net_core.proofs.Library.{◌∣◌, ints, unsigned_abs-mul, dvd_refl, dvd-zero, dvd_antisymm, *ℤ_comm, dvd-add, dvd-mul_left, dvd-mul_left_of_dvd, dvd_of_mul-dvd-mul_left, mul-div_cancel', positive_divisor}
-use Rattle.std.proofs.Math.Nat.{dvd-sub}
-use Rattle.checked_fraction.specs.Rows.{IsReduced}
-use Rattle.checked_fraction.proofs.Products.{regroup, moved, cancelled}
+use Rattle.checked_fraction.{specs.Rows.IsReduced, proofs.Products.{regroup, moved, cancelled}}
 
 pub divides_back : (g a b : ℕ) → g ∣ b → g ∣ a % b → g ∣ a
 divides_back g a b h r = subst (λ x. g ∣ x) (div-add-mod' a b) (dvd-add g (dvd-mul_left_of_dvd g h (a / b)) r)

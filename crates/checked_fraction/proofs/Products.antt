@@ -1,7 +1,6 @@
 -- products of signed numbers
-use Rattle.std.proofs.Common.{◌≡◌, ℕ, zero, suc, ◌+◌, ◌*◌, ◌^◌, ◌<◌, ◌≤◌, unsigned_abs, ap, sym, ◌∙◌, arith, ℤ, pos, negsuc, ◌+ℤ◌, ◌-ℤ◌, ◌*ℤ◌, ◌<ℤ◌, mul-le-mul_left}
+use Rattle.std.{proofs.Common.{◌≡◌, ℕ, zero, suc, ◌+◌, ◌*◌, ◌^◌, ◌<◌, ◌≤◌, unsigned_abs, ap, sym, ◌∙◌, arith, ℤ, pos, negsuc, ◌+ℤ◌, ◌-ℤ◌, ◌*ℤ◌, ◌<ℤ◌, mul-le-mul_left}, proofs.lemmas.Nat.mul-lt}
 use Rattle.net_core.proofs.Library.{*ℤ_comm, zero-*ℤ, ints, by_lt_z, unsigned_abs-mul}
-use Rattle.std.proofs.lemmas.Nat.{mul-lt}
 use borrow.Author.Differences.{up, down, sum_is_lem, product_is}
 
 pub regroup : (a b c : ℤ) → (a *ℤ b) *ℤ c ≡ a *ℤ (b *ℤ c)

@@ -1,7 +1,6 @@
 -- exact quotients of signed numbers
-use Rattle.std.proofs.Common.{◌≡◌, ℕ, ℤ, zero, suc, pos, negsuc, ◌<◌, ◌≤◌, ◌*◌, ◌/◌, ◌*ℤ◌, int_div, unsigned_abs, refl, ap, ◌∙◌, arith, div-mul-le_self}
+use Rattle.std.{proofs.Common.{◌≡◌, ℕ, ℤ, zero, suc, pos, negsuc, ◌<◌, ◌≤◌, ◌*◌, ◌/◌, ◌*ℤ◌, int_div, unsigned_abs, refl, ap, ◌∙◌, arith, div-mul-le_self}, proofs.Math.IntN.{neg_ℤ, pos-*ℤ-negsuc}}
 use Rattle.net_core.proofs.Library.{ints, mul-div_cancel', le-div, ◌∣◌}
-use Rattle.std.proofs.Math.IntN.{neg_ℤ, pos-*ℤ-negsuc}
 
 times_neg : (g q : ℕ) → pos g *ℤ neg_ℤ (pos q) ≡ neg_ℤ (pos (g * q))
 times_neg g zero = omega (arith, ints)

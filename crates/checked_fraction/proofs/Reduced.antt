@@ -1,13 +1,7 @@
 -- rows in lowest terms
 use Rattle.std.proofs.Common.{ℕ, ℤ, List, zero, suc, pos, ◌≡◌, ◌*◌, ◌/◌, ◌<◌, ◌*ℤ◌, ◌-ℤ◌, unsigned_abs, sym, ap, subst, ◌∙◌, arith, ◌<ℤ◌}
 use Rattle.net_core.proofs.Library.{◌∣◌, ints, unsigned_abs-mul, mul-dvd-mul_left, dvd_of_mul-dvd-mul_left, eq-one_of_dvd-one, mul-div_cancel', positive_divisor}
-use Rattle.checked_fraction.specs.Rows.{num, IsInLowestTerms, IsReduced}
-use Rattle.checked_fraction.specs.Mixed.{combined}
-use Rattle.checked_fraction.specs.inner.Passes.{IsRowGcd, IsFoundDivisor, IsTimes, raw, over}
-use Rattle.checked_fraction.specs.declared.mix.Mix.{Mix}
-use Rattle.checked_fraction.specs.declared.pivot.Found.{Found}
-use Rattle.checked_fraction.proofs.Products.{regroup, moved, mixed_times, nothing_taken}
-use Rattle.checked_fraction.proofs.Quotients.{exact_quotient}
+use Rattle.checked_fraction.{specs.Rows.{num, IsInLowestTerms, IsReduced}, specs.Mixed.combined, specs.inner.Passes.{IsRowGcd, IsFoundDivisor, IsTimes, raw, over}, specs.declared.mix.Mix.Mix, specs.declared.pivot.Found.Found, proofs.Products.{regroup, moved, mixed_times, nothing_taken}, proofs.Quotients.exact_quotient}
 
 -- each number divided by the greatest common divisor
 pub reduces : (f : ℕ → ℤ) (n whole g : ℕ) → 0 < whole → IsRowGcd f n whole g → IsReduced n f (pos whole) (over f g) (pos (whole / g))

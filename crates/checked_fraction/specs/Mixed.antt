@@ -1,7 +1,6 @@
 -- combined rows, and where they are too wide
 use Rattle.std.specs.Prelude.{ℕ, ℤ, ◌-ℤ◌, ◌*ℤ◌, ◌≡◌, ◌<◌, ◌≤◌, ◌^◌, unsigned_abs, ◌⊎◌}
-use Rattle.checked_fraction.specs.Rows.{IsNarrow, IsReduced}
-use Rattle.checked_fraction.specs.declared.wide.WideNumber.{WideNumber}
+use Rattle.checked_fraction.{specs.Rows.{IsNarrow, IsReduced}, specs.declared.wide.WideNumber.WideNumber}
 
 -- q times the row less p times the pivot row, number by number
 abbrev pub combined : (ℕ → ℤ) → ℤ → (ℕ → ℤ) → ℤ → ℕ → ℤ

@@ -1,6 +1,5 @@
 -- rows of whole numbers over one positive denominator
-use Rattle.std.specs.Prelude.{ℕ, ℤ, List, pos, ◌*ℤ◌, ◌<ℤ◌, ◌≡◌, ◌<◌, ◌^◌, get_or, unsigned_abs}
-use Rattle.std.specs.Int.{◌∣◌}
+use Rattle.std.{specs.Prelude.{ℕ, ℤ, List, pos, ◌*ℤ◌, ◌<ℤ◌, ◌≡◌, ◌<◌, ◌^◌, get_or, unsigned_abs}, specs.Int.◌∣◌}
 
 -- number k of a list, 0 after its end
 abbrev pub num : List ℤ → ℕ → ℤ

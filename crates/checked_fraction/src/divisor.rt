@@ -1,5 +1,4 @@
-ghost use Rattle.std.specs.Prelude.{◌≡◌, ◌<◌, ◌/◌, ◌^◌, IsTrue};
-ghost use Rattle.std.specs.Int.{◌∣◌};
+ghost use Rattle.std.{specs.Prelude.{◌≡◌, ◌<◌, ◌/◌, ◌^◌, IsTrue}, specs.Int.◌∣◌};
 
 /// A divisor, with what its exact quotients are guessed by. Each guess is tested by one product,
 /// which is far cheaper than a division of 128 bits.

@@ -1,7 +1,5 @@
 ghost use Rattle.std.specs.Prelude.{◌≡◌, ◌<◌, ◌≤◌, ◌^◌, ◌<ℤ◌, ℕ, pos, length, unsigned_abs, None, IfSome, OnOk, OnErr, IfErr};
-ghost use Rattle.checked_fraction.specs.Rows.{num, IsNarrow, IsReduced};
-ghost use Rattle.checked_fraction.specs.Mixed.{IsTooWide};
-ghost use Rattle.checked_fraction.specs.inner.Passes.{over, IsRowGcd, IsWithin, IsFirstOver};
+ghost use Rattle.checked_fraction.{specs.Rows.{num, IsNarrow, IsReduced}, specs.Mixed.IsTooWide, specs.inner.Passes.{over, IsRowGcd, IsWithin, IsFirstOver}};
 
 use crate::divisor::Divisor;
 use crate::mix::{WIDE, divided, narrowed};

@@ -1,6 +1,5 @@
 ghost use Rattle.std.specs.Prelude.{◌≡◌, ◌<◌, ◌^◌, ◌-ℤ◌, ◌*ℤ◌, pos, int_div, length, unsigned_abs};
-ghost use Rattle.checked_fraction.specs.Rows.{IsNarrow};
-ghost use Rattle.checked_fraction.specs.inner.Passes.{CanMix, raw, over};
+ghost use Rattle.checked_fraction.{specs.Rows.IsNarrow, specs.inner.Passes.{CanMix, raw, over}};
 
 use crate::divisor::Divisor;
 use crate::sum::product;

@@ -1,8 +1,5 @@
-ghost use Rattle.std.specs.Prelude.{◌≡◌, ◌<◌, ◌≤◌, ◌^◌, ◌*◌, ◌*ℤ◌, ◌<ℤ◌, ℕ, pos, length, unsigned_abs, IfSome, None, OnOk, OnErr, IfErr, IfOk};
-ghost use Rattle.std.specs.Int.{IsGcd};
-ghost use Rattle.checked_fraction.specs.Rows.{num, IsNarrow, IsReduced};
-ghost use Rattle.checked_fraction.specs.Mixed.{combined, IsTooWide, IsFirstWide};
-ghost use Rattle.checked_fraction.specs.inner.Passes.{CanMix, raw, over, IsSurvey, IsWithin, IsTimes, IsFoundDivisor};
+ghost use Rattle.std.{specs.Prelude.{◌≡◌, ◌<◌, ◌≤◌, ◌^◌, ◌*◌, ◌*ℤ◌, ◌<ℤ◌, ℕ, pos, length, unsigned_abs, IfSome, None, OnOk, OnErr, IfErr, IfOk}, specs.Int.IsGcd};
+ghost use Rattle.checked_fraction.{specs.Rows.{num, IsNarrow, IsReduced}, specs.Mixed.{combined, IsTooWide, IsFirstWide}, specs.inner.Passes.{CanMix, raw, over, IsSurvey, IsWithin, IsTimes, IsFoundDivisor}};
 
 use crate::divisor::Divisor;
 use crate::fraction::{gcd, word_gcd};

@@ -1,6 +1,5 @@
 ghost use Rattle.std.specs.Prelude.{◌≡◌, ◌<◌, ◌≤◌, ◌^◌, ◌<ℤ◌, ℕ, pos, length, unsigned_abs};
-ghost use Rattle.checked_fraction.specs.Rows.{num, IsNarrow, IsReduced};
-ghost use Rattle.checked_fraction.specs.inner.Passes.{over, IsRowGcd};
+ghost use Rattle.checked_fraction.{specs.Rows.{num, IsNarrow, IsReduced}, specs.inner.Passes.{over, IsRowGcd}};
 
 use crate::fraction::word_gcd;
 use crate::mix::quotient;

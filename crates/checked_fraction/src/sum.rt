@@ -1,6 +1,5 @@
 ghost use Rattle.std.specs.Prelude.{◌≡◌, ◌+◌, ◌<◌, ◌≤◌, ◌^◌, ◌+ℤ◌, ◌-ℤ◌, ◌*ℤ◌, ◌/◌, ◌%◌, ◌<ℤ◌, ◌≤ℤ◌, ◌↔◌, pos, unsigned_abs, IsTrue};
-ghost use Rattle.checked_fraction.specs.Rows.{IsNarrow};
-ghost use Rattle.checked_fraction.specs.Totals.{total, IsExact, HasRoom};
+ghost use Rattle.checked_fraction.{specs.Rows.IsNarrow, specs.Totals.{total, IsExact, HasRoom}};
 
 /// A running sum of products of narrow numbers, as `high * 2^62 + low`. It need not fit into 128 bits:
 /// there is room for 2^62 products at least. It takes 32 bytes, and each call a fixed number of steps and no memory.

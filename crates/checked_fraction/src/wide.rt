@@ -1,6 +1,5 @@
 ghost use Rattle.std.specs.Prelude.{◌≡◌, ◌<◌, ◌^◌, pos, length, None, IfSome};
-ghost use Rattle.checked_fraction.specs.Mixed.{IsFirstWide};
-ghost use Rattle.checked_fraction.specs.inner.Passes.{CanMix, raw, over, IsWithin};
+ghost use Rattle.checked_fraction.{specs.Mixed.IsFirstWide, specs.inner.Passes.{CanMix, raw, over, IsWithin}};
 
 use crate::divisor::Divisor;
 use crate::mix::{Mix, WIDE, reduced_at};

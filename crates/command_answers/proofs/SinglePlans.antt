@@ -2,12 +2,10 @@
 use Rattle.std.proofs.Common.{◌≡◌, ℕ, List, refl, inl}
 use Rattle.plan_terms.specs.Terms.{Notes, Case}
 use Rattle.plan_report.specs.Terms.{known_to, SpellsReport, report_text}
-use Rattle.plan_import.specs.Terms.{IsTranscript, plan_commands, PlannedReport}
+use Rattle.plan_import.{specs.Terms.{IsTranscript, plan_commands, PlannedReport}, proofs.Lemmas.lone_plans_are_accepted}
 use Rattle.proof_report.specs.Terms.{whole_report}
-use Rattle.plan_import.proofs.Lemmas.{lone_plans_are_accepted}
+use Rattle.check_answers.{specs.declared.status.Status.Status, specs.declared.status.Status.TheVariants.Done}
 use Rattle.command_answers.specs.Answers.{EndsPlan, IsPlanReport, IsSummary, summary}
-use Rattle.check_answers.specs.declared.status.Status.{Status}
-use Rattle.check_answers.specs.declared.status.Status.TheVariants.{Done}
 
 module _ (p : Case) (notes : Notes) (r : PlannedReport) (t : IsTranscript p notes plan_commands (whole_report r)) where
   -- its text is the report of a plan

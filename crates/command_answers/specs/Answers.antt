@@ -4,19 +4,14 @@ use Rattle.plan_terms.specs.Terms.{Notes, Three, Case}
 use Rattle.plan_report.specs.Terms.{known_to, SpellsReport, report_text, Plan, Quality, Tight, Loose, Planned, Report}
 use Rattle.report_checker.specs.Terms.{IsBelowAllAble, HasNoFinding}
 use Rattle.session_script.specs.declared.script.Command.{Command}
-use Rattle.plan_import.specs.Terms.{IsTranscript, PlannedReport, plan_commands}
+use Rattle.plan_import.{specs.Terms.{IsTranscript, PlannedReport, plan_commands}, specs.ImportedPlans.{HasImportFault, IsImportedReport}}
 use Rattle.sample_net.specs.Samples.{sample_demands, sample_links, sample_nodes, with_single_failures}
 use Rattle.flow_file.specs.declared.flow.FlowFile.{FlowFile}
 use Rattle.flow_import.specs.declared.fault.ImportFault.{ImportFault}
-use Rattle.proof_report.specs.Terms.{whole_report, Block, block_lines, IsTrimmedReport, AreCharged}
-use Rattle.plan_import.specs.ImportedPlans.{HasImportFault, IsImportedReport}
-use Rattle.proof_report.specs.ProvedReports.{IsProvedReport, proved_report, proof_text}
-use Rattle.proof_report.specs.declared.ending.ProvedReport.{ProvedReport}
+use Rattle.proof_report.{specs.Terms.{whole_report, Block, block_lines, IsTrimmedReport, AreCharged}, specs.ProvedReports.{IsProvedReport, proved_report, proof_text}, specs.declared.ending.ProvedReport.ProvedReport}
 use Rattle.text_kit.specs.Terms.{money_word}
+use Rattle.check_answers.{specs.Separations.NamesFirstSeparation, specs.declared.status.Status.Status, specs.declared.status.Status.TheVariants.{Done, BadNetwork, NotSurvivable, BadImport}}
 use Rattle.command_answers.specs.ImportFaults.{import_fault_line}
-use Rattle.check_answers.specs.Separations.{NamesFirstSeparation}
-use Rattle.check_answers.specs.declared.status.Status.{Status}
-use Rattle.check_answers.specs.declared.status.Status.TheVariants.{Done, BadNetwork, NotSurvivable, BadImport}
 
 -- ---- reports
 

@@ -3,8 +3,8 @@ use Rattle.std.specs.Prelude.{ℕ, List, [], ◌∷◌, ◌++◌, codes}
 use Rattle.plan_terms.specs.Terms.{Case}
 use Rattle.plan_report.specs.Terms.{demand_name, link_name, node_name, state_name}
 use Rattle.flow_import.specs.declared.fault.ImportFault.{ImportFault}
-use Rattle.flow_import.specs.declared.fault.ImportFault.TheVariants as import_fault
 use Rattle.check_answers.specs.Findings.{spaced}
+use Rattle.flow_import.specs.declared.fault.ImportFault.TheVariants as import_fault
 
 -- the words of an import's fault: what it is, and the names of the state, of the link or the demand, and of the node
 abbrev pub import_fault_words : Case → ImportFault → List (List ℕ)

@@ -1,13 +1,11 @@
 ghost use Rattle.std.specs.Prelude.{◌≡◌, ◌++◌, ◌∷◌, [], IfOk, OnOk};
 ghost use Rattle.plan_terms.specs.Terms.{case, case_of};
 ghost use Rattle.plan_report.specs.Terms.{known_of};
-ghost use Rattle.flow_file.specs.FlowFiles.{IsFlowFile};
-ghost use Rattle.flow_file.specs.declared.flow.FlowFile.{FlowFile as File};
+ghost use Rattle.flow_file.{specs.FlowFiles.IsFlowFile, specs.declared.flow.FlowFile.{FlowFile as File}};
 ghost use Rattle.proof_report.specs.Terms.{whole_report};
 ghost use Rattle.plan_import.specs.ImportedPlans.{HasImportFault, IsImportEnding, IsImportedReport};
 ghost use Rattle.check_answers.specs.Findings.{spaced};
-ghost use Rattle.command_answers.specs.ImportFaults.{import_fault_line, import_fault_words};
-ghost use Rattle.command_answers.specs.Answers.{EndsImported};
+ghost use Rattle.command_answers.{specs.ImportFaults.{import_fault_line, import_fault_words}, specs.Answers.EndsImported};
 
 use crate::plan::{planned, separated};
 use check_answers::{Answer, Status, put_word};

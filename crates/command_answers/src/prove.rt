@@ -1,9 +1,8 @@
 ghost use Rattle.std.specs.Prelude.{◌≡◌, ◌≤◌, IfOk};
 ghost use Rattle.plan_terms.specs.Terms.{case, case_of};
-ghost use Rattle.proof_report.specs.Terms.{AreCharged};
-ghost use Rattle.proof_report.specs.ProvedReports.{IsProofEnding, IsProvedReport};
-ghost use Rattle.command_answers.specs.Answers.{EndsProve, EndsCharged, free_module_line};
+ghost use Rattle.proof_report.{specs.Terms.AreCharged, specs.ProvedReports.{IsProofEnding, IsProvedReport}};
 ghost use Rattle.check_answers.specs.declared.status.Status.{Status};
+ghost use Rattle.command_answers.specs.Answers.{EndsProve, EndsCharged, free_module_line};
 
 use crate::plan::separated;
 use check_answers::{Answer, Status};

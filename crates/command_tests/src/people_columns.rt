@@ -1,8 +1,8 @@
 use crate::people_runs::ends_with;
 use crate::runs::{shelf_with, words_of};
-use people_commands::Status;
 use net_core::{Bytes, List, Name, NoMemory};
 use outside_io::MemFile;
+use people_commands::Status;
 use std::alloc::Global;
 use std::sync::Wait;
 use std::thread::Threads;

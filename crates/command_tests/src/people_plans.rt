@@ -1,8 +1,8 @@
 use check_answers::Status;
-use people_commands::people_plans::{PlanAnswer, plan_for_people};
-use people_commands::people_views::view_report;
 use net_core::{Bytes, Module, Problem};
 use outside_io::OpenGate;
+use people_commands::people_plans::{PlanAnswer, plan_for_people};
+use people_commands::people_views::view_report;
 use std::alloc::Global;
 use std::sync::Wait;
 use std::thread::Threads;

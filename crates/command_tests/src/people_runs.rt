@@ -1,8 +1,8 @@
 use crate::people_files::all_files;
 use crate::runs::{shelf_with, sink_of, words_of};
+use outside_io::{MemShelf, MemSink, Shelf, Sink};
 use people_commands::Status;
 use people_commands::run::run;
-use outside_io::{MemShelf, MemSink, Shelf, Sink};
 use plan_progress::NoTeller;
 use std::alloc::Global;
 use std::sync::Wait;

@@ -64,22 +64,22 @@ const TRIMS: [Trim; 7] = [
 ];
 
 /// Whether the lines that begin with `#` begin like this, one after another.
-fn comments_begin(text: &str, fronts: &[&str]) -> bool {
+fn comments_begin(text: &str, commands: &[&str]) -> bool {
     let mut found = 0;
     for line in text.lines() {
         if line.starts_with("#") {
-            if found >= fronts.len() || !line.starts_with(fronts[found]) {
+            if found >= commands.len() || !line.starts_with(commands[found]) {
                 return false;
             }
             found += 1;
         }
     }
-    found == fronts.len()
+    found == commands.len()
 }
 
 /// Whether the text of a row contains what the row says, and its report is accepted.
 fn trims<R: AllocGlobal + Threads + Wait + Sync>(rt: &R, row: &Trim) -> bool {
-    let (words, check, cost, fronts) = *row;
+    let (words, check, cost, commands) = *row;
     let Some(run) = run_words(rt, words, &[], &[], &[]) else {
         return false;
     };
@@ -88,7 +88,7 @@ fn trims<R: AllocGlobal + Threads + Wait + Sync>(rt: &R, row: &Trim) -> bool {
     let text = run.text();
     run.status == Status::Done
         && text.contains(cost)
-        && comments_begin(text, fronts)
+        && comments_begin(text, commands)
         && comes_to(rt, check, &files, 4, answer)
 }
 

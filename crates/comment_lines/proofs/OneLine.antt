@@ -1,9 +1,6 @@
 -- words that end no line
-use Rattle.std.proofs.Common.{◌≡◌, ℕ, ◌+◌, ◌%◌, ◌^◌, ◌<◌, ◌==◌, Bool, true, false, not, List, [], ◌∷◌, ◌++◌, decimal, refl, sym, ap, ◌∙◌, arith, append_assoc, append-nil, eqb-true, ne_eqb}
-use Rattle.net_core.proofs.Library.{AllByRecursion, and_from, and_parts, list_all}
-use Rattle.std.proofs.lemmas.Fmt.{decimal_by_steps_wide}
-use Rattle.std.proofs.lemmas.List.Folds.{list_all-append}
-use Rattle.net_core.specs.Terms.{IsName, is_word_byte}
+use Rattle.std.{proofs.Common.{◌≡◌, ℕ, ◌+◌, ◌%◌, ◌^◌, ◌<◌, ◌==◌, Bool, true, false, not, List, [], ◌∷◌, ◌++◌, decimal, refl, sym, ap, ◌∙◌, arith, append_assoc, append-nil, eqb-true, ne_eqb}, proofs.lemmas.Fmt.decimal_by_steps_wide, proofs.lemmas.List.Folds.list_all-append}
+use Rattle.net_core.{proofs.Library.{AllByRecursion, and_from, and_parts, list_all}, specs.Terms.{IsName, is_word_byte}}
 use Rattle.text_kit.specs.Terms.{Item, Whole, word_of}
 use Rattle.comment_lines.specs.Comments.{AddsSpaced, HasOneLine, IsOneLine, spaced_items}
 

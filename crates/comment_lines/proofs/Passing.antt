@@ -1,17 +1,10 @@
 -- comments after the last line of a text begin no token
-use Rattle.std.proofs.Common.{◌≡◌, ℕ, zero, suc, ◌+◌, ◌-◌, ◌<◌, ◌≤◌, ◌==◌, min, Bool, true, false, cond, not, List, [], ◌∷◌, ◌++◌, length, drop, take, refl, sym, ap, subst, ◌∙◌, arith, append_assoc, length-append, length-drop, flat_map, All, ⊎_elim}
-use Rattle.std.proofs.Math.Seq.{drop-append_seam, drop-length}
-use Rattle.std.proofs.lemmas.List.{drop-append-le, take-append-le, length-take}
-use Rattle.net_core.proofs.Library.{All-head, All-tail, and_parts, cases_lt, list_all, prefix_len, prefix_len-le-length}
-use Rattle.net_core.specs.Terms.{is_word_byte}
-use Rattle.snd_tokens.specs.declared.token.Token.{Token}
-use Rattle.snd_tokens.specs.declared.token.TokenKind.{TokenKind}
-use Rattle.snd_tokens.specs.declared.token.TokenKind.TheVariants as kinds
-use Rattle.snd_tokens.specs.Terms.{begun, extent, first_line, line_length, run_length, second_line, starts_token, text_from, text_of, token_bytes, token_of, tokens_from, tokens_past, Text, EndAt, trimmed}
-use Rattle.snd_tokens.specs.Lexemes.{put_before}
+use Rattle.std.{proofs.Common.{◌≡◌, ℕ, zero, suc, ◌+◌, ◌-◌, ◌<◌, ◌≤◌, ◌==◌, min, Bool, true, false, cond, not, List, [], ◌∷◌, ◌++◌, length, drop, take, refl, sym, ap, subst, ◌∙◌, arith, append_assoc, length-append, length-drop, flat_map, All, ⊎_elim}, proofs.Math.Seq.{drop-append_seam, drop-length}, proofs.lemmas.List.{drop-append-le, take-append-le, length-take}}
+use Rattle.net_core.{proofs.Library.{All-head, All-tail, and_parts, cases_lt, list_all, prefix_len, prefix_len-le-length}, specs.Terms.is_word_byte}
+use Rattle.snd_tokens.{specs.declared.token.Token.Token, specs.declared.token.TokenKind.TokenKind, specs.Terms.{begun, extent, first_line, line_length, run_length, second_line, starts_token, text_from, text_of, token_bytes, token_of, tokens_from, tokens_past, Text, EndAt, trimmed}, specs.Lexemes.put_before}
 use Rattle.text_kit.specs.Terms.{Begins, Item, SpellsItem}
-use Rattle.comment_lines.specs.Comments.{IsOneLine, commented}
-use Rattle.comment_lines.specs.Laws.{CommentsAreNoItems}
+use Rattle.comment_lines.{specs.Comments.{IsOneLine, commented}, specs.Laws.CommentsAreNoItems}
+use Rattle.snd_tokens.specs.declared.token.TokenKind.TheVariants as kinds
 
 -- ---- runs that end before the end of a line
 

@@ -1,8 +1,7 @@
 -- items that are put one after another, each after a space
 use Rattle.std.proofs.Common.{◌≡◌, ℕ, ◌+◌, ◌<◌, ◌≤◌, List, [], ◌∷◌, ◌++◌, length, get_or, take, refl, sym, ap, subst, ◌∙◌, append_assoc, append-nil, flat_map, Result, OnOk, take_all}
 use Rattle.net_core.proofs.Library.{AllByRecursion, flat_map-append, take_more}
-use Rattle.text_kit.specs.Terms.{Item, Opening, Closing, enclosed, word_of}
-use Rattle.text_kit.proofs.Lemmas.{on_ok}
+use Rattle.text_kit.{specs.Terms.{Item, Opening, Closing, enclosed, word_of}, proofs.Lemmas.on_ok}
 use Rattle.comment_lines.specs.Comments.{AddsSpaced, HasOneLine, spaced_items}
 
 pub spaced_both : (a b : List Item) → spaced_items (a ++ b) ≡ spaced_items a ++ spaced_items b

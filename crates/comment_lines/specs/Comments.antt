@@ -1,6 +1,5 @@
 -- comment lines: a `#`, and words, each after one space
-use Rattle.std.specs.Prelude.{◌≡◌, ℕ, ◌==◌, true, List, [], ◌∷◌, ◌++◌, All, flat_map, not}
-use Rattle.std.specs.List.{AllByRecursion, list_all}
+use Rattle.std.{specs.Prelude.{◌≡◌, ℕ, ◌==◌, true, List, [], ◌∷◌, ◌++◌, All, flat_map, not}, specs.List.{AllByRecursion, list_all}}
 use Rattle.text_kit.specs.Terms.{Item, word_of}
 
 -- the words of items, each after one space

@@ -1,6 +1,5 @@
 ghost use Rattle.std.specs.Prelude.{◌≡◌, ◌++◌, IfOk, OnOk};
-ghost use Rattle.csv.specs.Records.{fields_of};
-ghost use Rattle.csv.specs.Writing.{default_writer, row_text};
+ghost use Rattle.csv.{specs.Records.fields_of, specs.Writing.{default_writer, row_text}};
 ghost use Rattle.csv_rows.specs.CommaSeparated.{csv_text};
 
 use csv::{ByteRecord, WriterBuilder};

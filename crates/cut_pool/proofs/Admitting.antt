@@ -1,14 +1,8 @@
 -- cuts that a board admits
 use Rattle.std.proofs.Common.{◌≡◌, ◌∙◌, ℕ, List, None, Option, length, ap, sym, position}
 use Rattle.plan_terms.specs.Terms.{Pooled, graph_in}
-use Rattle.metric_cut.specs.Cuts.{IsCutOf}
-use Rattle.metric_cut.specs.declared.cut.Cut.{Cut}
-use Rattle.cut_pool.specs.declared.board.Board.{Board}
-use Rattle.cut_pool.specs.declared.pooled_cut.PooledCut.{PooledCut}
-use Rattle.cut_pool.specs.Boards.{IsNew, opening_case}
-use Rattle.cut_pool.specs.Histories.{IsLegalAfter, cuts_of}
-use Rattle.cut_pool.specs.inner.Pooling.{is_pooled_cut}
-use Rattle.cut_pool.proofs.Told.{count_told, new_told}
+use Rattle.metric_cut.{specs.Cuts.IsCutOf, specs.declared.cut.Cut.Cut}
+use Rattle.cut_pool.{specs.declared.board.Board.Board, specs.declared.pooled_cut.PooledCut.PooledCut, specs.Boards.{IsNew, opening_case}, specs.Histories.{IsLegalAfter, cuts_of}, specs.inner.Pooling.is_pooled_cut, proofs.Told.{count_told, new_told}}
 
 module _ (b : Board) where
   pub board_count : length b.pool ≡ length (cuts_of b.entries)

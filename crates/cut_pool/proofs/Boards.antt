@@ -3,15 +3,8 @@ use Rattle.std.proofs.Common.{◌≡◌, ◌∙◌, ℕ, ◌<◌, ◌++◌, List
 use Rattle.net_core.proofs.Library.{∥∥₁_elim, props, get_or-map, length-map, map-append, All-map, All-push}
 use Rattle.plan_terms.specs.Terms.{Demand, Edit, Entry, Edited, Pooled, Reply, CutLine, Case, graph_in, Joins, IsRight, Answered, edit_reply, version_after}
 use Rattle.demand_book.specs.declared.book.Book.{Book}
-use Rattle.metric_cut.specs.Cuts.{IsCutOf}
-use Rattle.metric_cut.specs.declared.cut.Cut.{Cut}
-use Rattle.cut_pool.specs.declared.pooled_cut.PooledCut.{PooledCut}
-use Rattle.cut_pool.specs.Histories.{Dated, IsBoardAfter, IsLegalAfter, cut_of_line, cuts_of, demands_left, left_by, left_by_entry, version_left}
-use Rattle.cut_pool.specs.Pools.{ArePooledCuts, line_of_pooled}
-use Rattle.cut_pool.specs.inner.Pooling.{StandsAt}
-use Rattle.cut_pool.proofs.Following.{stands_now}
-use Rattle.cut_pool.proofs.Growing.{cuts_more, left_more, legal_more}
-use Rattle.cut_pool.proofs.Sides.{IsAtDemands}
+use Rattle.metric_cut.{specs.Cuts.IsCutOf, specs.declared.cut.Cut.Cut}
+use Rattle.cut_pool.{specs.declared.pooled_cut.PooledCut.PooledCut, specs.Histories.{Dated, IsBoardAfter, IsLegalAfter, cut_of_line, cuts_of, demands_left, left_by, left_by_entry, version_left}, specs.Pools.{ArePooledCuts, line_of_pooled}, specs.inner.Pooling.StandsAt, proofs.Following.stands_now, proofs.Growing.{cuts_more, left_more, legal_more}, proofs.Sides.IsAtDemands}
 
 -- what holds of the cuts of a pool holds where only their right sides change
 same_cuts : (P : Cut → Type 0) (old new : List PooledCut) → map (λ c. c.cut) new ≡ map (λ c. c.cut) old → All (λ c. P c.cut) old → All (λ c. P c.cut) new

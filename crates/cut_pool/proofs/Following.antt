@@ -1,20 +1,10 @@
 -- right sides that follow an edit
 use Rattle.std.proofs.Common.{◌≡◌, ◌∙◌, ℕ, ◌+◌, ◌*◌, ◌≤◌, ◌<◌, ◌^◌, List, [], ◌∷◌, ◌++◌, All, Option, None, Some, length, map, get_or, take, drop, slice_get, slice_index_or, sum_by, unwrap_or, zip, suc, refl, sym, ap, subst, arith, mul-le-mul_left, get_or-append-add, get_or-drop, length-take-le}
 use Rattle.net_core.proofs.Library.{∥∥₁_elim, props, get_or-map, length-map, same_lists, All-map, sum_by-cons, get_or_from_slice_get, slice_get_within}
-use Rattle.plan_terms.specs.Terms.{Demand, AreDemands, IsDemand, Graph, Joins, IsRight, total_need, without, IsDistance}
-use Rattle.plan_terms.proofs.Lemmas.{distance_one}
-use Rattle.short_paths.specs.declared.distance_table.DistanceTable.{DistanceTable}
-use Rattle.short_paths.specs.DistanceTables.{AreAllDistances, distance_at}
-use Rattle.short_paths.proofs.Lows.{table_low}
-use Rattle.metric_cut.specs.declared.cut.Cut.{Cut}
-use Rattle.metric_cut.specs.Cuts.{IsCutOf}
-use Rattle.metric_cut.specs.inner.Rights.{part_of}
-use Rattle.metric_cut.proofs.Sides.{sum_is_right}
-use Rattle.cut_pool.specs.declared.pooled_cut.PooledCut.{PooledCut}
-use Rattle.cut_pool.specs.declared.shares.NeedChange.{NeedChange}
-use Rattle.cut_pool.specs.inner.Pooling.{CanFollow, IsSomeCut, StandsAmong, StandsAt, followed}
-use Rattle.cut_pool.specs.inner.Shares.{IsShareIn, asked_by}
-use Rattle.cut_pool.proofs.Sides.{IsAtDemands}
+use Rattle.plan_terms.{specs.Terms.{Demand, AreDemands, IsDemand, Graph, Joins, IsRight, total_need, without, IsDistance}, proofs.Lemmas.distance_one}
+use Rattle.short_paths.{specs.declared.distance_table.DistanceTable.DistanceTable, specs.DistanceTables.{AreAllDistances, distance_at}, proofs.Lows.table_low}
+use Rattle.metric_cut.{specs.declared.cut.Cut.Cut, specs.Cuts.IsCutOf, specs.inner.Rights.part_of, proofs.Sides.sum_is_right}
+use Rattle.cut_pool.{specs.declared.pooled_cut.PooledCut.PooledCut, specs.declared.shares.NeedChange.NeedChange, specs.inner.Pooling.{CanFollow, IsSomeCut, StandsAmong, StandsAt, followed}, specs.inner.Shares.{IsShareIn, asked_by}, proofs.Sides.IsAtDemands}
 
 -- ---- a right side is the sum of what the demands ask for by the kept distances
 

@@ -1,7 +1,6 @@
 -- histories with one entry more
-use Rattle.std.proofs.Common.{◌≡◌, ◌∙◌, ℕ, ◌<◌, ◌≤◌, ◌++◌, List, [], ◌∷◌, Some, length, slice_get, get_or, take, refl, sym, ap, subst, arith, ⊎_elim}
+use Rattle.std.{proofs.Common.{◌≡◌, ◌∙◌, ℕ, ◌<◌, ◌≤◌, ◌++◌, List, [], ◌∷◌, Some, length, slice_get, get_or, take, refl, sym, ap, subst, arith, ⊎_elim}, proofs.lemmas.List.{length-append, take-append-le}}
 use Rattle.net_core.proofs.Library.{get_or-append_seam, take-append_seam, cases_lt, flat_map-append, get_or_append_left, get_or_from_slice_get, slice_get-get_or, slice_get_within}
-use Rattle.std.proofs.lemmas.List.{length-append, take-append-le}
 use Rattle.plan_terms.specs.Terms.{Entry, Case}
 use Rattle.cut_pool.specs.Histories.{Dated, IsLegalAfter, IsLegalHistory, cuts_of, left_by, left_by_entry, pooled_by}
 

@@ -4,9 +4,7 @@ use Rattle.net_core.proofs.Library.{cond-false, cond-true, cond_both, not_from_f
 use Rattle.plan_terms.specs.Terms.{Demand, Edit, Add, Drop, Set, Reply, Accepted, TooMuch, UnknownDemand, AreDemands, are_same, Answered, add_fault, added, edit_reply, is_demand, next_version, node_of, set_need, total_need, within_total, without}
 use Rattle.metric_cut.specs.inner.Rights.{part_of}
 use Rattle.demand_book.proofs.Changed.{all_kept, alone, is_same, remove_is}
-use Rattle.cut_pool.specs.declared.shares.DemandShare.{DemandShare}
-use Rattle.cut_pool.specs.inner.Shares.{IsShareIn, edit_name}
-use Rattle.cut_pool.proofs.Places.{passes_nowhere}
+use Rattle.cut_pool.{specs.declared.shares.DemandShare.DemandShare, specs.inner.Shares.{IsShareIn, edit_name}, proofs.Places.passes_nowhere}
 
 -- the share of a demand
 abbrev pub share_from : Demand → DemandShare

@@ -1,11 +1,8 @@
 -- the place of a cut in a pool
-use Rattle.std.proofs.Common.{◌≡◌, ◌≢◌, ◌∙◌, ◌<◌, ◌+◌, ℕ, zero, suc, Bool, true, false, cond, List, [], ◌∷◌, All, Option, Some, None, length, map, get_or, slice_get, refl, sym, ap, arith, position, Decides, option_map}
-use Rattle.std.specs.List.{position_from}
+use Rattle.std.{proofs.Common.{◌≡◌, ◌≢◌, ◌∙◌, ◌<◌, ◌+◌, ℕ, zero, suc, Bool, true, false, cond, List, [], ◌∷◌, All, Option, Some, None, length, map, get_or, slice_get, refl, sym, ap, arith, position, Decides, option_map}, specs.List.position_from, proofs.lemmas.Iterator.Adapters.position_from-zero}
 use Rattle.net_core.proofs.Library.{false≢true, Decides-and, Decides-eqb, get_or-map, length-map, position-Some, slice_get-get_or, slice_get-map, bytes_eq-Decides}
-use Rattle.std.proofs.lemmas.Iterator.Adapters.{position_from-zero}
 use Rattle.metric_cut.specs.declared.cut.Cut.{Cut}
-use Rattle.cut_pool.specs.declared.pooled_cut.PooledCut.{PooledCut}
-use Rattle.cut_pool.specs.inner.Pooling.{is_pooled_cut}
+use Rattle.cut_pool.{specs.declared.pooled_cut.PooledCut.PooledCut, specs.inner.Pooling.is_pooled_cut}
 
 -- a cut by its state and lengths
 abbrev pub with_state : Cut → ℕ × List ℕ

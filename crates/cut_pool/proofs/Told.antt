@@ -3,14 +3,7 @@ use Rattle.std.proofs.Common.{◌≡◌, ◌≢◌, ◌∙◌, ℕ, ◌<◌, ◌
 use Rattle.net_core.proofs.Library.{∥∥₁_elim, props, get_or-map, length-map, All-map, get_or_from_slice_get, slice_get-get_or, slice_get-map, slice_get_within}
 use Rattle.plan_terms.specs.Terms.{Demand, Entry, CutLine, Case, graph_in, Joins, IsCut, IsRight}
 use Rattle.metric_cut.specs.declared.cut.Cut.{Cut}
-use Rattle.cut_pool.specs.declared.pooled_cut.PooledCut.{PooledCut}
-use Rattle.cut_pool.specs.declared.board.Board.{Board}
-use Rattle.cut_pool.specs.Boards.{AreLinesNow, opening_case}
-use Rattle.cut_pool.specs.Histories.{IsBoardAfter, IsPoolAfter, cut_of_line, cuts_of, demands_left}
-use Rattle.cut_pool.specs.Pools.{ArePooledCuts, line_of_pooled}
-use Rattle.cut_pool.specs.inner.Pooling.{is_pooled_cut}
-use Rattle.cut_pool.proofs.Boards.{IsFollowed}
-use Rattle.cut_pool.proofs.Places.{known_at, new_of_all, with_state}
+use Rattle.cut_pool.{specs.declared.pooled_cut.PooledCut.PooledCut, specs.declared.board.Board.Board, specs.Boards.{AreLinesNow, opening_case}, specs.Histories.{IsBoardAfter, IsPoolAfter, cut_of_line, cuts_of, demands_left}, specs.Pools.{ArePooledCuts, line_of_pooled}, specs.inner.Pooling.is_pooled_cut, proofs.Boards.IsFollowed, proofs.Places.{known_at, new_of_all, with_state}}
 
 -- the case with the demands that entries leave
 abbrev case_now : Case → List Entry → Case

@@ -2,14 +2,9 @@
 use Rattle.std.specs.Prelude.{◌≡◌, ◌≢◌, ℕ, ◌<◌, ◌^◌, ◌++◌, List, [], ◌∷◌, All, Some, length, slice_get, true}
 use Rattle.plan_terms.specs.Terms.{Demand, Edit, Entry, Edited, Pooled, Network, States, CutLine, Case, graph_in, AreDemands, Joins, case, IsCut, IsRight}
 use Rattle.metric_cut.specs.declared.cut.Cut.{Cut}
-use Rattle.cut_pool.specs.declared.answers.AdmitAnswer.{AdmitAnswer}
+use Rattle.cut_pool.{specs.declared.answers.AdmitAnswer.AdmitAnswer, specs.declared.answers.EditAnswer.EditAnswer, specs.declared.board.Board.Board, specs.declared.snapshot.Snapshot.Snapshot, specs.Histories.{IsLegalAfter, IsPoolAfter, cuts_of, demands_left, version_left}, specs.Rooms.{left_spare, sets_known}}
 use Rattle.cut_pool.specs.declared.answers.AdmitAnswer.TheVariants as admitting
-use Rattle.cut_pool.specs.declared.answers.EditAnswer.{EditAnswer}
 use Rattle.cut_pool.specs.declared.answers.EditAnswer.TheVariants as editing
-use Rattle.cut_pool.specs.declared.board.Board.{Board}
-use Rattle.cut_pool.specs.declared.snapshot.Snapshot.{Snapshot}
-use Rattle.cut_pool.specs.Histories.{IsLegalAfter, IsPoolAfter, cuts_of, demands_left, version_left}
-use Rattle.cut_pool.specs.Rooms.{left_spare, sets_known}
 
 -- what a board was made with: its network, its states and its opening demands
 abbrev pub origin_of : Board → Network × States × List Demand

@@ -1,6 +1,5 @@
 -- histories of edits and pooled cuts, and what they leave; a case gives the network, its states and the opening demands
-use Rattle.std.specs.Prelude.{◌≡◌, ◌≢◌, ℕ, ◌≤◌, List, [], ◌∷◌, All, Some, length, map, slice_get, take}
-use Rattle.std.specs.List.{flat_map}
+use Rattle.std.{specs.Prelude.{◌≡◌, ◌≢◌, ℕ, ◌≤◌, List, [], ◌∷◌, All, Some, length, map, slice_get, take}, specs.List.flat_map}
 use Rattle.plan_terms.specs.Terms.{Demand, Entry, Edited, Pooled, CutLine, Case, graph_in, Joins, AreKept, IsRight, edit_reply, version_after}
 
 -- demands, and the version that counts the accepted edits

@@ -1,6 +1,5 @@
 ghost use Rattle.std.specs.Prelude.{◌≡◌, All, IfOk, map};
-ghost use Rattle.cut_pool.specs.Pools.{line_of_pooled};
-ghost use Rattle.cut_pool.specs.inner.Pooling.{StandsAmong};
+ghost use Rattle.cut_pool.{specs.Pools.line_of_pooled, specs.inner.Pooling.StandsAmong};
 
 use crate::pooled_cut::PooledCut;
 use net_core::{CutLine, Demands, List, NoMemory};

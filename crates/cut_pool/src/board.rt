@@ -1,8 +1,7 @@
 ghost use Rattle.std.specs.Prelude.{◌≡◌, ◌≤◌, ◌<◌, ◌-◌, ◌^◌, [], All, IfOk, IfErr, OnErr, OnOk, Some, length, map, max, slice_get};
 ghost use Rattle.plan_terms.specs.Terms.{AreDemands, case, graph, edit_need};
 ghost use Rattle.metric_cut.specs.Cuts.{IsCutOf};
-ghost use Rattle.cut_pool.specs.Histories.{IsBoardAfter, cuts_of, demands_left, version_left};
-ghost use Rattle.cut_pool.specs.Pools.{ArePooledCuts, line_of_pooled};
+ghost use Rattle.cut_pool.{specs.Histories.{IsBoardAfter, cuts_of, demands_left, version_left}, specs.Pools.{ArePooledCuts, line_of_pooled}};
 
 use crate::answers::{AdmitAnswer, EditAnswer};
 use crate::audit::{lines_with, rights_of};

@@ -1,8 +1,6 @@
-ghost use Rattle.std.specs.Prelude.{◌≡◌, ◌≤◌, ◌+◌, ◌<◌, ◌^◌, ◌++◌, [], ◌∷◌, All, IfOk, IfErr, OnErr, OnOk, length, map, max, true};
-ghost use Rattle.std.specs.Vec.{vec_capacity, vec_len};
+ghost use Rattle.std.{specs.Prelude.{◌≡◌, ◌≤◌, ◌+◌, ◌<◌, ◌^◌, ◌++◌, [], ◌∷◌, All, IfOk, IfErr, OnErr, OnOk, length, map, max, true}, specs.Vec.{vec_capacity, vec_len}};
 ghost use Rattle.plan_terms.specs.Terms.{Edited, Pooled, edit_need, edit_reply, version_after};
-ghost use Rattle.cut_pool.specs.Rooms.{left_spare, sets_known};
-ghost use Rattle.cut_pool.specs.inner.Pooling.{StandsAt};
+ghost use Rattle.cut_pool.{specs.Rooms.{left_spare, sets_known}, specs.inner.Pooling.StandsAt};
 
 use crate::entries::Told;
 use crate::follow::make_edit;

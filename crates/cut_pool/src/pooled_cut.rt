@@ -1,8 +1,6 @@
 ghost use Rattle.std.specs.Prelude.{◌≡◌, ◌<◌, ◌^◌, All, IfOk, length, map, position};
 ghost use Rattle.plan_terms.specs.Terms.{Pooled};
-ghost use Rattle.cut_pool.specs.Pools.{line_of_pooled};
-ghost use Rattle.cut_pool.specs.inner.Pooling.{CanFollow, IsSomeCut, StandsAmong, followed, is_pooled_cut};
-ghost use Rattle.cut_pool.specs.inner.Shares.{IsShareOfDemand, asked_by};
+ghost use Rattle.cut_pool.{specs.Pools.line_of_pooled, specs.inner.Pooling.{CanFollow, IsSomeCut, StandsAmong, followed, is_pooled_cut}, specs.inner.Shares.{IsShareOfDemand, asked_by}};
 
 use crate::shares::{DemandShare, NeedChange};
 use metric_cut::Cut;

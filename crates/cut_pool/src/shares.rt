@@ -1,6 +1,5 @@
 ghost use Rattle.std.specs.Prelude.{◌≡◌, ◌↔◌, IsTrue, length};
-ghost use Rattle.cut_pool.specs.Rooms.{sets_known};
-ghost use Rattle.cut_pool.specs.inner.Shares.{IsShareIn, IsShareOfDemand, edit_name};
+ghost use Rattle.cut_pool.{specs.Rooms.sets_known, specs.inner.Shares.{IsShareIn, IsShareOfDemand, edit_name}};
 
 use demand_book::Book;
 use net_core::{Demand, Edit, Name, NodeId};

@@ -1,10 +1,7 @@
 -- what an edit makes of the demands
-use Rattle.std.proofs.Common.{◌≡◌, ◌≢◌, ◌<◌, ◌≤◌, ◌+◌, ◌-◌, ◌^◌, ℕ, zero, suc, Bool, true, false, cond, not, ◌||◌, List, [], ◌∷◌, ◌++◌, length, get_or, map, Some, None, refl, sym, ap, ◌∙◌, subst, arith, ⊎_elim, length-append, nat_lt, position, remove, slice_get, is_some, unwrap_or, All, AllPairs, le-ltb, lt-ltb, length-set, get_or-set_same, get_or-set_other, set}
+use Rattle.std.{proofs.Common.{◌≡◌, ◌≢◌, ◌<◌, ◌≤◌, ◌+◌, ◌-◌, ◌^◌, ℕ, zero, suc, Bool, true, false, cond, not, ◌||◌, List, [], ◌∷◌, ◌++◌, length, get_or, map, Some, None, refl, sym, ap, ◌∙◌, subst, arith, ⊎_elim, length-append, nat_lt, position, remove, slice_get, is_some, unwrap_or, All, AllPairs, le-ltb, lt-ltb, length-set, get_or-set_same, get_or-set_other, set}, proofs.lemmas.List.Edits.length-remove, proofs.lemmas.Option.unwrap_or-slice_get}
 use Rattle.net_core.proofs.Library.{position_or_len, list_any, cases_lt, cases_eq, cases_order, cond-true, cond-false, cond_both, false_from_ne_true, not_from_false, not_from_true, false≢true, same_lists, get_or-map, length-map, All-map, All-filter, All-push, list_any_at, AllPairs-filter, all_pairs_push, position-Some, get_or-le-sum_by, sum_by-append, sum_by-remove, sum_by-set, get_or_from_slice_get, slice_get-get_or, bytes_eq-Decides, same_is}
-use Rattle.std.proofs.lemmas.List.Edits.{length-remove}
-use Rattle.std.proofs.lemmas.Option.{unwrap_or-slice_get}
-use Rattle.plan_terms.specs.Terms.{AreDemands, IsDemand, are_same, Demand, is_demand, set_need, total_need, without}
-use Rattle.plan_terms.proofs.Lemmas.{changed, set_different, with_need}
+use Rattle.plan_terms.{specs.Terms.{AreDemands, IsDemand, are_same, Demand, is_demand, set_need, total_need, without}, proofs.Lemmas.{changed, set_different, with_need}}
 use Rattle.demand_book.specs.inner.Places.{IsPlaceOf}
 
 suc_lt : (a b : ℕ) → nat_lt (1 + a) (suc b) ≡ nat_lt a b

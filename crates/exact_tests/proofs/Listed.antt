@@ -1,14 +1,10 @@
 -- programs of three rows over columns in a list are packing programs
 use Rattle.std.proofs.Common.{◌≡◌, ◌≢◌, ℕ, zero, suc, ◌<◌, ◌≤◌, ◌+◌, List, length, Some, slice_get, refl, sym, ap, subst, ◌∙◌, arith, ⊎_elim, ℤ, pos, ◌+ℤ◌, ◌*ℤ◌, ◌<ℤ◌}
 use Rattle.net_core.proofs.Library.{ints, by_lt_z, cases_eq, cases_lt, slice_get_within, AllByRecursion, some_same}
-use Rattle.checked_fraction.specs.Terms.{num, IsNarrow}
-use Rattle.checked_fraction.specs.declared.row.Row.{Row}
-use Rattle.simplex_law.specs.Terms.{dot, unit_vector, ColumnOf, IsSlack, IsProgramColumn, IsPacking}
-use Rattle.simplex_law.proofs.Lemmas.{unit-same, unit-other}
-use Rattle.simplex_core.specs.Terms.{IsEntry, AreEntries, entry_of, column_from, column_of, Finds}
+use Rattle.checked_fraction.{specs.Terms.{num, IsNarrow}, specs.declared.row.Row.Row}
+use Rattle.simplex_law.{specs.Terms.{dot, unit_vector, ColumnOf, IsSlack, IsProgramColumn, IsPacking}, proofs.Lemmas.{unit-same, unit-other}}
+use Rattle.simplex_core.{specs.Terms.{IsEntry, AreEntries, entry_of, column_from, column_of, Finds}, specs.declared.columns.Price.Price, specs.declared.columns.Price.TheVariants.{Gain, Optimal, NoMemory}}
 use Rattle.exact_tests.specs.Listed.{three, entries_of, IsPackingNumber, IsListedColumn, Copies}
-use Rattle.simplex_core.specs.declared.columns.Price.{Price}
-use Rattle.simplex_core.specs.declared.columns.Price.TheVariants.{Gain, Optimal, NoMemory}
 
 pub entry_is : (a b c : ℤ) (k : ℕ) → k < 3 → entry_of (entries_of a b c) k ≡ three a b c k
 entry_is a b c zero lt = omega (arith, ints)

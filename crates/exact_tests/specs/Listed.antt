@@ -1,12 +1,8 @@
 -- programs of three rows over columns in a list
-use Rattle.std.specs.Prelude.{ℕ, ℤ, List, [], ◌∷◌, pos, Some, cond, eqb, ◌≡◌, ◌≤ℤ◌}
-use Rattle.std.specs.List.{slice_get}
+use Rattle.std.{specs.Prelude.{ℕ, ℤ, List, [], ◌∷◌, pos, Some, cond, eqb, ◌≡◌, ◌≤ℤ◌}, specs.List.slice_get}
 use Rattle.checked_fraction.specs.Terms.{IsNarrow}
 use Rattle.simplex_law.specs.Terms.{ColumnOf}
-use Rattle.simplex_core.specs.Terms.{column_from}
-use Rattle.simplex_core.specs.declared.columns.Entry.{Entry}
-use Rattle.simplex_core.specs.declared.columns.Price.{Price}
-use Rattle.simplex_core.specs.declared.columns.Price.TheVariants.{Gain, Optimal, NoMemory}
+use Rattle.simplex_core.{specs.Terms.column_from, specs.declared.columns.Entry.Entry, specs.declared.columns.Price.Price, specs.declared.columns.Price.TheVariants.{Gain, Optimal, NoMemory}}
 
 -- a number of each of three rows
 abbrev pub three : ℤ → ℤ → ℤ → ℕ → ℤ

@@ -1,8 +1,7 @@
 -- what labels say of paths, and how they change
 use Rattle.std.proofs.Common.{◌≡◌, ◌≢◌, ℕ, ◌+◌, ◌<◌, List, [], ◌∷◌, length, get_or, ◌⊎◌, inl, inr, ⊎_elim, refl, sym, subst, ◌∙◌, arith}
 use Rattle.net_core.proofs.Library.{cases_eq}
-use Rattle.plan_terms.specs.Terms.{LinkId, Leads, last_node, AreApart}
-use Rattle.plan_terms.proofs.Lemmas.{walk_none, walk_on, closed_reaches, shortcut}
+use Rattle.plan_terms.{specs.Terms.{LinkId, Leads, last_node, AreApart}, proofs.Lemmas.{walk_none, walk_on, closed_reaches, shortcut}}
 use Rattle.failure_states.specs.inner.Components.{AreConnected, AreComponents, IsMerged}
 
 module _ (joins : ℕ → ℕ → ℕ → Type 0) where

@@ -1,10 +1,8 @@
 -- demands whose ends have different labels are those that a state separates
 use Rattle.std.proofs.Common.{◌≡◌, ◌≢◌, ℕ, ◌+◌, ◌<◌, ◌≤◌, List, length, get_or, Option, None, Some, ⊎_elim, refl, subst, arith, slice_get, MatchOption}
 use Rattle.net_core.proofs.Library.{cases_eq, slice_get_read, slice_get_within, get_or_from_slice_get}
-use Rattle.plan_terms.specs.Terms.{Demand, AreDemands, IsDemand, Case, graph_in, Joins, Separates}
-use Rattle.plan_terms.proofs.Lemmas.{joins_below}
-use Rattle.failure_states.specs.inner.Components.{AreComponents, IsFirst, IsSplit}
-use Rattle.failure_states.proofs.Labelling.{components_apart, components_joined}
+use Rattle.plan_terms.{specs.Terms.{Demand, AreDemands, IsDemand, Case, graph_in, Joins, Separates}, proofs.Lemmas.joins_below}
+use Rattle.failure_states.{specs.inner.Components.{AreComponents, IsFirst, IsSplit}, proofs.Labelling.{components_apart, components_joined}}
 
 -- what is said of a place k of the demands is said of the demand there
 pub split_test : (labels : List ℕ) (demands : List Demand) (k : ℕ) (d : Demand) → k < length demands → d ≡ get_or demands k d → IsSplit labels demands k → (0 < d.need) × (get_or labels d.from.0 0 ≢ get_or labels d.to.0 0)

@@ -1,9 +1,7 @@
 -- the components once a link is taken
 use Rattle.std.proofs.Common.{◌≡◌, ℕ, ◌+◌, ◌<◌, List, length, get_or, inl, refl}
-use Rattle.plan_terms.specs.Terms.{Link, Graph, Joins, Survives, IsNetwork}
-use Rattle.plan_terms.proofs.Lemmas.{joins_from, joins_ends, joins_inside, joins_turned}
-use Rattle.failure_states.specs.inner.Components.{AreComponents, IsMerged}
-use Rattle.failure_states.proofs.Labelling.{components_merge, components_skip}
+use Rattle.plan_terms.{specs.Terms.{Link, Graph, Joins, Survives, IsNetwork}, proofs.Lemmas.{joins_from, joins_ends, joins_inside, joins_turned}}
+use Rattle.failure_states.{specs.inner.Components.{AreComponents, IsMerged}, proofs.Labelling.{components_merge, components_skip}}
 
 -- a surviving link
 pub take_survivor : (g : Graph) (e : ℕ) (l : Link) (old new : List ℕ) → ∥ IsNetwork g.nodes g.links ∥₁ → e < length g.links → l ≡ get_or g.links e l → Survives g e → IsMerged l.a.0 l.b.0 old new → AreComponents (Joins g) (length g.nodes) e old → AreComponents (Joins g) (length g.nodes) (e + 1) new

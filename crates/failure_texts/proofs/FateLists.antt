@@ -2,8 +2,7 @@
 use Rattle.std.proofs.Common.{◌≡◌, ℕ, zero, suc, ◌+◌, ◌<◌, List, [], ◌∷◌, ◌++◌, None, Some, ◌⊎◌, inl, inr, length, length-append, slice_get, get_or, All, refl, sym, ap, subst, arith, ⊎_elim}
 use Rattle.net_core.proofs.Library.{slice_get-get_or, slice_get_read, slice_get_within}
 use Rattle.plan_terms.specs.Terms.{Demand, Link, Network}
-use Rattle.failure_texts.specs.Fates.{AreFates, IsFate}
-use Rattle.failure_texts.specs.declared.fates.Fate.{Fate}
+use Rattle.failure_texts.{specs.Fates.{AreFates, IsFate}, specs.declared.fates.Fate.Fate}
 
 -- an item of a list with one added at its end is the list's item at the same place, or the added one
 pushed : {X : Type 0} (xs : List X) (x : X) (k : ℕ) (y : X) → slice_get (xs ++ x ∷ []) k ≡ Some y → (slice_get xs k ≡ Some y) ⊎ ((k ≡ length xs) × (x ≡ y))

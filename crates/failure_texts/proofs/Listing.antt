@@ -1,14 +1,9 @@
 -- the failures of the links that separate nothing, link after link
 use Rattle.std.proofs.Common.{◌≡◌, ◌≢◌, ℕ, suc, ◌+◌, ◌<◌, ◌≤◌, List, [], ◌∷◌, ◌++◌, All, None, Option, Some, MatchOption, get_or, length, length-append, slice_get, refl, sym, ap, subst, arith, append-nil, append_assoc, ◌∙◌}
-use Rattle.net_core.proofs.Library.{All-cons, All-nil, All-push, All-weaker, all_pairs_push, get_or_from_slice_get, option_map_or, slice_get-get_or, slice_get_within, few_links}
-use Rattle.net_core.specs.Terms.{AreStates}
+use Rattle.net_core.{proofs.Library.{All-cons, All-nil, All-push, All-weaker, all_pairs_push, get_or_from_slice_get, option_map_or, slice_get-get_or, slice_get_within, few_links}, specs.Terms.AreStates}
 use Rattle.model_reader.proofs.FailureSingles.{network_differs}
 use Rattle.plan_terms.specs.Terms.{Demand, IsFirstSeparation, IsSurvivable, Link, LinkId, Listed, Network, link_name, single_state}
-use Rattle.failure_texts.specs.Fates.{AreFates, IsFate, alone, with_states}
-use Rattle.failure_texts.specs.FailureTexts.{able_state, able_states}
-use Rattle.failure_texts.specs.inner.Listings.{IsAbleState, IsListing}
-use Rattle.failure_texts.specs.declared.fates.Fate.{Fate}
-use Rattle.failure_texts.proofs.Survived.{survived}
+use Rattle.failure_texts.{specs.Fates.{AreFates, IsFate, alone, with_states}, specs.FailureTexts.{able_state, able_states}, specs.inner.Listings.{IsAbleState, IsListing}, specs.declared.fates.Fate.Fate, proofs.Survived.survived}
 
 abbrev no_link : Link
 no_link = record { name = []; a = record { 0 = 0 }; b = record { 0 = 0 }; fixed = 0; setup = 0; modules = [] }

@@ -2,17 +2,11 @@
 use Rattle.std.proofs.Common.{◌≡◌, ℕ, ◌≤◌, List, [], ◌∷◌, ◌++◌, codes, flat_map, length, refl, sym, ap, subst, append_assoc, ◌∙◌}
 use Rattle.net_core.proofs.Library.{All-from_recursion, AllByRecursion, flat_map-append}
 use Rattle.plan_terms.specs.Terms.{Demand, IsSurvivable, Link, LinkId, Listed, Network, link_name}
-use Rattle.text_kit.specs.Terms.{AddsItems, Closing, IsFileOf, IsShortItem, Item, Verbatim, section, written}
-use Rattle.text_kit.proofs.Lemmas.{writable, written_is_read}
+use Rattle.text_kit.{specs.Terms.{AddsItems, Closing, IsFileOf, IsShortItem, Item, Verbatim, section, written}, proofs.Lemmas.{writable, written_is_read}}
 use Rattle.comment_lines.specs.Comments.{AddsLines, comment_line}
 use Rattle.report_comments.proofs.Endings.{EndsLine, comments_taken, ends_after, section_ends}
-use Rattle.model_reader.specs.Failures.{IsShort, SpellsFailures, failures_header, list_items, state_items}
-use Rattle.model_reader.specs.declared.failures.FailureList.TheVariants.{OneByOne}
-use Rattle.failure_texts.specs.Fates.{AreFates, with_states}
-use Rattle.failure_texts.specs.FailureTexts.{IsFailureList, able_state, able_states, failure_list_text, left_out}
-use Rattle.failure_texts.specs.inner.FateItems.{fate_items}
-use Rattle.failure_texts.specs.declared.fates.Fate.{Fate}
-use Rattle.failure_texts.proofs.Listing.{listing, listing_states, listing_survived}
+use Rattle.model_reader.{specs.Failures.{IsShort, SpellsFailures, failures_header, list_items, state_items}, specs.declared.failures.FailureList.TheVariants.OneByOne}
+use Rattle.failure_texts.{specs.Fates.{AreFates, with_states}, specs.FailureTexts.{IsFailureList, able_state, able_states, failure_list_text, left_out}, specs.inner.FateItems.fate_items, specs.declared.fates.Fate.Fate, proofs.Listing.{listing, listing_states, listing_survived}}
 
 -- ---- items
 

@@ -1,8 +1,7 @@
 -- states that a network survives one by one, it survives in one list
 use Rattle.std.proofs.Common.{◌≡◌, ℕ, zero, suc, ◌<◌, false, List, [], ◌∷◌, All, get_or, length, refl, sym, ap, arith, ◌∙◌}
 use Rattle.net_core.proofs.Library.{option_map_or, slice_get-get_or}
-use Rattle.plan_terms.specs.Terms.{Demand, IsSurvivable, Joins, Listed, Network, Separates, fails, graph_in, names_link}
-use Rattle.plan_terms.proofs.Lemmas.{path_alike}
+use Rattle.plan_terms.{specs.Terms.{Demand, IsSurvivable, Joins, Listed, Network, Separates, fails, graph_in, names_link}, proofs.Lemmas.path_alike}
 use Rattle.failure_texts.specs.Fates.{with_states}
 
 module _ (net : Network) (demands : List Demand) where

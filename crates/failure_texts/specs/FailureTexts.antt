@@ -1,16 +1,11 @@
 -- a failure list as text, and what is answered in its place
-use Rattle.std.specs.Prelude.{◌≡◌, ℕ, List, [], ◌∷◌, ◌++◌, codes, flat_map, length}
-use Rattle.std.specs.Option.{option_map_or}
+use Rattle.std.{specs.Prelude.{◌≡◌, ℕ, List, [], ◌∷◌, ◌++◌, codes, flat_map, length}, specs.Option.option_map_or}
 use Rattle.plan_terms.specs.Terms.{Demand, IsFirstSeparation, IsSurvivable, Link, Listed, Network, link_name, single_state}
 use Rattle.plan_report.specs.Terms.{demand_name}
 use Rattle.text_kit.specs.Terms.{Item, Verbatim, written}
 use Rattle.comment_lines.specs.Comments.{comment_line}
-use Rattle.model_reader.specs.Failures.{SpellsFailures, failures_header, list_items}
-use Rattle.model_reader.specs.declared.failures.FailureList.TheVariants.{OneByOne}
-use Rattle.failure_texts.specs.Fates.{AreFates, with_states}
-use Rattle.failure_texts.specs.declared.fates.Fate.{Fate}
-use Rattle.failure_texts.specs.declared.answer.FailureAnswer.{FailureAnswer}
-use Rattle.failure_texts.specs.declared.answer.FailureAnswer.TheVariants.{Apart, Printed}
+use Rattle.model_reader.{specs.Failures.{SpellsFailures, failures_header, list_items}, specs.declared.failures.FailureList.TheVariants.OneByOne}
+use Rattle.failure_texts.{specs.Fates.{AreFates, with_states}, specs.declared.fates.Fate.Fate, specs.declared.answer.FailureAnswer.FailureAnswer, specs.declared.answer.FailureAnswer.TheVariants.{Apart, Printed}}
 
 -- the failure of a link under its own name, where it separates nothing
 abbrev pub able_state : List Link → Fate → List Listed

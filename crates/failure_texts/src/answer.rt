@@ -1,8 +1,7 @@
 ghost use Rattle.std.specs.Prelude.{◌≡◌, [], IfOk, MatchOption, length};
 ghost use Rattle.plan_terms.specs.Terms.{AreDemands, IsFirstSeparation, IsSurvivable};
 ghost use Rattle.model_reader.specs.Failures.{SpellsFailures};
-ghost use Rattle.failure_texts.specs.Fates.{AreFates, with_states};
-ghost use Rattle.failure_texts.specs.FailureTexts.{AnswersFailures, able_states, failure_list_text};
+ghost use Rattle.failure_texts.{specs.Fates.{AreFates, with_states}, specs.FailureTexts.{AnswersFailures, able_states, failure_list_text}};
 
 use crate::comments::put_comments;
 use crate::fates::{Fate, fates_of};

@@ -1,8 +1,7 @@
 -- a file that begins in none of the known ways, or in the first that is found
 use Rattle.std.proofs.Common.{◌≡◌, ◌∙◌, ◌<◌, ℕ, zero, suc, Bool, List, [], ◌∷◌, get_or, length, MatchOption, None, Option, Some, cond, false, true, ap, arith, subst, sym, ⊎_elim}
 use Rattle.net_core.proofs.Library.{cases_Bool}
-use Rattle.fault_messages.specs.Headers.{HasNoGuess, begins_as, first_beginning}
-use Rattle.fault_messages.specs.declared.header.Beginning.{Beginning}
+use Rattle.fault_messages.{specs.Headers.{HasNoGuess, begins_as, first_beginning}, specs.declared.header.Beginning.Beginning}
 use Rattle.fault_messages.specs.declared.header.Beginning.TheVariants as beginnings
 use Rattle.fault_messages.specs.declared.header.FileFormat.TheVariants as formats
 

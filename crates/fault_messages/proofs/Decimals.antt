@@ -1,6 +1,5 @@
 -- the limits in digits
-use Rattle.std.proofs.Common.{◌≡◌, codes, decimal, refl}
-use Rattle.std.specs.Fmt.{digits}
+use Rattle.std.{proofs.Common.{◌≡◌, codes, decimal, refl}, specs.Fmt.digits}
 
 pub of_16 : decimal 16 ≡ codes "16"
 unfolding digits

@@ -1,6 +1,5 @@
 -- no fewer edits lead from one name to another than their lengths differ by
-use Rattle.std.proofs.Common.{ℕ, zero, suc, ◌+◌, ◌≤◌, Bool, List, [], ◌∷◌, length, nat_eq, arith}
-use Rattle.std.proofs.lemmas.Int.{clamps}
+use Rattle.std.{proofs.Common.{ℕ, zero, suc, ◌+◌, ◌≤◌, Bool, List, [], ◌∷◌, length, nat_eq, arith}, proofs.lemmas.Int.clamps}
 use Rattle.strsim.specs.Edits.{cost_at, next_row, rows}
 use Rattle.fault_messages.specs.NearNames.{edits}
 

@@ -1,13 +1,9 @@
 -- a report of another network, or of another failure list
-use Rattle.std.specs.Prelude.{◌≡◌, ◌⊎◌, ℕ, Bool, true, false, ◌||◌, cond, List, [], ◌∷◌, ◌++◌, codes, nat_eq}
-use Rattle.std.specs.List.{starts_with}
-use Rattle.net_core.specs.Terms.{Case, is_named}
-use Rattle.net_core.specs.declared.places.Places.{Places}
-use Rattle.net_core.specs.declared.places.Places.TheVariants.{Six, Three}
+use Rattle.std.{specs.Prelude.{◌≡◌, ◌⊎◌, ℕ, Bool, true, false, ◌||◌, cond, List, [], ◌∷◌, ◌++◌, codes, nat_eq}, specs.List.starts_with}
+use Rattle.net_core.{specs.Terms.{Case, is_named}, specs.declared.places.Places.Places, specs.declared.places.Places.TheVariants.{Six, Three}}
 use Rattle.plan_report.specs.Texts.{report_header}
 use Rattle.fault_texts.specs.Quotes.{BeginsToken, note_text}
-use Rattle.fault_messages.specs.Headers.{IsHeaderNote}
-use Rattle.fault_messages.specs.declared.header.FileFormat.TheVariants.{Report}
+use Rattle.fault_messages.{specs.Headers.IsHeaderNote, specs.declared.header.FileFormat.TheVariants.Report}
 
 -- the other number of places after the point
 abbrev pub other_places : Places → Places

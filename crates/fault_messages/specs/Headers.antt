@@ -1,10 +1,8 @@
 -- what a file with another header than is expected seems to be
-use Rattle.std.specs.Prelude.{◌≡◌, ◌⊎◌, ℕ, Bool, true, false, ◌||◌, cond, List, [], ◌∷◌, codes, nat_eq, Option, Some, None}
-use Rattle.std.specs.List.{starts_with}
+use Rattle.std.{specs.Prelude.{◌≡◌, ◌⊎◌, ℕ, Bool, true, false, ◌||◌, cond, List, [], ◌∷◌, codes, nat_eq, Option, Some, None}, specs.List.starts_with}
 use Rattle.fault_texts.specs.Quotes.{note_text}
-use Rattle.fault_messages.specs.declared.header.Beginning.{Beginning}
+use Rattle.fault_messages.{specs.declared.header.Beginning.Beginning, specs.declared.header.FileFormat.FileFormat}
 use Rattle.fault_messages.specs.declared.header.Beginning.TheVariants as beginnings
-use Rattle.fault_messages.specs.declared.header.FileFormat.{FileFormat}
 use Rattle.fault_messages.specs.declared.header.FileFormat.TheVariants as formats
 
 -- how the first line of a format begins, whatever its version

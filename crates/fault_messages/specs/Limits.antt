@@ -1,25 +1,16 @@
 -- the limits that sentences name, each of them the reader's own
 use Rattle.std.specs.Prelude.{◌≡◌, ℕ, ◌+◌, ◌*◌, ◌^◌, ◌==◌, Bool, if◌then◌else◌, nat_lt, List, length, Option, None, Some, Ok, Err}
-use Rattle.net_core.specs.Terms.{is_named, digits_after_point}
-use Rattle.net_core.specs.declared.demand.Demand.{Demand}
-use Rattle.net_core.specs.declared.network.Link.{Link}
-use Rattle.net_core.specs.declared.network.Module.{Module}
-use Rattle.net_core.specs.declared.places.Places.{Places}
-use Rattle.net_core.specs.declared.states.Listed.{Listed}
-use Rattle.snd_tokens.specs.declared.amounts.NumberFault.TheVariants.{TooLarge}
-use Rattle.snd_tokens.specs.Terms.{decimal_below}
-use Rattle.snd_tokens.specs.Terms.{amount_of, money_of, whole_of}
-use Rattle.snd_tokens.specs.Wholes.{whole_below}
+use Rattle.net_core.{specs.Terms.{is_named, digits_after_point}, specs.declared.demand.Demand.Demand, specs.declared.network.Link.Link, specs.declared.network.Module.Module, specs.declared.places.Places.Places, specs.declared.states.Listed.Listed}
+use Rattle.snd_tokens.{specs.declared.amounts.NumberFault.TheVariants.TooLarge, specs.Terms.{decimal_below, amount_of, money_of, whole_of}, specs.Wholes.whole_below}
 use Rattle.text_kit.specs.Terms.{Reading, any_name, number_or, sound, word_at, ◌>>=◌}
 use Rattle.sndlib_reader.specs.declared.costs.CostedLink.{CostedLink}
+use Rattle.model_reader.{specs.declared.failures.FailuresKind.FailuresKind, specs.FailuresReading.state_at}
+use Rattle.report_words.specs.Terms.{new_demand, unknown_name}
 use Rattle.sndlib_reader.specs.declared.fault.Limited.TheVariants as limits
 use Rattle.sndlib_reader.specs.declared.fault.ReadKind.TheVariants as reads
 use Rattle.sndlib_reader.specs.Reading as networks
-use Rattle.model_reader.specs.declared.failures.FailuresKind.{FailuresKind}
 use Rattle.model_reader.specs.declared.failures.FailuresKind.TheVariants as failures
-use Rattle.model_reader.specs.FailuresReading.{state_at}
 use Rattle.report_words.specs.declared.fault.ReportKind.TheVariants as reports
-use Rattle.report_words.specs.Terms.{new_demand, unknown_name}
 
 -- how many bytes a name has at most
 abbrev pub name_bytes : ℕ

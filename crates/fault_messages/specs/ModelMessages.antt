@@ -1,10 +1,8 @@
 -- what is said of each fault of a model file
 use Rattle.std.specs.Prelude.{ℕ, List, ◌++◌, codes}
-use Rattle.model_reader.specs.declared.model.ModelKey.{ModelKey}
+use Rattle.model_reader.{specs.declared.model.ModelKey.ModelKey, specs.declared.model.ModelKind.ModelKind, specs.Models.model_header}
 use Rattle.model_reader.specs.declared.model.ModelKey.TheVariants as keys
-use Rattle.model_reader.specs.declared.model.ModelKind.{ModelKind}
 use Rattle.model_reader.specs.declared.model.ModelKind.TheVariants as kinds
-use Rattle.model_reader.specs.Models.{model_header}
 
 -- the hint for a key that is missing: the line to add
 abbrev pub missing_help : ModelKey → List ℕ

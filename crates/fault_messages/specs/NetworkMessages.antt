@@ -2,14 +2,12 @@
 use Rattle.std.specs.Prelude.{ℕ, ◌^◌, List, ◌++◌, codes, decimal}
 use Rattle.net_core.specs.declared.places.Places.TheVariants.{Six, Three}
 use Rattle.snd_tokens.specs.declared.amounts.NumberFault.{NumberFault}
-use Rattle.snd_tokens.specs.declared.amounts.NumberFault.TheVariants as numbers
-use Rattle.sndlib_reader.specs.declared.fault.Limited.{Limited}
-use Rattle.sndlib_reader.specs.declared.fault.Limited.TheVariants as limits
-use Rattle.sndlib_reader.specs.declared.fault.ReadKind.{ReadKind}
-use Rattle.sndlib_reader.specs.declared.fault.ReadKind.TheVariants as kinds
-use Rattle.sndlib_reader.specs.Spelling.{header}
+use Rattle.sndlib_reader.{specs.declared.fault.Limited.Limited, specs.declared.fault.ReadKind.ReadKind, specs.Spelling.header}
 use Rattle.text_kit.specs.Terms.{money_word}
 use Rattle.fault_messages.specs.Limits.{most_demands, most_links, most_modules, most_nodes, name_bytes, need_power, total_power}
+use Rattle.snd_tokens.specs.declared.amounts.NumberFault.TheVariants as numbers
+use Rattle.sndlib_reader.specs.declared.fault.Limited.TheVariants as limits
+use Rattle.sndlib_reader.specs.declared.fault.ReadKind.TheVariants as kinds
 
 -- of what a network has too many or too much of
 abbrev pub limit_message : Limited → List ℕ × List ℕ

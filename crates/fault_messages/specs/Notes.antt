@@ -1,20 +1,14 @@
 -- what is known of a refused file besides, by the kind of its first fault
 use Rattle.std.specs.Prelude.{◌≡◌, ◌≢◌, ℕ, List, [], map}
-use Rattle.net_core.specs.Terms.{Case}
-use Rattle.net_core.specs.declared.network.Link.{Link}
+use Rattle.net_core.{specs.Terms.Case, specs.declared.network.Link.Link}
 use Rattle.sndlib_reader.specs.declared.fault.ReadKind.{ReadKind}
-use Rattle.sndlib_reader.specs.declared.fault.ReadKind.TheVariants as networks
-use Rattle.model_reader.specs.Terms.{all_keys, key_word}
-use Rattle.model_reader.specs.declared.failures.FailuresKind.{FailuresKind}
-use Rattle.model_reader.specs.declared.failures.FailuresKind.TheVariants as failures
-use Rattle.model_reader.specs.declared.model.ModelKind.{ModelKind}
-use Rattle.model_reader.specs.declared.model.ModelKind.TheVariants as models
+use Rattle.model_reader.{specs.Terms.{all_keys, key_word}, specs.declared.failures.FailuresKind.FailuresKind, specs.declared.model.ModelKind.ModelKind}
 use Rattle.report_words.specs.declared.fault.ReportKind.{ReportKind}
+use Rattle.fault_messages.{specs.ForeignReports.{IsForeignNote, IsReportHeaderNote}, specs.Headers.IsHeaderNote, specs.NearNames.{IsNearNote, IsWordNote}, specs.declared.header.FileFormat.TheVariants.{Failures, Model, Network}}
+use Rattle.sndlib_reader.specs.declared.fault.ReadKind.TheVariants as networks
+use Rattle.model_reader.specs.declared.failures.FailuresKind.TheVariants as failures
+use Rattle.model_reader.specs.declared.model.ModelKind.TheVariants as models
 use Rattle.report_words.specs.declared.fault.ReportKind.TheVariants as reports
-use Rattle.fault_messages.specs.ForeignReports.{IsForeignNote, IsReportHeaderNote}
-use Rattle.fault_messages.specs.Headers.{IsHeaderNote}
-use Rattle.fault_messages.specs.NearNames.{IsNearNote, IsWordNote}
-use Rattle.fault_messages.specs.declared.header.FileFormat.TheVariants.{Failures, Model, Network}
 
 -- What is known by the kind of the first fault: of one kind, such a note on the header; of another, such a note on a word; and else nothing.
 pub record AreNotesByKind {K : Type 0} (other_header unknown_word : K) (OnHeader OnWord : List ℕ → Type 0) (kind : K) (notes : List ℕ) : Type 0 where

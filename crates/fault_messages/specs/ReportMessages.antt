@@ -2,11 +2,11 @@
 use Rattle.std.specs.Prelude.{ℕ, List, ◌++◌, codes, decimal}
 use Rattle.net_core.specs.declared.places.Places.{Places}
 use Rattle.snd_tokens.specs.declared.amounts.NumberFault.{NumberFault}
-use Rattle.snd_tokens.specs.declared.amounts.NumberFault.TheVariants as numbers
 use Rattle.plan_report.specs.Texts.{report_header}
 use Rattle.report_words.specs.declared.fault.ReportKind.{ReportKind}
-use Rattle.report_words.specs.declared.fault.ReportKind.TheVariants as kinds
 use Rattle.fault_messages.specs.Limits.{money_power, name_bytes, need_power}
+use Rattle.snd_tokens.specs.declared.amounts.NumberFault.TheVariants as numbers
+use Rattle.report_words.specs.declared.fault.ReportKind.TheVariants as kinds
 
 -- of a number
 abbrev pub report_number_message : NumberFault → List ℕ × List ℕ

@@ -1,5 +1,4 @@
-ghost use Rattle.std.specs.Prelude.{◌≡◌, ◌≤◌, ◌++◌, ◌∷◌, [], ℕ, List, OnOk, length};
-ghost use Rattle.std.specs.List.{starts_with};
+ghost use Rattle.std.{specs.Prelude.{◌≡◌, ◌≤◌, ◌++◌, ◌∷◌, [], ℕ, List, OnOk, length}, specs.List.starts_with};
 ghost use Rattle.net_core.specs.Terms.{case, is_named};
 ghost use Rattle.plan_report.specs.Texts.{report_header};
 ghost use Rattle.fault_messages.specs.ForeignReports.{IsForeignNote, IsReportHeaderNote, begins_report, foreign_text, is_known, other_network, other_places};

@@ -1,5 +1,4 @@
-ghost use Rattle.std.specs.Prelude.{◌≡◌, ◌++◌, ℕ, List, true, nat_eq, MatchOption, OnOk};
-ghost use Rattle.std.specs.List.{starts_with};
+ghost use Rattle.std.{specs.Prelude.{◌≡◌, ◌++◌, ℕ, List, true, nat_eq, MatchOption, OnOk}, specs.List.starts_with};
 ghost use Rattle.fault_messages.specs.Headers.{HasNoGuess, IsGuess, IsHeaderNote, begins_as, first_beginning, format_guess, front, guess};
 
 use fault_texts::put_note;

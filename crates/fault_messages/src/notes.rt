@@ -1,8 +1,7 @@
 ghost use Rattle.std.specs.Prelude.{◌≡◌, ◌≤◌, ◌++◌, ℕ, List, IfOk, OnOk, length, map};
 ghost use Rattle.net_core.specs.Terms.{case};
 ghost use Rattle.model_reader.specs.Terms.{all_keys, key_word};
-ghost use Rattle.fault_messages.specs.NearNames.{IsWordNote};
-ghost use Rattle.fault_messages.specs.Notes.{AreFailuresNotes, AreModelNotes, AreNetworkNotes, AreReportNotes};
+ghost use Rattle.fault_messages.{specs.NearNames.IsWordNote, specs.Notes.{AreFailuresNotes, AreModelNotes, AreNetworkNotes, AreReportNotes}};
 
 use crate::foreign::{put_foreign_note, put_report_header_note};
 use crate::header::{FileFormat, put_header_note};

@@ -1,7 +1,6 @@
 -- what begins at a byte, by the tokens from there on
 use Rattle.std.proofs.Common.{◌≡◌, ◌≢◌, ◌∙◌, ℕ, List, [], ◌∷◌, ap, refl, sym}
-use Rattle.snd_tokens.specs.declared.token.Token.{Token}
-use Rattle.snd_tokens.specs.Tokens.{token_bytes, tokens_from}
+use Rattle.snd_tokens.{specs.declared.token.Token.Token, specs.Tokens.{token_bytes, tokens_from}}
 use Rattle.fault_texts.specs.Quotes.{BeginsToken}
 
 pub no_token : (text : List ℕ) (at : ℕ) → tokens_from at text ≡ [] → (word : List ℕ) → BeginsToken text at word → ⊥

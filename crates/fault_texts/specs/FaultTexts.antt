@@ -1,11 +1,8 @@
 -- what is said of a fault, as text
 use Rattle.std.specs.Prelude.{◌≡◌, ℕ, ◌+◌, List, ◌++◌, codes, decimal}
-use Rattle.text_places.specs.Places.{IsPlace, bytes_between, characters}
-use Rattle.text_places.specs.Windows.{IsWindow}
+use Rattle.text_places.{specs.Places.{IsPlace, bytes_between, characters}, specs.Windows.IsWindow}
 use Rattle.text_table.specs.Cells.{spaces}
-use Rattle.fault_texts.specs.Controls.{shown}
-use Rattle.fault_texts.specs.Quotes.{IsHere, note_text}
-use Rattle.fault_texts.specs.declared.sentence.Sentence.{Sentence}
+use Rattle.fault_texts.{specs.Controls.shown, specs.Quotes.{IsHere, note_text}, specs.declared.sentence.Sentence.Sentence}
 
 -- a file's name, a line and a column
 abbrev pub place_text : List ℕ → ℕ → ℕ → List ℕ

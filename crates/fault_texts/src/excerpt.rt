@@ -1,7 +1,6 @@
 ghost use Rattle.std.specs.Prelude.{◌≡◌, ◌≤◌, ◌++◌, OnOk, length};
 ghost use Rattle.text_places.specs.Windows.{IsWindow};
-ghost use Rattle.fault_texts.specs.Controls.{shown};
-ghost use Rattle.fault_texts.specs.FaultTexts.{excerpt_text};
+ghost use Rattle.fault_texts.{specs.Controls.shown, specs.FaultTexts.excerpt_text};
 
 use crate::control::shown_byte;
 use net_core::{Bytes, NoMemory};

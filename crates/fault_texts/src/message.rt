@@ -1,7 +1,6 @@
 ghost use Rattle.std.specs.Prelude.{◌≡◌, ◌≤◌, ◌++◌, List, OnOk, codes, length, ℕ};
 ghost use Rattle.text_places.specs.Windows.{IsWindow};
-ghost use Rattle.fault_texts.specs.FaultTexts.{IsFaultText, excerpt_text, place_text};
-ghost use Rattle.fault_texts.specs.Quotes.{note_text};
+ghost use Rattle.fault_texts.{specs.FaultTexts.{IsFaultText, excerpt_text, place_text}, specs.Quotes.note_text};
 
 use crate::excerpt::put_excerpt;
 use crate::here::put_here;

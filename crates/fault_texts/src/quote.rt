@@ -1,5 +1,4 @@
-ghost use Rattle.std.specs.Prelude.{◌≡◌, ◌≤◌, ◌<◌, ◌++◌, ◌==◌, ℕ, List, OnOk, [], codes, cond, length};
-ghost use Rattle.std.specs.Str.{is_utf8};
+ghost use Rattle.std.{specs.Prelude.{◌≡◌, ◌≤◌, ◌<◌, ◌++◌, ◌==◌, ℕ, List, OnOk, [], codes, cond, length}, specs.Str.is_utf8};
 ghost use Rattle.fault_texts.specs.Quotes.{IsQuoteEnd, IsQuote, escape, hex_digit, quote_text, quoted, quoted_below, quoted_byte};
 
 use crate::control::is_control;

@@ -3,24 +3,12 @@ use Rattle.std.proofs.Common.{◌≡◌, ◌≢◌, ℕ, ◌+◌, ◌^◌, ◌<�
 use Rattle.net_core.proofs.Library.{∥∥₁_elim, props, cases_lt, get_or_from_slice_get, slice_get-get_or, slice_get_past, slice_get_within}
 use Rattle.plan_terms.specs.Terms.{IsLink, IsNetwork, Demand, LinkId, NodeId, Link, Places}
 use Rattle.snd_tokens.specs.Terms.{amount_of}
-use Rattle.path_split.specs.declared.arc.Arc.{Arc}
-use Rattle.path_split.specs.Balances.{IsArc}
-use Rattle.text_kit.specs.Terms.{AnswersAs, ReadsAllAs, IsNotTooEarly, Item, Verbatim, Money, Closing, list_at, number_or, no_fault, of_length, Parenthesis, word_at}
-use Rattle.text_kit.specs.declared.refusal.Refusal.{Refusal}
-use Rattle.text_kit.proofs.Lemmas.{all_after, after_all, amount_again, amount_takes, answer_found, answer_only, answer_first, AnyText, IsEnd, Lawful, lawful_as, lawful_key, lawful_list, lawful_open, lawful_whole, lawful_word, if_ok, ok_is}
+use Rattle.path_split.{specs.declared.arc.Arc.Arc, specs.Balances.IsArc}
+use Rattle.text_kit.{specs.Terms.{AnswersAs, ReadsAllAs, IsNotTooEarly, Item, Verbatim, Money, Closing, list_at, number_or, no_fault, of_length, Parenthesis, word_at}, specs.declared.refusal.Refusal.Refusal, proofs.Lemmas.{all_after, after_all, amount_again, amount_takes, answer_found, answer_only, answer_first, AnyText, IsEnd, Lawful, lawful_as, lawful_key, lawful_list, lawful_open, lawful_whole, lawful_word, if_ok, ok_is}}
 use Rattle.plan_report.specs.Terms.{numbered_from, KnownNames, node_name, state_name}
-use Rattle.report_words.specs.declared.fault.ReportKind.{ReportKind}
-use Rattle.report_words.specs.Terms.{as_node, has_room, node_of_word, place_named}
-use Rattle.report_words.proofs.Lemmas.{few_rooms, is_length, lawful_placed, length_is, numbered_items, rooms_few, law_made, made_last, made_law, made_then, AreApart, demand_within_law, link_law, place_again, place_takes, this_name_law}
+use Rattle.report_words.{specs.declared.fault.ReportKind.ReportKind, specs.Terms.{as_node, has_room, node_of_word, place_named}, proofs.Lemmas.{few_rooms, is_length, lawful_placed, length_is, numbered_items, rooms_few, law_made, made_last, made_law, made_then, AreApart, demand_within_law, link_law, place_again, place_takes, this_name_law}}
 use Rattle.report_parts.proofs.ModuleLaws.{IsSound, all_counts_law}
-use Rattle.flow_file.specs.declared.fault.FlowsKind.{FlowsKind}
-use Rattle.flow_file.specs.declared.fault.FlowsKind.TheVariants.{Header, Section, Token, Ended, Number, ZeroFlow, UnknownName, Limit}
-use Rattle.flow_file.specs.declared.flow.FlowFile.{FlowFile}
-use Rattle.flow_file.specs.declared.flow.LinkFlow.{LinkFlow}
-use Rattle.flow_file.specs.FlowFiles.{AreLinkFlows, IsFlowFile, IsLinkFlow, SpellsFlows, flow_file_items, flows_header, link_flow_items, state_flows_items}
-use Rattle.flow_file.specs.FlowReading.{above_zero, end_of, end_or_fault, flow_amount, flow_sections_at, flows_at, flows_of, link_flow_at, state_flows_at, states_flows_at}
-use Rattle.flow_file.proofs.FlowsOnline.{flows_online}
-use Rattle.flow_file.proofs.Telling.{lawful_told}
+use Rattle.flow_file.{specs.declared.fault.FlowsKind.FlowsKind, specs.declared.fault.FlowsKind.TheVariants.{Header, Section, Token, Ended, Number, ZeroFlow, UnknownName, Limit}, specs.declared.flow.FlowFile.FlowFile, specs.declared.flow.LinkFlow.LinkFlow, specs.FlowFiles.{AreLinkFlows, IsFlowFile, IsLinkFlow, SpellsFlows, flow_file_items, flows_header, link_flow_items, state_flows_items}, specs.FlowReading.{above_zero, end_of, end_or_fault, flow_amount, flow_sections_at, flows_at, flows_of, link_flow_at, state_flows_at, states_flows_at}, proofs.FlowsOnline.flows_online, proofs.Telling.lawful_told}
 
 -- ---- amounts
 

@@ -1,14 +1,10 @@
 -- Flows are read without a look at what comes after them.
 use Rattle.std.proofs.Common.{◌+◌, List, [], length, refl, slice_get}
 use Rattle.plan_terms.specs.Terms.{Demand}
-use Rattle.text_kit.specs.Terms.{no_fault, of_length, Parenthesis}
-use Rattle.text_kit.proofs.Lemmas.{IsOnline, TakesSome, online_give, online_list, online_open, online_then, online_whole, online_word, takes_some}
+use Rattle.text_kit.{specs.Terms.{no_fault, of_length, Parenthesis}, proofs.Lemmas.{IsOnline, TakesSome, online_give, online_list, online_open, online_then, online_whole, online_word, takes_some}}
 use Rattle.plan_report.specs.Terms.{KnownNames}
 use Rattle.report_parts.proofs.PartsOnline.{all_counts_online}
-use Rattle.flow_file.specs.declared.fault.FlowsKind.TheVariants.{Section, Token, Ended, Limit}
-use Rattle.flow_file.specs.declared.flow.LinkFlow.{LinkFlow}
-use Rattle.flow_file.specs.FlowReading.{end_of, flow_amount, flow_sections_at, flows_at, link_flow_at, state_flows_at}
-use Rattle.flow_file.proofs.Telling.{online_told}
+use Rattle.flow_file.{specs.declared.fault.FlowsKind.TheVariants.{Section, Token, Ended, Limit}, specs.declared.flow.LinkFlow.LinkFlow, specs.FlowReading.{end_of, flow_amount, flow_sections_at, flows_at, link_flow_at, state_flows_at}, proofs.Telling.online_told}
 
 module _ (known : KnownNames) (demands : List Demand) where
   link_flow_online : (sofar : List LinkFlow) → IsOnline (link_flow_at known demands sofar)

@@ -1,12 +1,9 @@
 -- A report's readings whose faults are told by this format's kinds.
 use Rattle.std.proofs.Common.{◌≡◌, ℕ, List, Ok, Err, ap, ◌∙◌}
 use Rattle.snd_tokens.specs.Terms.{Text}
-use Rattle.text_kit.specs.Terms.{Item, Read, Reading}
-use Rattle.text_kit.proofs.Lemmas.{IsOnline, err_parts}
-use Rattle.text_kit.proofs.Spelled.{Lawful}
+use Rattle.text_kit.{specs.Terms.{Item, Read, Reading}, proofs.Lemmas.{IsOnline, err_parts}, proofs.Spelled.Lawful}
 use Rattle.report_words.specs.declared.fault.ReportKind.{ReportKind}
-use Rattle.flow_file.specs.declared.fault.FlowsKind.{FlowsKind}
-use Rattle.flow_file.specs.FlowKinds.{flows_kind, retold, told_at}
+use Rattle.flow_file.{specs.declared.fault.FlowsKind.FlowsKind, specs.FlowKinds.{flows_kind, retold, told_at}}
 
 -- what was read is read still
 told_ok : {X : Type 0} (q : Read ReportKind X) (x : X) (rest : Text) → retold q ≡ Ok (x, rest) → q ≡ Ok (x, rest)

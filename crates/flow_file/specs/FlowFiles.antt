@@ -4,8 +4,7 @@ use Rattle.plan_terms.specs.Terms.{Demand, Link, AreCounts, AreWithinLimits}
 use Rattle.path_split.specs.Balances.{IsArc}
 use Rattle.text_kit.specs.Terms.{section, SpellsAs, Item, Verbatim, Money}
 use Rattle.plan_report.specs.Terms.{modules_items, numbered_from, KnownNames, demand_name, link_name, node_name, state_name}
-use Rattle.flow_file.specs.declared.flow.FlowFile.{FlowFile}
-use Rattle.flow_file.specs.declared.flow.LinkFlow.{LinkFlow}
+use Rattle.flow_file.{specs.declared.flow.FlowFile.FlowFile, specs.declared.flow.LinkFlow.LinkFlow}
 
 -- the first line of a file of flows
 abbrev pub flows_header : List ℕ

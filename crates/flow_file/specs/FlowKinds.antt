@@ -1,12 +1,9 @@
 -- the kinds of faults of a file of flows: how they are written, and what a report's faults are here
 use Rattle.std.specs.Prelude.{ℕ, List, Result, Ok, Err, codes}
-use Rattle.text_kit.specs.Terms.{number_word, Read, Reading}
-use Rattle.text_kit.specs.declared.refusal.Refusal.{Refusal}
-use Rattle.text_kit.specs.declared.refusal.Refusal.TheVariants.{Bad, NoMemory}
+use Rattle.text_kit.{specs.Terms.{number_word, Read, Reading}, specs.declared.refusal.Refusal.Refusal, specs.declared.refusal.Refusal.TheVariants.{Bad, NoMemory}}
 use Rattle.report_words.specs.declared.fault.ReportKind.{ReportKind}
+use Rattle.flow_file.{specs.declared.fault.FlowsKind.FlowsKind, specs.declared.fault.FlowsKind.TheVariants.{Header, Section, Token, Ended, LimitName, Number, ZeroFlow, UnknownName, Limit}}
 use Rattle.report_words.specs.declared.fault.ReportKind.TheVariants as report
-use Rattle.flow_file.specs.declared.fault.FlowsKind.{FlowsKind}
-use Rattle.flow_file.specs.declared.fault.FlowsKind.TheVariants.{Header, Section, Token, Ended, LimitName, Number, ZeroFlow, UnknownName, Limit}
 
 -- the word of each kind
 abbrev pub flows_kind_word : FlowsKind → List ℕ

@@ -4,16 +4,10 @@ use Rattle.plan_terms.specs.Terms.{Demand, NodeId, Link, Places}
 use Rattle.snd_tokens.specs.Terms.{amount_of}
 use Rattle.text_kit.specs.Terms.{file_at, number_or, Read, Reading, ◌>>=◌, expected, give, list_at, mapped, no_fault, of_length, open_at, Parenthesis, whole_at, word_at}
 use Rattle.plan_report.specs.Terms.{KnownNames, state_name}
-use Rattle.report_words.specs.declared.fault.ReportKind.{ReportKind}
-use Rattle.report_words.specs.declared.fault.ReportKind.TheVariants as report
-use Rattle.report_words.specs.Terms.{demand_of, has_room, link_at, node_of_word, this_name_at, where_room}
+use Rattle.report_words.{specs.declared.fault.ReportKind.ReportKind, specs.Terms.{demand_of, has_room, link_at, node_of_word, this_name_at, where_room}}
 use Rattle.report_parts.specs.ReadingParts.{all_counts_at}
-use Rattle.flow_file.specs.declared.fault.FlowsKind.{FlowsKind}
-use Rattle.flow_file.specs.declared.fault.FlowsKind.TheVariants.{Header, Section, Token, Ended, Number, ZeroFlow, UnknownName, Limit}
-use Rattle.flow_file.specs.declared.flow.FlowFile.{FlowFile}
-use Rattle.flow_file.specs.declared.flow.LinkFlow.{LinkFlow}
-use Rattle.flow_file.specs.FlowFiles.{flows_header}
-use Rattle.flow_file.specs.FlowKinds.{flows_kind, told_at}
+use Rattle.flow_file.{specs.declared.fault.FlowsKind.FlowsKind, specs.declared.fault.FlowsKind.TheVariants.{Header, Section, Token, Ended, Number, ZeroFlow, UnknownName, Limit}, specs.declared.flow.FlowFile.FlowFile, specs.declared.flow.LinkFlow.LinkFlow, specs.FlowFiles.flows_header, specs.FlowKinds.{flows_kind, told_at}}
+use Rattle.report_words.specs.declared.fault.ReportKind.TheVariants as report
 
 -- ---- words
 

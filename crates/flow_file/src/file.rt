@@ -5,10 +5,7 @@ ghost use Rattle.snd_tokens.specs.Terms.{left, size};
 ghost use Rattle.plan_report.specs.Terms.{known_of};
 ghost use Rattle.report_words.specs.Terms.{known_in};
 ghost use Rattle.report_parts.specs.ReadingParts.{all_counts_at};
-ghost use Rattle.flow_file.specs.declared.flow.FlowFile.{FlowFile as File};
-ghost use Rattle.flow_file.specs.FlowFiles.{IsFlowFile, SpellsFlows};
-ghost use Rattle.flow_file.specs.FlowKinds.{told_at};
-ghost use Rattle.flow_file.specs.FlowReading.{flow_sections_at, flows_at, flows_of, link_flow_at, state_flows_at, states_flows_at};
+ghost use Rattle.flow_file.{specs.declared.flow.FlowFile.{FlowFile as File}, specs.FlowFiles.{IsFlowFile, SpellsFlows}, specs.FlowKinds.told_at, specs.FlowReading.{flow_sections_at, flows_at, flows_of, link_flow_at, state_flows_at, states_flows_at}};
 
 use crate::fault::{FlowsKind, FlowsRefusal};
 use crate::flow::{FlowFile, LinkFlow};

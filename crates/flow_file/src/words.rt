@@ -3,8 +3,7 @@ ghost use Rattle.snd_tokens.specs.Terms.{left};
 ghost use Rattle.plan_report.specs.Terms.{state_name};
 ghost use Rattle.text_kit.specs.Terms.{ReadsAs, word_at};
 ghost use Rattle.report_words.specs.Terms.{link_at, this_name_at};
-ghost use Rattle.flow_file.specs.FlowKinds.{told_at};
-ghost use Rattle.flow_file.specs.FlowReading.{end_of, flow_amount, flow_demand_at, section_word_at};
+ghost use Rattle.flow_file.{specs.FlowKinds.told_at, specs.FlowReading.{end_of, flow_amount, flow_demand_at, section_word_at}};
 
 use crate::fault::{FlowsKind, FlowsRefusal};
 use crate::flow::LinkFlow;

@@ -2,12 +2,9 @@
 use Rattle.std.proofs.Common.{◌≡◌, ℕ, zero, suc, ◌<◌, ◌≤◌, ◌==◌, ◌||◌, Bool, true, false, cond, List, [], ◌∷◌, length, map, get_or, refl, ap, subst, arith, All, filter, eq-eqb}
 use Rattle.net_core.proofs.Library.{All-head, All-tail, get_or-le-sum_by, slice_get-get_or, slice_get_within}
 use Rattle.plan_terms.specs.Terms.{Case, graph_in, Graph, HasEnds, Joins, Survives, names_link, Demand, LinkId, Link, Flow, Carries, IsFlow, load, IsPath, Leads}
-use Rattle.path_split.specs.declared.arc.PathFlow.{PathFlow}
-use Rattle.path_split.specs.Splits.{AreEnds, IsFlowSplit}
+use Rattle.path_split.{specs.declared.arc.PathFlow.PathFlow, specs.Splits.{AreEnds, IsFlowSplit}}
 use Rattle.flow_file.specs.declared.flow.LinkFlow.{LinkFlow}
-use Rattle.flow_import.specs.Imports.{AreAlive, FitInto, IsImportedState, demand_arcs, demand_paths, flow_load}
-use Rattle.flow_import.specs.inner.Steps.{AreSplitTo}
-use Rattle.flow_import.proofs.Parts.{as_path, loads_within, sent_by}
+use Rattle.flow_import.{specs.Imports.{AreAlive, FitInto, IsImportedState, demand_arcs, demand_paths, flow_load}, specs.inner.Steps.AreSplitTo, proofs.Parts.{as_path, loads_within, sent_by}}
 
 -- ---- what holds of all that passed a test holds of each
 

@@ -1,15 +1,9 @@
 -- What loads tell of the flows of a state, and one state after another.
-use Rattle.std.proofs.Common.{◌≡◌, ℕ, ◌+◌, ◌<◌, ◌≤◌, ◌++◌, inr, List, [], ◌∷◌, length, get_or, sym, subst, arith, ⊎_elim, All}
+use Rattle.std.{proofs.Common.{◌≡◌, ℕ, ◌+◌, ◌<◌, ◌≤◌, ◌++◌, inr, List, [], ◌∷◌, length, get_or, sym, subst, arith, ⊎_elim, All}, proofs.lemmas.List.length_push}
 use Rattle.net_core.proofs.Library.{cases_eq, cases_lt, get_or_append_left, get_or_push, slice_get_within, ∥∥₁_elim, props}
-use Rattle.std.proofs.lemmas.List.{length_push}
 use Rattle.plan_terms.specs.Terms.{IsNetwork, Case, graph_in, Graph, Survives, Demand, Link, Routing}
-use Rattle.flow_file.specs.declared.flow.LinkFlow.{LinkFlow}
-use Rattle.flow_file.specs.FlowFiles.{AreLinkFlows, IsLinkFlow}
-use Rattle.flow_import.specs.declared.fault.ImportFault.{ImportFault}
-use Rattle.flow_import.specs.declared.fault.ImportFault.TheVariants.{Dead, Unbalanced, Overloaded, NoMemory}
-use Rattle.flow_import.specs.Imports.{AreAlive, FitInto, IsFirstExceeded, IsImportFault, IsImportedState, IsStateFault, flows_in, no_routing}
-use Rattle.flow_import.specs.inner.Steps.{AreImportedTo, AreLoads, IsFirstAbove, IsOffFault}
-use Rattle.flow_import.proofs.Parts.{load_past}
+use Rattle.flow_file.{specs.declared.flow.LinkFlow.LinkFlow, specs.FlowFiles.{AreLinkFlows, IsLinkFlow}}
+use Rattle.flow_import.{specs.declared.fault.ImportFault.ImportFault, specs.declared.fault.ImportFault.TheVariants.{Dead, Unbalanced, Overloaded, NoMemory}, specs.Imports.{AreAlive, FitInto, IsFirstExceeded, IsImportFault, IsImportedState, IsStateFault, flows_in, no_routing}, specs.inner.Steps.{AreImportedTo, AreLoads, IsFirstAbove, IsOffFault}, proofs.Parts.load_past}
 
 -- ---- flows in form
 

@@ -2,9 +2,7 @@
 use Rattle.std.proofs.Common.{◌≡◌, ℕ, ◌+◌, ◌<◌, ◌≤◌, ◌==◌, Bool, true, false, cond, List, [], ◌∷◌, map, refl, sym, ap, ◌∙◌, arith, sum_by, All, filter, ne_eqb}
 use Rattle.net_core.proofs.Library.{All-head, All-tail, recursion_from_All, sum_by-cons, below-le, below-one, below-same, below-swapped, sums-same}
 use Rattle.plan_terms.specs.Terms.{sum_below, names_link, Flow, load}
-use Rattle.path_split.specs.declared.arc.Arc.{Arc}
-use Rattle.path_split.specs.declared.arc.PathFlow.{PathFlow}
-use Rattle.path_split.specs.Splits.{arc_load, path_load}
+use Rattle.path_split.{specs.declared.arc.Arc.Arc, specs.declared.arc.PathFlow.PathFlow, specs.Splits.{arc_load, path_load}}
 use Rattle.flow_file.specs.declared.flow.LinkFlow.{LinkFlow}
 use Rattle.flow_import.specs.Imports.{demand_arcs, demand_paths, flow_load}
 

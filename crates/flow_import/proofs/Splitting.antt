@@ -2,17 +2,10 @@
 use Rattle.std.proofs.Common.{◌≡◌, ◌≢◌, ℕ, ◌+◌, ◌<◌, ◌≤◌, ◌==◌, Bool, cond, List, [], ◌∷◌, ◌++◌, length, map, Some, slice_get, take, get_or, Result, Err, IfErr, refl, sym, ap, subst, ◌∙◌, arith, append-nil, ⊎_elim, All, filter, eq-eqb, ne_eqb}
 use Rattle.net_core.proofs.Library.{cases_eq, length-map, map-append, take_more, All-append, All-filter, All-head, All-map, All-tail, All-weaker, filter-append, count_by-le-length, length-filter, slice_get_within}
 use Rattle.plan_terms.specs.Terms.{Case, Demand, Flow, NodeId, Link}
-use Rattle.path_split.specs.declared.arc.PathFlow.{PathFlow}
-use Rattle.path_split.specs.declared.arc.SplitFault.{SplitFault}
+use Rattle.path_split.{specs.declared.arc.PathFlow.PathFlow, specs.declared.arc.SplitFault.SplitFault, specs.Balances.{IsArc, IsFirstUnbalanced}}
+use Rattle.flow_file.{specs.FlowFiles.AreLinkFlows, specs.declared.flow.LinkFlow.LinkFlow}
+use Rattle.flow_import.{specs.declared.fault.ImportFault.ImportFault, specs.declared.fault.ImportFault.TheVariants.{Dead, Unbalanced, Overloaded, NoMemory}, specs.Imports.{IsDemandEven, demand_arcs, demand_paths}, specs.inner.Steps.{AreSplitTo, IsOffFault, IsSplitDemand, IsSplitFault, flows_along}, proofs.Parts.as_path}
 use Rattle.path_split.specs.declared.arc.SplitFault.TheVariants as splits
-use Rattle.path_split.specs.Balances.{IsArc, IsFirstUnbalanced}
-use Rattle.flow_file.specs.FlowFiles.{AreLinkFlows}
-use Rattle.flow_file.specs.declared.flow.LinkFlow.{LinkFlow}
-use Rattle.flow_import.specs.declared.fault.ImportFault.{ImportFault}
-use Rattle.flow_import.specs.declared.fault.ImportFault.TheVariants.{Dead, Unbalanced, Overloaded, NoMemory}
-use Rattle.flow_import.specs.Imports.{IsDemandEven, demand_arcs, demand_paths}
-use Rattle.flow_import.specs.inner.Steps.{AreSplitTo, IsOffFault, IsSplitDemand, IsSplitFault, flows_along}
-use Rattle.flow_import.proofs.Parts.{as_path}
 
 abbrev is_of : ℕ → Flow → Bool
 is_of k f = f.demand == k

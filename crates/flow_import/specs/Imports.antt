@@ -1,15 +1,9 @@
 -- another tool's flows: their faults, and the routings that they are split into
 use Rattle.std.specs.Prelude.{◌≡◌, ℕ, ◌+◌, ◌<◌, ◌≤◌, ◌==◌, ◌⊎◌, if◌then◌else◌, List, [], Some, filter, get_or, length, map, slice_get, slice_index, sum_by}
 use Rattle.plan_terms.specs.Terms.{Demand, Flow, Routing, Case, graph_in, Graph, Joins, Survives, capacities, total_cost, Carries}
-use Rattle.path_split.specs.declared.arc.Arc.{Arc}
-use Rattle.path_split.specs.declared.arc.PathFlow.{PathFlow}
-use Rattle.path_split.specs.Balances.{AreNodesBalanced, IsFirstUnbalanced}
-use Rattle.path_split.specs.Splits.{IsFlowSplit}
-use Rattle.flow_file.specs.declared.flow.FlowFile.{FlowFile}
-use Rattle.flow_file.specs.declared.flow.LinkFlow.{LinkFlow}
-use Rattle.flow_import.specs.declared.fault.ImportFault.{ImportFault}
-use Rattle.flow_import.specs.declared.fault.ImportFault.TheVariants.{Dead, Unbalanced, Overloaded, NoMemory}
-use Rattle.flow_import.specs.declared.imported.Imported.{Imported}
+use Rattle.path_split.{specs.declared.arc.Arc.Arc, specs.declared.arc.PathFlow.PathFlow, specs.Balances.{AreNodesBalanced, IsFirstUnbalanced}, specs.Splits.IsFlowSplit}
+use Rattle.flow_file.{specs.declared.flow.FlowFile.FlowFile, specs.declared.flow.LinkFlow.LinkFlow}
+use Rattle.flow_import.{specs.declared.fault.ImportFault.ImportFault, specs.declared.fault.ImportFault.TheVariants.{Dead, Unbalanced, Overloaded, NoMemory}, specs.declared.imported.Imported.Imported}
 
 -- what the flows on link e sum to, in both directions together
 abbrev pub flow_load : List LinkFlow → ℕ → ℕ

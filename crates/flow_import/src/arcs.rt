@@ -1,6 +1,5 @@
 ghost use Rattle.std.specs.Prelude.{◌≡◌, ◌++◌, [], ◌∷◌, IfOk, OnOk};
-ghost use Rattle.flow_import.specs.Imports.{demand_arcs};
-ghost use Rattle.flow_import.specs.inner.Steps.{flows_along};
+ghost use Rattle.flow_import.{specs.Imports.demand_arcs, specs.inner.Steps.flows_along};
 
 use flow_file::LinkFlow;
 use net_core::{Copied, Flow, List, NoMemory};

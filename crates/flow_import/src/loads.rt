@@ -1,7 +1,6 @@
 ghost use Rattle.std.specs.Prelude.{◌≡◌, ℕ, ◌<◌, ◌≤◌, All, IfOk, IsTrue, MatchOption, false, length, slice_index};
 ghost use Rattle.plan_terms.specs.Terms.{Survives, graph_of};
-ghost use Rattle.flow_import.specs.Imports.{flow_load};
-ghost use Rattle.flow_import.specs.inner.Steps.{AreLoads, IsFirstAbove, IsFirstLost};
+ghost use Rattle.flow_import.{specs.Imports.flow_load, specs.inner.Steps.{AreLoads, IsFirstAbove, IsFirstLost}};
 
 use flow_file::LinkFlow;
 use net_core::{LinkId, Network, NoMemory, Surviving};

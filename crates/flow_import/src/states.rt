@@ -2,8 +2,7 @@ ghost use Rattle.std.specs.Prelude.{◌≡◌, ◌+◌, ◌<◌, All, IfErr, IfO
 ghost use Rattle.plan_terms.specs.Terms.{AreDemands, case, case_of, capacities as caps_of};
 ghost use Rattle.plan_report.specs.Terms.{known_of};
 ghost use Rattle.flow_file.specs.FlowFiles.{AreLinkFlows, IsFlowFile};
-ghost use Rattle.flow_import.specs.Imports.{IsImportFault, IsImported, IsImportedState, IsStateFault, flows_in};
-ghost use Rattle.flow_import.specs.inner.Steps.{AreImportedTo};
+ghost use Rattle.flow_import.{specs.Imports.{IsImportFault, IsImported, IsImportedState, IsStateFault, flows_in}, specs.inner.Steps.AreImportedTo};
 
 use crate::fault::ImportFault;
 use crate::imported::Imported;

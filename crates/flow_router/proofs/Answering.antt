@@ -3,16 +3,11 @@ use Rattle.std.proofs.Common.{◌≡◌, ℕ, zero, suc, ◌+◌, ◌*◌, ◌<�
 use Rattle.net_core.proofs.Library.{◌∣◌, cases_eq, get_or-map, length-map, sum_by-cons, get_or_from_slice_get, slice_get_within, eq-one_of_dvd-one}
 use Rattle.checked_fraction.specs.Terms.{num, IsNarrow}
 use Rattle.plan_terms.specs.Terms.{RouteColumn, DemandSlack, Carry, Demand, Caps, Flow, Routing, Graph, Joins, Carries, IsFlow, sent, IsPath}
-use Rattle.greedy_router.specs.Left.{IsLeft}
-use Rattle.greedy_router.specs.declared.greedy_flows.Left.{Left}
+use Rattle.greedy_router.{specs.Left.IsLeft, specs.declared.greedy_flows.Left.Left}
 use Rattle.simplex_law.specs.Terms.{dot, IsSlack, AreNames}
-use Rattle.simplex_core.specs.Terms.{Solves}
-use Rattle.simplex_core.specs.declared.optimum.Optimum.{Optimum}
-use Rattle.route_law.specs.Terms.{AreFlowsOf, flow_times, scaled_need, total_scaled_need, route_rows, route_bound, route_slack, IsCarrying}
-use Rattle.route_law.proofs.Lemmas.{duals_below, flows_carry, carried_lowest, all_gained, some_left, no_slack, beside_after}
-use Rattle.flow_router.specs.Answers.{IsRouted}
-use Rattle.flow_router.specs.inner.Flowing.{AreBasisFlows, IsBasisFlow, LeavesNeed}
-use Rattle.flow_router.specs.Lowest.{IsInLowest}
+use Rattle.simplex_core.{specs.Terms.Solves, specs.declared.optimum.Optimum.Optimum}
+use Rattle.route_law.{specs.Terms.{AreFlowsOf, flow_times, scaled_need, total_scaled_need, route_rows, route_bound, route_slack, IsCarrying}, proofs.Lemmas.{duals_below, flows_carry, carried_lowest, all_gained, some_left, no_slack, beside_after}}
+use Rattle.flow_router.{specs.Answers.IsRouted, specs.inner.Flowing.{AreBasisFlows, IsBasisFlow, LeavesNeed}, specs.Lowest.IsInLowest}
 
 less_den : (c n limit : ℕ) → 0 < c → c * n < limit → n < limit
 less_den zero n limit pc big = absurd (omega (arith, pc))

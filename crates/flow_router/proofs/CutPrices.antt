@@ -4,12 +4,8 @@ use Rattle.net_core.proofs.Library.{◌∣◌, get_or-map, length-map, slice_get
 use Rattle.checked_fraction.specs.Terms.{num}
 use Rattle.plan_terms.specs.Terms.{RouteColumn, Length, LinkId, RouteTask, Graph, graph_of, IsGreatestDivisor, AreZero}
 use Rattle.simplex_core.specs.declared.optimum.Optimum.{Optimum}
-use Rattle.route_law.specs.Terms.{AreLinkPrices, IsRouteEvidence, AreJoined}
-use Rattle.route_law.proofs.Lemmas.{some_price}
-use Rattle.flow_router.specs.inner.Flowing.{LeavesNeed}
-use Rattle.flow_router.specs.inner.Lengths.{AreLinkCosts, each_over}
-use Rattle.flow_router.specs.inner.Solutions.{ArePricesBelow, IsSolution}
-use Rattle.flow_router.proofs.Answering.{optimum_below}
+use Rattle.route_law.{specs.Terms.{AreLinkPrices, IsRouteEvidence, AreJoined}, proofs.Lemmas.some_price}
+use Rattle.flow_router.{specs.inner.Flowing.LeavesNeed, specs.inner.Lengths.{AreLinkCosts, each_over}, specs.inner.Solutions.{ArePricesBelow, IsSolution}, proofs.Answering.optimum_below}
 
 pub link_costs : (n m : ℕ) (nums others : List ℤ) (prices : List ℕ) → n ≡ m → others ≡ nums → AreLinkCosts n (num others) prices → AreLinkCosts m (num nums) prices
 link_costs n m nums others prices count same costs = subst (λ x. AreLinkCosts x (num nums) prices) count (subst (λ xs. AreLinkCosts n (num xs) prices) same costs)

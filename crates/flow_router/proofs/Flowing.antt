@@ -3,8 +3,7 @@ use Rattle.std.proofs.Common.{◌≡◌, ℕ, suc, ◌+◌, ◌<◌, ◌++◌, L
 use Rattle.net_core.proofs.Library.{All-push}
 use Rattle.plan_terms.specs.Terms.{RouteColumn, Flow}
 use Rattle.simplex_law.specs.Terms.{ColumnOf, AreNames}
-use Rattle.route_law.specs.Terms.{is_of_demand, runs_over, AreFlowsOf}
-use Rattle.route_law.proofs.Lemmas.{flows_pass, flows_push, flows_slack}
+use Rattle.route_law.{specs.Terms.{is_of_demand, runs_over, AreFlowsOf}, proofs.Lemmas.{flows_pass, flows_push, flows_slack}}
 use Rattle.flow_router.specs.inner.Flowing.{AreBasisFlows, IsBasisFlow, IsFlowOfColumn}
 
 name_at : (names : List RouteColumn) (basis : ℕ → ColumnOf RouteColumn) (n : ℕ) (name : RouteColumn) → n < length names → AreNames (length names) basis names → slice_get names n ≡ Some name → (basis n).name ≡ name

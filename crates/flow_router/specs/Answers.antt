@@ -1,11 +1,9 @@
 -- what is answered of the demands of a state within capacities
 use Rattle.std.specs.Prelude.{◌≡◌, ℕ, ◌+◌, ◌^◌, ◌≤◌, ◌<◌, List, All, length}
 use Rattle.plan_terms.specs.Terms.{Evidence, Route, Master, Demand, Caps, Routing, Graph, Joins, IsRight, Carries, Keeps, Violates}
-use Rattle.metric_cut.specs.Cuts.{IsCutOf}
-use Rattle.metric_cut.specs.declared.cut.Cut.{Cut}
+use Rattle.metric_cut.{specs.Cuts.IsCutOf, specs.declared.cut.Cut.Cut}
 use Rattle.route_law.specs.Terms.{ArePricedLengths, IsRouteEvidence, IsLowestRouting}
-use Rattle.flow_router.specs.declared.answer.RouteAnswer.{RouteAnswer}
-use Rattle.flow_router.specs.declared.answer.RouteAnswer.TheVariants.{Routed, Violated, Wide}
+use Rattle.flow_router.{specs.declared.answer.RouteAnswer.RouteAnswer, specs.declared.answer.RouteAnswer.TheVariants.{Routed, Violated, Wide}}
 
 module _ (g : Graph) (demands : List Demand) (caps : Caps) where
   -- a routing in lowest terms that carries the demands, with few flows and numbers that fit

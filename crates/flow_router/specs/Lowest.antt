@@ -1,6 +1,5 @@
 -- routings and their lowest terms
-use Rattle.std.specs.Prelude.{◌≡◌, ℕ, ◌<◌, List, All}
-use Rattle.std.specs.Int.{◌∣◌}
+use Rattle.std.{specs.Prelude.{◌≡◌, ℕ, ◌<◌, List, All}, specs.Int.◌∣◌}
 use Rattle.plan_terms.specs.Terms.{Flow, Routing}
 use Rattle.route_law.specs.Terms.{IsLowestRouting, over_times}
 

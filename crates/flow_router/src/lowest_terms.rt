@@ -1,5 +1,4 @@
-ghost use Rattle.std.specs.Prelude.{◌≡◌, ◌<◌, ◌≤◌, ◌^◌, All, map};
-ghost use Rattle.std.specs.Int.{◌∣◌};
+ghost use Rattle.std.{specs.Prelude.{◌≡◌, ◌<◌, ◌≤◌, ◌^◌, All, map}, specs.Int.◌∣◌};
 ghost use Rattle.route_law.specs.Terms.{flow_times};
 ghost use Rattle.flow_router.specs.Lowest.{IsCommonDivisor, IsInLowest};
 

@@ -2,9 +2,7 @@ ghost use Rattle.std.specs.Prelude.{◌≡◌, ◌*◌, ◌+◌, ◌<◌, ◌^�
 ghost use Rattle.plan_terms.specs.Terms.{AreDemands, Graph, graph, graph_of};
 ghost use Rattle.route_law.specs.Terms.{IsRouteEvidence, AreJoined};
 ghost use Rattle.key_paths.specs.Tasks.{HasNarrowBounds};
-ghost use Rattle.flow_router.specs.Answers.{IsRouteAnswer};
-ghost use Rattle.flow_router.specs.inner.Flowing.{LeavesNeed};
-ghost use Rattle.flow_router.specs.inner.Solutions.{ArePricesBelow, IsSolution};
+ghost use Rattle.flow_router.{specs.Answers.IsRouteAnswer, specs.inner.Flowing.LeavesNeed, specs.inner.Solutions.{ArePricesBelow, IsSolution}};
 
 use crate::answer::RouteAnswer;
 use crate::flows::{basis_flows, leaves_need};

@@ -1,6 +1,5 @@
 -- what people read of a flow
-use Rattle.std.specs.Prelude.{ℕ, ◌+◌, ◌/◌, ◌%◌, List, [], ◌∷◌, cond, min, nat_eq, slice_get}
-use Rattle.std.specs.Option.{option_map_or}
+use Rattle.std.{specs.Prelude.{ℕ, ◌+◌, ◌/◌, ◌%◌, List, [], ◌∷◌, cond, min, nat_eq, slice_get}, specs.Option.option_map_or}
 use Rattle.plan_terms.specs.Terms.{Demand, Flow, Link, LinkId, NodeId}
 use Rattle.flow_rows.specs.declared.rows.FlowRow.{FlowRow}
 

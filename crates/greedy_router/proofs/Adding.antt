@@ -2,12 +2,7 @@
 use Rattle.std.proofs.Common.{◌≡◌, ℕ, ◌+◌, ◌*◌, ◌<◌, ◌≤◌, ◌==◌, ◌⊎◌, ◌++◌, All, Some, if◌then◌else◌, List, [], ◌∷◌, get_or, length, length-append, map, slice_get, take, ⊎_elim, refl, sym, ap, subst, ◌∙◌, arith, append_assoc, append-nil, IsPermutation}
 use Rattle.net_core.proofs.Library.{get_or-map, length-map, All-append, All-contains, All-more, All-nil, All-push, All-weaker, range_with_len, get_or-range_with_len, length-range_with_len, All-permutation, IsPermutation-sym, sum_by-append, sum_by_push, get_or_from_slice_get, slice_get_within}
 use Rattle.plan_terms.specs.Terms.{Demand, LinkId, Flow, names_link, IsFlow, load, sent, IsPath}
-use Rattle.greedy_router.specs.Blocked.{HasSpare, IsBlocked}
-use Rattle.greedy_router.specs.Left.{IsLeft}
-use Rattle.greedy_router.specs.declared.draft.Draft.{Draft}
-use Rattle.greedy_router.specs.inner.Drafts.{Adds, AreRouted, IsDraft, IsEnded, IsFlowOf, Sends, SendsOpen}
-use Rattle.greedy_router.specs.inner.FullLinks.{positives}
-use Rattle.greedy_router.proofs.Positives.{few_positives, fewer, one_fewer}
+use Rattle.greedy_router.{specs.Blocked.{HasSpare, IsBlocked}, specs.Left.IsLeft, specs.declared.draft.Draft.Draft, specs.inner.Drafts.{Adds, AreRouted, IsDraft, IsEnded, IsFlowOf, Sends, SendsOpen}, specs.inner.FullLinks.positives, proofs.Positives.{few_positives, fewer, one_fewer}}
 
 -- a flow ends a rest or fills a link
 pub sent_fewer : (k : ℕ) (path : List LinkId) (old new : Draft) → Sends k path old new → All (λ e. 0 < get_or old.spares e.0 0) path → 0 < get_or old.rest k 0 → positives new.spares + positives new.rest < positives old.spares + positives old.rest

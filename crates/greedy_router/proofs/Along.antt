@@ -2,8 +2,7 @@
 use Rattle.std.proofs.Common.{◌≡◌, ℕ, ◌+◌, ◌<◌, ◌⊎◌, inl, inr, ◌++◌, ◌∷◌, [], List, All, Any, cond, eqb, true, length, get_or, ⊎_elim, refl, sym, ap, subst, arith, eq-eqb}
 use Rattle.net_core.proofs.Library.{list_any_at}
 use Rattle.plan_terms.specs.Terms.{names_link, LinkId, Flow}
-use Rattle.greedy_router.specs.declared.draft.Draft.{Draft}
-use Rattle.greedy_router.specs.inner.Drafts.{Sends}
+use Rattle.greedy_router.{specs.declared.draft.Draft.Draft, specs.inner.Drafts.Sends}
 
 -- the path names the link at one of its places
 named_at : (path : List LinkId) (i : ℕ) (e : LinkId) → i < length path → get_or path i e ≡ e → names_link e.0 path ≡ true

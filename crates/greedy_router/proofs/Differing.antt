@@ -1,8 +1,7 @@
 -- on a path no link appears twice
 use Rattle.std.proofs.Common.{◌≡◌, ◌≢◌, ℕ, zero, suc, ◌<◌, true, eqb, List, [], ◌∷◌, get_or, length, sym, ◌∙◌, arith, AllPairs, eq-eqb}
 use Rattle.net_core.proofs.Library.{false≢true, list_any_at}
-use Rattle.plan_terms.specs.Terms.{LinkId, Graph, Joins, names_link, IsPath}
-use Rattle.plan_terms.proofs.Lemmas.{DistinctLinks, path_links_differ}
+use Rattle.plan_terms.{specs.Terms.{LinkId, Graph, Joins, names_link, IsPath}, proofs.Lemmas.{DistinctLinks, path_links_differ}}
 
 differ_at : (es : List LinkId) (i j : ℕ) (d : LinkId) → DistinctLinks es → i < j → j < length es → (get_or es i d).0 ≢ (get_or es j d).0
 differ_at [] i j d all lt within = absurd (omega (arith, within))

@@ -1,8 +1,6 @@
 -- a stable sort by falling amounts, of places that rise
-use Rattle.std.proofs.Common.{◌≡◌, ℕ, zero, suc, ◌+◌, ◌<◌, ◌≤◌, ◌++◌, ◌&&◌, Bool, false, true, List, [], ◌∷◌, get_or, inl, inr, length, nat_cmp, is_lt, not, ⊎_elim, ap, arith, IsPermutation, IsSortedBy}
+use Rattle.std.{proofs.Common.{◌≡◌, ℕ, zero, suc, ◌+◌, ◌<◌, ◌≤◌, ◌++◌, ◌&&◌, Bool, false, true, List, [], ◌∷◌, get_or, inl, inr, length, nat_cmp, is_lt, not, ⊎_elim, ap, arith, IsPermutation, IsSortedBy}, specs.Cmp.nat_cmp_total, proofs.lemmas.List.Sorted.{IsStrictWeakOrder-flip, ranks_by, ties_stay_sorted}}
 use Rattle.net_core.proofs.Library.{range_with_len, IsStableBy, ties, cases_lt, nat_tests, get_or-range_with_len, length-range_with_len, All-permutation}
-use Rattle.std.specs.Cmp.{nat_cmp_total}
-use Rattle.std.proofs.lemmas.List.Sorted.{IsStrictWeakOrder-flip, ranks_by, ties_stay_sorted}
 use Rattle.greedy_router.specs.inner.Orders.{AreFalling}
 
 pub range_more : (a n j : ℕ) → a + n ≡ j → range_with_len a (n + 1) ≡ range_with_len a n ++ j ∷ []

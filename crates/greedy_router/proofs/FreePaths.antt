@@ -1,12 +1,9 @@
 -- a path costs as many as its links where none of them is full
 use Rattle.std.proofs.Common.{◌≡◌, ℕ, zero, suc, ◌<◌, ◌^◌, ◌≤◌, All, List, [], ◌∷◌, MatchOption, Option, None, Some, get_or, length, map, ⊎_elim, subst, sym, arith}
 use Rattle.net_core.proofs.Library.{AllByRecursion, cases_lt, All-from_recursion, All-map, recursion_from_All, get_or-map, get_or_past, few_nodes}
-use Rattle.plan_terms.specs.Terms.{LinkId, IsNetwork, Graph, Joins, length_of}
-use Rattle.plan_terms.proofs.Lemmas.{path_links_inside, path_few, joins_inside}
-use Rattle.short_paths.specs.PricedPaths.{IsPricedPath}
-use Rattle.short_paths.specs.declared.priced_paths.PricedPath.{PricedPath}
-use Rattle.greedy_router.specs.Blocked.{IsBlocked}
-use Rattle.greedy_router.specs.inner.FullLinks.{IsOpenPath, full_price}
+use Rattle.plan_terms.{specs.Terms.{LinkId, IsNetwork, Graph, Joins, length_of}, proofs.Lemmas.{path_links_inside, path_few, joins_inside}}
+use Rattle.short_paths.{specs.PricedPaths.IsPricedPath, specs.declared.priced_paths.PricedPath.PricedPath}
+use Rattle.greedy_router.{specs.Blocked.IsBlocked, specs.inner.FullLinks.{IsOpenPath, full_price}}
 
 open_price : (s : ℕ) → 0 < s → full_price s ≡ 1
 open_price zero some = absurd (omega (arith, some))

@@ -1,7 +1,6 @@
 -- an amount is taken from one link of a path after another
-use Rattle.std.proofs.Common.{◌≡◌, ◌≢◌, ℕ, ◌+◌, ◌-◌, ◌<◌, ◌≤◌, ◌||◌, Bool, cond, true, false, eqb, List, get_or, set, length, take, ⊎_elim, sym, ap, subst, ◌∙◌, refl, arith, get_or-set_same, get_or-set_other, AllPairs, eq-eqb, ne_eqb, get_or-take, length-take-le}
+use Rattle.std.{proofs.Common.{◌≡◌, ◌≢◌, ℕ, ◌+◌, ◌-◌, ◌<◌, ◌≤◌, ◌||◌, Bool, cond, true, false, eqb, List, get_or, set, length, take, ⊎_elim, sym, ap, subst, ◌∙◌, refl, arith, get_or-set_same, get_or-set_other, AllPairs, eq-eqb, ne_eqb, get_or-take, length-take-le}, proofs.lemmas.List.Folds.list_any_more}
 use Rattle.net_core.proofs.Library.{cases_eq, All-from_get_or, list_any_none}
-use Rattle.std.proofs.lemmas.List.Folds.{list_any_more}
 use Rattle.plan_terms.specs.Terms.{LinkId, names_link}
 
 abbrev Differ : List LinkId → Type 0

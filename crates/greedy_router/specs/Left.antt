@@ -1,8 +1,7 @@
 -- a routing that is blocked, with what it leaves of the demands (a blocking flow of several commodities)
 use Rattle.std.specs.Prelude.{◌≡◌, ℕ, ◌+◌, ◌*◌, ◌<◌, ◌≤◌, List, All, Some, length, slice_get, slice_index}
 use Rattle.plan_terms.specs.Terms.{Demand, IsFlow, load, sent}
-use Rattle.greedy_router.specs.Blocked.{HasSpare, IsBlocked}
-use Rattle.greedy_router.specs.declared.greedy_flows.Left.{Left}
+use Rattle.greedy_router.{specs.Blocked.{HasSpare, IsBlocked}, specs.declared.greedy_flows.Left.Left}
 
 -- The flows are whole numbers, follow paths of their demands and stay within nums over scale. With its rest each demand has
 -- its need, and one that has a rest has no path of links with spare capacity. There are at most as many flows as links and

@@ -1,8 +1,6 @@
-ghost use Rattle.std.specs.Prelude.{◌≡◌, ◌+◌, ◌<◌, ◌↔◌, All, IfOk, IsTrue, length};
-ghost use Rattle.std.specs.List.{range_with_len};
+ghost use Rattle.std.{specs.Prelude.{◌≡◌, ◌+◌, ◌<◌, ◌↔◌, All, IfOk, IsTrue, length}, specs.List.range_with_len};
 ghost use Rattle.plan_terms.specs.Terms.{AreDemands, IsFlow, Joins, graph, graph_of};
-ghost use Rattle.greedy_router.specs.Left.{IsLeft};
-ghost use Rattle.greedy_router.specs.inner.Drafts.{AreRouted, IsDraft};
+ghost use Rattle.greedy_router.{specs.Left.IsLeft, specs.inner.Drafts.{AreRouted, IsDraft}};
 
 use crate::draft::{Draft, empty_draft};
 use crate::order::by_falling_amount;

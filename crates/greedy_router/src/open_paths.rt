@@ -1,7 +1,6 @@
 ghost use Rattle.std.specs.Prelude.{◌≡◌, ◌<◌, ◌≤◌, ◌^◌, IfOk, MatchOption, length, map, slice_index};
 ghost use Rattle.plan_terms.specs.Terms.{Joins, graph_of};
-ghost use Rattle.greedy_router.specs.Blocked.{IsBlocked};
-ghost use Rattle.greedy_router.specs.inner.FullLinks.{IsOpenPath, full_price};
+ghost use Rattle.greedy_router.{specs.Blocked.IsBlocked, specs.inner.FullLinks.{IsOpenPath, full_price}};
 
 use net_core::{List, NoMemory, NodeId, Path};
 use short_paths::{PathFault, PathFinder, PricedPath};

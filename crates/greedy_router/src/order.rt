@@ -1,6 +1,4 @@
-ghost use Rattle.std.specs.Prelude.{◌≡◌, ◌<◌, ◌^◌, IfOk, length, slice_index};
-ghost use Rattle.std.specs.List.{range_with_len};
-ghost use Rattle.std.specs.List.Sorted.{IsPermutation};
+ghost use Rattle.std.{specs.Prelude.{◌≡◌, ◌<◌, ◌^◌, IfOk, length, slice_index}, specs.List.range_with_len, specs.List.Sorted.IsPermutation};
 ghost use Rattle.greedy_router.specs.inner.Orders.{AreFalling};
 
 use net_core::{List, NoMemory};

@@ -1,7 +1,6 @@
 ghost use Rattle.std.specs.Prelude.{◌≡◌, ℕ, ◌<◌, OnOk, length, slice_index};
 ghost use Rattle.plan_terms.specs.Terms.{Joins, graph_of};
-ghost use Rattle.greedy_router.specs.Blocked.{IsBlocked};
-ghost use Rattle.greedy_router.specs.inner.Drafts.{Adds};
+ghost use Rattle.greedy_router.{specs.Blocked.IsBlocked, specs.inner.Drafts.Adds};
 
 use crate::draft::Draft;
 use crate::open_paths::open_path;

@@ -1,8 +1,7 @@
 -- What contracts say of boards of hints and of their hints.
 use Rattle.std.specs.Prelude.{ℕ, List}
 use Rattle.boxcar.specs.Table.{Shows}
-use Rattle.hint_board.specs.declared.board.Hint.{Hint}
-use Rattle.hint_board.specs.declared.board.HintBoard.{HintBoard}
+use Rattle.hint_board.{specs.declared.board.Hint.Hint, specs.declared.board.HintBoard.HintBoard}
 
 -- how many lengths each vector of a board has
 abbrev pub hint_links : HintBoard → ℕ

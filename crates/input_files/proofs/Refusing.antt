@@ -1,20 +1,11 @@
 -- files that are refused
 use Rattle.std.proofs.Common.{◌≡◌, ℕ, List, Result, Err, codes, subst}
 use Rattle.plan_terms.specs.Terms.{Demand, Network}
-use Rattle.sndlib_reader.specs.Terms.{kind_word, network_of}
+use Rattle.sndlib_reader.{specs.Terms.{kind_word, network_of}, specs.declared.fault.ReadKind.ReadKind}
+use Rattle.text_kit.{specs.Terms.{AnswersAs, Fails, Read}, specs.declared.refusal.Refusal.Refusal, specs.declared.refusal.Refusal.TheVariants.Bad}
+use Rattle.check_answers.{specs.declared.status.Status.Status, specs.declared.status.Status.TheVariants.BadNetwork}
+use Rattle.input_files.{specs.Inputs.{RefusesNetworkFile, SpellsNetwork}, specs.Refusals.{Refuses, refusal_line}, specs.inner.Steps.Says, specs.Stops.Stops, specs.declared.stop.Stop.Stop, proofs.Stopping.stop_map}
 use Rattle.sndlib_reader.specs.NetworkFiles as networks
-use Rattle.sndlib_reader.specs.declared.fault.ReadKind.{ReadKind}
-use Rattle.text_kit.specs.Terms.{AnswersAs, Fails, Read}
-use Rattle.text_kit.specs.declared.refusal.Refusal.{Refusal}
-use Rattle.text_kit.specs.declared.refusal.Refusal.TheVariants.{Bad}
-use Rattle.input_files.specs.Inputs.{RefusesNetworkFile, SpellsNetwork}
-use Rattle.input_files.specs.Refusals.{Refuses, refusal_line}
-use Rattle.input_files.specs.inner.Steps.{Says}
-use Rattle.input_files.specs.Stops.{Stops}
-use Rattle.input_files.specs.declared.stop.Stop.{Stop}
-use Rattle.check_answers.specs.declared.status.Status.{Status}
-use Rattle.check_answers.specs.declared.status.Status.TheVariants.{BadNetwork}
-use Rattle.input_files.proofs.Stopping.{stop_map}
 
 -- bytes that spell nothing, with their first fault
 module _ {X Y K : Type 0} (Spells : List ℕ → X → Type 0) (reading : List ℕ → Result Y (ℕ × K)) (file : List ℕ) (word : K → List ℕ) (bad : Status) where

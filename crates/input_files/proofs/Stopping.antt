@@ -3,13 +3,9 @@ use Rattle.std.proofs.Common.{◌≢◌, ℕ, List, [], Option, inl, inr}
 use Rattle.plan_terms.specs.Terms.{Demand, Network}
 use Rattle.model_reader.specs.declared.model.Model.{Model}
 use Rattle.outside_io.specs.Outside.{Files}
-use Rattle.input_files.specs.InputWords.{PlanWords, default}
-use Rattle.input_files.specs.Inputs.{Fetched, HasModel, RefusesModelFile, SpellsNetwork, StopsAtFailures, StopsAtFile, StopsAtInputs, input_limit}
-use Rattle.input_files.specs.Stops.{Stops}
-use Rattle.input_files.specs.declared.stop.Stop.{Stop}
+use Rattle.check_answers.{specs.declared.status.Status.Status, specs.declared.status.Status.TheVariants.{BadModel, ReadFault}}
+use Rattle.input_files.{specs.InputWords.{PlanWords, default}, specs.Inputs.{Fetched, HasModel, RefusesModelFile, SpellsNetwork, StopsAtFailures, StopsAtFile, StopsAtInputs, input_limit}, specs.Stops.Stops, specs.declared.stop.Stop.Stop}
 use Rattle.input_files.specs.declared.stop.Stop.TheVariants as stop
-use Rattle.check_answers.specs.declared.status.Status.{Status}
-use Rattle.check_answers.specs.declared.status.Status.TheVariants.{BadModel, ReadFault}
 
 -- a further cause
 pub stop_map : (P Q : Status → List ℕ → Type 0) (s : Stop) → ((status : Status) (text : List ℕ) → P status text → Q status text) → Stops P s → Stops Q s

@@ -2,24 +2,19 @@
 use Rattle.std.specs.Prelude.{◌≡◌, ◌≢◌, ℕ, ◌^◌, ◌⊎◌, Bool, true, false, List, [], ◌∷◌, ◌++◌, Option, codes}
 use Rattle.plan_terms.specs.Terms.{Case, Demand, Link, Network, Notes, Places, Listed, settled_links, settled_notes}
 use Rattle.outside_io.specs.Outside.{Fetches, Files}
-use Rattle.outside_io.specs.declared.shelf.Fetch.TheVariants as fetch
-use Rattle.model_reader.specs.Failures as failures
-use Rattle.model_reader.specs.Terms.{failures_of, failures_word, model_word, model_of}
-use Rattle.model_reader.specs.Models as models
-use Rattle.model_reader.specs.declared.model.Model.{Model}
+use Rattle.model_reader.{specs.Terms.{failures_of, failures_word, model_word, model_of}, specs.declared.model.Model.Model}
 use Rattle.sndlib_reader.specs.Terms.{kind_word, network_of}
-use Rattle.sndlib_reader.specs.NetworkFiles as networks
 use Rattle.plan_report.specs.Terms.{KnownNames, SpellsReport}
-use Rattle.flow_file.specs.FlowFiles.{SpellsFlows}
-use Rattle.flow_file.specs.FlowKinds.{flows_kind_word}
-use Rattle.flow_file.specs.FlowReading.{flows_of}
+use Rattle.flow_file.{specs.FlowFiles.SpellsFlows, specs.FlowKinds.flows_kind_word, specs.FlowReading.flows_of}
 use Rattle.report_reader.specs.ReadingReport.{report_of}
 use Rattle.report_words.specs.Terms.{report_kind_word}
 use Rattle.session_script.specs.Terms.{script_kind_word, script_of, SpellsScript}
-use Rattle.input_files.specs.InputWords.{PlanWords, default}
-use Rattle.input_files.specs.Refusals.{Refuses, unused_line}
-use Rattle.check_answers.specs.declared.status.Status.{Status}
-use Rattle.check_answers.specs.declared.status.Status.TheVariants.{BadFailures, BadModel, BadNetwork, NoFile, ReadFault, TooLong}
+use Rattle.check_answers.{specs.declared.status.Status.Status, specs.declared.status.Status.TheVariants.{BadFailures, BadModel, BadNetwork, NoFile, ReadFault, TooLong}}
+use Rattle.input_files.{specs.InputWords.{PlanWords, default}, specs.Refusals.{Refuses, unused_line}}
+use Rattle.outside_io.specs.declared.shelf.Fetch.TheVariants as fetch
+use Rattle.model_reader.specs.Failures as failures
+use Rattle.model_reader.specs.Models as models
+use Rattle.sndlib_reader.specs.NetworkFiles as networks
 
 -- an input file has at most 16 MiB, and a report 256 MiB
 abbrev pub input_limit : ℕ

@@ -3,10 +3,7 @@ ghost use Rattle.plan_terms.specs.Terms.{AreDemands};
 ghost use Rattle.outside_io.specs.Outside.{Fetches};
 ghost use Rattle.model_reader.specs.Failures as failures;
 ghost use Rattle.model_reader.specs.Models as models;
-ghost use Rattle.input_files.specs.InputWords.{default};
-ghost use Rattle.input_files.specs.Inputs.{Fetched, HasInputs, HasModel, HasStates, RefusesFailureFile, RefusesModelFile, RefusesNetworkFile, SpellsNetwork, StopsAtFailures, StopsAtFetch, StopsAtFile, StopsAtInputs, input_limit};
-ghost use Rattle.input_files.specs.Shelves.{KeepsShelf};
-ghost use Rattle.input_files.specs.Stops.{Stops, named};
+ghost use Rattle.input_files.{specs.InputWords.default, specs.Inputs.{Fetched, HasInputs, HasModel, HasStates, RefusesFailureFile, RefusesModelFile, RefusesNetworkFile, SpellsNetwork, StopsAtFailures, StopsAtFetch, StopsAtFile, StopsAtInputs, input_limit}, specs.Shelves.KeepsShelf, specs.Stops.{Stops, named}};
 
 use crate::refusal::{UnusedFailures, not_fetched, refused};
 use crate::stop::Stop;

@@ -2,9 +2,7 @@ ghost use Rattle.std.specs.Prelude.{◌≡◌, IfErr, IfOk, IsErrOf};
 ghost use Rattle.plan_report.specs.Terms.{known_of, SpellsReport};
 ghost use Rattle.flow_file.specs.FlowFiles.{IsFlowFile, SpellsFlows};
 ghost use Rattle.session_script.specs.Terms.{SpellsScript};
-ghost use Rattle.input_files.specs.Inputs.{Fetched, RefusesFlowFile, RefusesReportFile, RefusesScriptFile, StopsAtFile, input_limit, report_limit};
-ghost use Rattle.input_files.specs.Shelves.{KeepsShelf};
-ghost use Rattle.input_files.specs.Stops.{Stops};
+ghost use Rattle.input_files.{specs.Inputs.{Fetched, RefusesFlowFile, RefusesReportFile, RefusesScriptFile, StopsAtFile, input_limit, report_limit}, specs.Shelves.KeepsShelf, specs.Stops.Stops};
 
 use crate::inputs::{INPUT_LIMIT, fetch_file};
 use crate::refusal::refused;

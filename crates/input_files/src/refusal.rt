@@ -1,7 +1,5 @@
 ghost use Rattle.std.specs.Prelude.{◌≡◌, ◌≢◌, ◌++◌, ◌∷◌, [], IfOk, MatchResult, OnOk, codes, decimal};
-ghost use Rattle.input_files.specs.Refusals.{refusal_line};
-ghost use Rattle.input_files.specs.inner.Steps.{Says};
-ghost use Rattle.input_files.specs.Stops.{Stops};
+ghost use Rattle.input_files.{specs.Refusals.refusal_line, specs.inner.Steps.Says, specs.Stops.Stops};
 
 use crate::stop::Stop;
 use check_answers::{Answer, Status};

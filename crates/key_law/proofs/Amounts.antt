@@ -2,13 +2,8 @@
 use Rattle.std.proofs.Common.{ℕ, ◌<◌, ◌≤◌, ◌+◌, ◌^◌, arith, subst, unsigned_abs, ℤ, pos, ◌-ℤ◌, ◌*ℤ◌, ◌<ℤ◌, ◌≤ℤ◌}
 use Rattle.net_core.proofs.Library.{ints}
 use Rattle.checked_fraction.specs.Terms.{IsNarrow}
-use Rattle.simplex_law.specs.Terms.{int_sum, dot, ColumnOf, IsPacking, Gains}
-use Rattle.simplex_law.proofs.Lemmas.{times_nonneg, limited, row_value_nonneg, row_value_low, sum_grows}
-use Rattle.key_law.specs.Keys.{left_column}
-use Rattle.key_law.specs.KeyRows.{full_prices, HaveWeights, key_times, key_dot, role_nums, AreKeyRows}
-use Rattle.key_law.specs.Kept.{IsKept}
-use Rattle.key_law.proofs.Kept.{kept_row, row_product, key_row, key_row_product}
-use Rattle.key_law.proofs.Roles.{role_tableau}
+use Rattle.simplex_law.{specs.Terms.{int_sum, dot, ColumnOf, IsPacking, Gains}, proofs.Lemmas.{times_nonneg, limited, row_value_nonneg, row_value_low, sum_grows}}
+use Rattle.key_law.{specs.Keys.left_column, specs.KeyRows.{full_prices, HaveWeights, key_times, key_dot, role_nums, AreKeyRows}, specs.Kept.IsKept, proofs.Kept.{kept_row, row_product, key_row, key_row_product}, proofs.Roles.role_tableau}
 
 module _ {N : Type 0} {links demands : ℕ} {bound : ℕ → ℤ} {basis : ℕ → ColumnOf N} {place role : ℕ → ℕ} {kept : ℕ → ℕ → ℤ} {den prices : ℕ → ℤ} {prices_den : ℤ}
     (is_column : ColumnOf N → Type 0) (h : IsKept links demands bound basis place role kept den prices prices_den) where

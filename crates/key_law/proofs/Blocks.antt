@@ -1,10 +1,8 @@
 -- rows of the block and rows of the whole basis
 use Rattle.std.proofs.Common.{◌≡◌, ℕ, ◌<◌, ◌+◌, ◌-◌, sym, ap, ◌∙◌, arith, ⊎_elim, subst, ℤ, pos, ◌+ℤ◌, ◌-ℤ◌, ◌*ℤ◌}
 use Rattle.net_core.proofs.Library.{cases_lt, *ℤ_comm, ints}
-use Rattle.simplex_law.specs.Terms.{int_sum, dot, unit_vector, ColumnOf, IsRow}
-use Rattle.simplex_law.proofs.Lemmas.{minus_left, sum-same, sum-unit, dot-none-column}
-use Rattle.key_law.specs.Keys.{difference, IsSpread, AreRoles, AreKeys, IsBlockRow, key, key_part}
-use Rattle.key_law.proofs.Spread.{dot-spread, spread_of}
+use Rattle.simplex_law.{specs.Terms.{int_sum, dot, unit_vector, ColumnOf, IsRow}, proofs.Lemmas.{minus_left, sum-same, sum-unit, dot-none-column}}
+use Rattle.key_law.{specs.Keys.{difference, IsSpread, AreRoles, AreKeys, IsBlockRow, key, key_part}, proofs.Spread.{dot-spread, spread_of}}
 
 sum-of-unit : (m d : ℕ) (v : ℕ → ℤ) → d < m → int_sum m (λ e. unit_vector d e *ℤ v e) ≡ v d
 sum-of-unit m d v lt = sum-same m _ (λ e. v e *ℤ unit_vector d e) (λ e l. *ℤ_comm (unit_vector d e) (v e)) ∙ sum-unit m d v lt

@@ -2,14 +2,7 @@
 use Rattle.std.proofs.Common.{◌≡◌, ◌≢◌, ℕ, ◌<◌, ◌≤◌, ◌+◌, ◌-◌, Bool, true, false, refl, sym, ap, arith, cond, ltb, ⊎_elim, subst, lt-ltb, le-ltb, ℤ, pos, ◌*ℤ◌, ◌<ℤ◌}
 use Rattle.net_core.proofs.Library.{cases_lt, ints}
 use Rattle.simplex_law.specs.Terms.{dot, unit_vector, ColumnOf, IsNoLater}
-use Rattle.key_law.specs.Keys.{key_part, left_column}
-use Rattle.key_law.specs.KeyRows.{full_kept, full_key, cost, key_nums, key_dot}
-use Rattle.key_law.specs.Kept.{IsKept}
-use Rattle.key_law.specs.Ties.{ComesFirst, IsRoleRow}
-use Rattle.key_law.specs.Turns.{IsKeyPick}
-use Rattle.key_law.proofs.Firsts.{comes_first}
-use Rattle.key_law.proofs.Kept.{row_product, key_row_product}
-use Rattle.key_law.proofs.Spread.{is_spread}
+use Rattle.key_law.{specs.Keys.{key_part, left_column}, specs.KeyRows.{full_kept, full_key, cost, key_nums, key_dot}, specs.Kept.IsKept, specs.Ties.{ComesFirst, IsRoleRow}, specs.Turns.IsKeyPick, proofs.Firsts.comes_first, proofs.Kept.{row_product, key_row_product}, proofs.Spread.is_spread}
 
 -- each demand's columns are brought over a denominator of its own
 module _ {N : Type 0} {links demands : ℕ} {bound : ℕ → ℤ} {basis : ℕ → ColumnOf N} {place role : ℕ → ℕ} {kept : ℕ → ℕ → ℤ} {den prices : ℕ → ℤ} {prices_den : ℤ}

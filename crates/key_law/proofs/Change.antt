@@ -1,13 +1,8 @@
 -- what a new key changes of products and values
 use Rattle.std.proofs.Common.{◌≡◌, ◌≢◌, ℕ, ◌<◌, ◌+◌, refl, sym, ap, ◌∙◌, arith, ℤ, pos, ◌-ℤ◌, ◌*ℤ◌}
 use Rattle.net_core.proofs.Library.{*ℤ-zero, *ℤ_comm, ints}
-use Rattle.simplex_law.specs.Terms.{int_sum, dot, unit_vector, ColumnOf}
-use Rattle.simplex_law.proofs.Lemmas.{minus_left, moved_out, sum-same, sum-minus, sum-times, sum-one, dot-same, unit-other, unit-same}
-use Rattle.key_law.specs.Keys.{difference, key_part, left_column}
-use Rattle.key_law.specs.KeyRows.{key_nums, key_dot, HaveWeights}
-use Rattle.key_law.specs.Kept.{IsKept}
-use Rattle.key_law.proofs.Kept.{key_at_block, key_nums_product}
-use Rattle.key_law.proofs.Owned.{owned_difference}
+use Rattle.simplex_law.{specs.Terms.{int_sum, dot, unit_vector, ColumnOf}, proofs.Lemmas.{minus_left, moved_out, sum-same, sum-minus, sum-times, sum-one, dot-same, unit-other, unit-same}}
+use Rattle.key_law.{specs.Keys.{difference, key_part, left_column}, specs.KeyRows.{key_nums, key_dot, HaveWeights}, specs.Kept.IsKept, proofs.Kept.{key_at_block, key_nums_product}, proofs.Owned.owned_difference}
 
 module _ (links demands : ℕ) (keys others : ℕ → ℕ → ℤ) (d : ℕ) (ld : d < demands) (same : (e k : ℕ) → e < demands → e ≢ d → others e k ≡ keys e k) where
   -- where one key is new, a difference falls by the change of the key times the column's entry in its demand

@@ -2,15 +2,8 @@
 use Rattle.std.proofs.Common.{◌≡◌, ℕ, ◌<◌, ◌+◌, ◌-◌, refl, sym, ap, ◌∙◌, arith, cond, ltb, ⊎_elim, subst, lt-ltb, le-ltb, ℤ, pos, ◌*ℤ◌, ◌<ℤ◌, ◌≤ℤ◌}
 use Rattle.net_core.proofs.Library.{cases_lt, cases_eq, ints, eq-one_of_dvd-one}
 use Rattle.checked_fraction.specs.Terms.{IsInLowestTerms}
-use Rattle.simplex_law.specs.Terms.{dot, unit_vector, ColumnOf, slack_basis, Gains, IsOptimum, IsTableau}
-use Rattle.simplex_law.proofs.Lemmas.{swap_last, dot-same, unit-same, unit-other, started, optimum}
-use Rattle.key_law.specs.Keys.{left_target, AreRoles, AreKeys, key, key_part, left_column}
-use Rattle.key_law.specs.KeyRows.{full_kept, full_prices, full_key, key_nums, key_dot, role_nums, role_value, AreKeyRows}
-use Rattle.key_law.specs.Kept.{IsKept}
-use Rattle.key_law.proofs.Spread.{is_spread, full_lowest}
-use Rattle.key_law.proofs.Blocks.{block_of}
-use Rattle.key_law.proofs.Kept.{inverse_block, row_product, key_row_product}
-use Rattle.key_law.proofs.Roles.{demand_rows, role_tableau, role_den}
+use Rattle.simplex_law.{specs.Terms.{dot, unit_vector, ColumnOf, slack_basis, Gains, IsOptimum, IsTableau}, proofs.Lemmas.{swap_last, dot-same, unit-same, unit-other, started, optimum}}
+use Rattle.key_law.{specs.Keys.{left_target, AreRoles, AreKeys, key, key_part, left_column}, specs.KeyRows.{full_kept, full_prices, full_key, key_nums, key_dot, role_nums, role_value, AreKeyRows}, specs.Kept.IsKept, proofs.Spread.{is_spread, full_lowest}, proofs.Blocks.block_of, proofs.Kept.{inverse_block, row_product, key_row_product}, proofs.Roles.{demand_rows, role_tableau, role_den}}
 
 module _ {N : Type 0} (links demands : ℕ) (bound : ℕ → ℤ) (slack : ℕ → N) (kept : ℕ → ℕ → ℤ) (den prices : ℕ → ℤ) (prices_den : ℤ)
     (bounds : (k : ℕ) → k < links + demands → pos 0 ≤ℤ bound k)

@@ -3,16 +3,10 @@ use Rattle.std.proofs.Common.{◌≡◌, ◌≢◌, ℕ, zero, suc, ◌<◌, ◌
 use Rattle.net_core.proofs.Library.{ints, eq-one_of_dvd-one}
 use Rattle.checked_fraction.specs.Terms.{IsReduced}
 use Rattle.simplex_law.specs.Terms.{dot, unit_vector, put, ColumnOf, slack_basis}
-use Rattle.key_law.specs.Keys.{swap}
-use Rattle.key_law.specs.KeyRows.{key_nums, role_value, AreKeyRows}
-use Rattle.key_law.specs.Kept.{IsKept}
-use Rattle.key_law.specs.KeyedBases.{KeyedBasis, left_of, whole_cost, whole_prices, KeyedTurn}
-use Rattle.key_law.specs.Turns.{IsBlockTurned, IsExchanged}
+use Rattle.key_law.{specs.Keys.swap, specs.KeyRows.{key_nums, role_value, AreKeyRows}, specs.Kept.IsKept, specs.KeyedBases.{KeyedBasis, left_of, whole_cost, whole_prices, KeyedTurn}, specs.Turns.{IsBlockTurned, IsExchanged}, proofs.Laws.turn_pick, proofs.Roles.demand_rows}
 use Rattle.key_law.proofs.Ends
 use Rattle.key_law.proofs.Exchange
-use Rattle.key_law.proofs.Laws.{turn_pick}
 use Rattle.key_law.proofs.Leaving
-use Rattle.key_law.proofs.Roles.{demand_rows}
 use Rattle.key_law.proofs.Turns
 
 -- numbers in the rows of the links, and in that of the demand

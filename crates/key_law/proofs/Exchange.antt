@@ -2,15 +2,8 @@
 use Rattle.std.proofs.Common.{◌≡◌, ◌≢◌, ℕ, ◌<◌, ◌+◌, refl, sym, ap, ◌∙◌, arith, cond, eqb, ⊎_elim, subst, unsigned_abs, eq-eqb, ne_eqb, ℤ, pos, ◌<ℤ◌}
 use Rattle.net_core.proofs.Library.{cases_eq, ◌∣◌}
 use Rattle.checked_fraction.specs.Terms.{IsInLowestTerms}
-use Rattle.simplex_law.specs.Terms.{unit_vector, ColumnOf, IsRow}
-use Rattle.simplex_law.proofs.Lemmas.{dot-same, multiple, reduced_row}
-use Rattle.key_law.specs.Keys.{left_target, AreRoles, swap, AreKeys, key, key_part, block}
-use Rattle.key_law.specs.KeyRows.{full_kept, full_key, key_nums}
-use Rattle.key_law.specs.Kept.{IsKept}
-use Rattle.key_law.specs.Turns.{IsExchanged}
-use Rattle.key_law.proofs.Spread.{is_spread}
-use Rattle.key_law.proofs.Blocks.{block_of}
-use Rattle.key_law.proofs.Kept.{inverse_block, kept_row, prices_row, key_row}
+use Rattle.simplex_law.{specs.Terms.{unit_vector, ColumnOf, IsRow}, proofs.Lemmas.{dot-same, multiple, reduced_row}}
+use Rattle.key_law.{specs.Keys.{left_target, AreRoles, swap, AreKeys, key, key_part, block}, specs.KeyRows.{full_kept, full_key, key_nums}, specs.Kept.IsKept, specs.Turns.IsExchanged, proofs.Spread.is_spread, proofs.Blocks.block_of, proofs.Kept.{inverse_block, kept_row, prices_row, key_row}}
 
 pub swap_first : (a b : ℕ) → swap a b a ≡ b
 swap_first a b = ap (λ t. cond t b (cond (eqb b a) a a)) (eq-eqb a a refl)

@@ -1,11 +1,8 @@
 -- of two roles, the one whose values, link entries and roles come first has the row that comes no later
 use Rattle.std.proofs.Common.{◌≡◌, ℕ, ◌<◌, ◌+◌, ◌-◌, sym, ap, ◌∙◌, arith, inl, ⊎_elim, subst, ℤ, pos, ◌*ℤ◌, ◌<ℤ◌, ◌≤ℤ◌}
 use Rattle.net_core.proofs.Library.{cases_lt, cases_eq, ints}
-use Rattle.simplex_law.specs.Terms.{dot, unit_vector, IsNoLater}
-use Rattle.simplex_law.proofs.Lemmas.{unit-same, unit-other, over}
-use Rattle.key_law.specs.Ties.{IsRoleFirst, ComesFirst, IsRoleRow}
-use Rattle.key_law.proofs.Ties.{by_links, block_first, later_first}
-use Rattle.key_law.proofs.Crossed.{less_again, same_again}
+use Rattle.simplex_law.{specs.Terms.{dot, unit_vector, IsNoLater}, proofs.Lemmas.{unit-same, unit-other, over}}
+use Rattle.key_law.{specs.Ties.{IsRoleFirst, ComesFirst, IsRoleRow}, proofs.Ties.{by_links, block_first, later_first}, proofs.Crossed.{less_again, same_again}}
 
 module _ {links demands : ℕ} {keys : ℕ → ℕ → ℤ} {bound a : ℕ → ℤ}
     {role : ℕ} {x p : ℤ} {n : ℕ → ℤ} {r : ℤ} {t u : ℕ → ℤ} {d : ℤ} {full : ℕ → ℤ} (f : IsRoleRow links demands keys bound a role x p n r t u d full)

@@ -1,14 +1,9 @@
 -- the rows of the whole inverse, from those of the block
 use Rattle.std.proofs.Common.{◌≡◌, ◌≢◌, ℕ, ◌<◌, ◌+◌, sym, ap, ◌∙◌, arith, ⊎_elim, subst, ℤ, pos, ◌+ℤ◌, ◌-ℤ◌, ◌*ℤ◌}
 use Rattle.net_core.proofs.Library.{cases_eq, *ℤ_comm, *ℤ-zero, zero-*ℤ, ints}
-use Rattle.simplex_law.specs.Terms.{int_sum, dot, unit_vector, ColumnOf, IsRow}
-use Rattle.simplex_law.proofs.Lemmas.{minus_left, distribute_minus, sum-same, sum-none, sum-unit, sum-one, sum-minus, unit-same, unit-other, priced}
-use Rattle.key_law.specs.Keys.{left_target, IsSpread, AreRoles, AreKeys, IsBlockRow, key, key_part, left_column, block}
-use Rattle.key_law.specs.KeyRows.{full_kept, full_prices, full_key, cost, key_times, key_nums, key_dot, HaveWeights}
-use Rattle.key_law.specs.Kept.{IsKept}
-use Rattle.key_law.proofs.Spread.{dot-spread, is_spread}
-use Rattle.key_law.proofs.Blocks.{full_of, block_of}
+use Rattle.simplex_law.{specs.Terms.{int_sum, dot, unit_vector, ColumnOf, IsRow}, proofs.Lemmas.{minus_left, distribute_minus, sum-same, sum-none, sum-unit, sum-one, sum-minus, unit-same, unit-other, priced}}
 use Rattle.checked_fraction.proofs.Products.{regroup}
+use Rattle.key_law.{specs.Keys.{left_target, IsSpread, AreRoles, AreKeys, IsBlockRow, key, key_part, left_column, block}, specs.KeyRows.{full_kept, full_prices, full_key, cost, key_times, key_nums, key_dot, HaveWeights}, specs.Kept.IsKept, proofs.Spread.{dot-spread, is_spread}, proofs.Blocks.{full_of, block_of}}
 
 -- places are apart as roles keys_are
 pub unit_place : (m : ℕ) (place role : ℕ → ℕ) (r s : ℕ) → AreRoles m place role → r < m → s < m → unit_vector (place r) (place s) ≡ unit_vector r s

@@ -1,10 +1,7 @@
 -- the laws, from the lemmas
 use Rattle.std.proofs.Common.{◌+◌}
 use Rattle.simplex_law.specs.Terms.{IsPick}
-use Rattle.key_law.specs.Keys.{key_part}
-use Rattle.key_law.specs.KeyRows.{role_nums}
-use Rattle.key_law.specs.KeyedBases.{IsColumnBy, KeyedTurn, whole_rows, whole_prices}
-use Rattle.key_law.specs.Laws.{FullRows, KeptOptimum, TurnsReach, TurnsFall}
+use Rattle.key_law.{specs.Keys.key_part, specs.KeyRows.role_nums, specs.KeyedBases.{IsColumnBy, KeyedTurn, whole_rows, whole_prices}, specs.Laws.{FullRows, KeptOptimum, TurnsReach, TurnsFall}}
 use Rattle.key_law.proofs.Blocks
 use Rattle.key_law.proofs.Ends
 use Rattle.key_law.proofs.Roles

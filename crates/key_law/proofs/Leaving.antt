@@ -1,17 +1,8 @@
 -- a key leaves that has other basic columns of its demand, and what the products are then
 use Rattle.std.proofs.Common.{◌≡◌, ◌≢◌, ℕ, ◌<◌, ◌+◌, refl, sym, ap, ◌∙◌, arith, subst, ℤ, ◌-ℤ◌, ◌*ℤ◌}
-use Rattle.simplex_law.specs.Terms.{dot, put, ColumnOf, IsPick}
-use Rattle.simplex_law.proofs.Lemmas.{pick_again, dot-same, row_unique}
-use Rattle.key_law.proofs.Kept.{prices_row}
-use Rattle.key_law.specs.Keys.{swap, key_part, left_column}
-use Rattle.key_law.specs.Kept.{IsKept}
-use Rattle.key_law.specs.KeyRows.{full_prices, key_nums, key_dot, role_nums, AreKeyRows}
-use Rattle.key_law.specs.Turns.{IsBlockTurned, IsLoneKey, IsExchanged}
-use Rattle.key_law.proofs.Exchange.{exchanged, swap_first, swap_second, different, key_at}
-use Rattle.key_law.proofs.Change.{key_turn_product, exchange_product, exchange_key_product}
-use Rattle.key_law.proofs.Roles.{role_tableau}
-use Rattle.key_law.proofs.Turns.{block_turned, new_key, old_key}
+use Rattle.simplex_law.{specs.Terms.{dot, put, ColumnOf, IsPick}, proofs.Lemmas.{pick_again, dot-same, row_unique}}
 use Rattle.checked_fraction.proofs.Products.{cancelled}
+use Rattle.key_law.{proofs.Kept.prices_row, specs.Keys.{swap, key_part, left_column}, specs.Kept.IsKept, specs.KeyRows.{full_prices, key_nums, key_dot, role_nums, AreKeyRows}, specs.Turns.{IsBlockTurned, IsLoneKey, IsExchanged}, proofs.Exchange.{exchanged, swap_first, swap_second, different, key_at}, proofs.Change.{key_turn_product, exchange_product, exchange_key_product}, proofs.Roles.role_tableau, proofs.Turns.{block_turned, new_key, old_key}}
 
 module _ {N : Type 0} {links demands : ℕ} {bound : ℕ → ℤ} {basis : ℕ → ColumnOf N} {place role : ℕ → ℕ} {kept next : ℕ → ℕ → ℤ} {den next_den prices weight : ℕ → ℤ} {prices_den all : ℤ}
     {of_keys other_keys : ℕ → ℕ → ℤ} {of_den other_den : ℕ → ℤ} {i d : ℕ}

@@ -1,8 +1,7 @@
 -- what the keys leave of a column of one demand, and of none
 use Rattle.std.proofs.Common.{◌≡◌, ◌≢◌, ℕ, ◌<◌, ◌+◌, ap, ◌∙◌, arith, ℤ, pos, ◌-ℤ◌, ◌*ℤ◌}
 use Rattle.net_core.proofs.Library.{*ℤ_comm, zero-*ℤ, ints}
-use Rattle.simplex_law.specs.Terms.{int_sum, dot, unit_vector}
-use Rattle.simplex_law.proofs.Lemmas.{minus_left, sum-same, sum-none, sum-unit, sum-minus, unit-other}
+use Rattle.simplex_law.{specs.Terms.{int_sum, dot, unit_vector}, proofs.Lemmas.{minus_left, sum-same, sum-none, sum-unit, sum-minus, unit-other}}
 use Rattle.key_law.specs.Keys.{difference, left_target}
 
 module _ (links demands : ℕ) (keys : ℕ → ℕ → ℤ) (a : ℕ → ℤ) where

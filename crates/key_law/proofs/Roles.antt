@@ -1,12 +1,8 @@
 -- rows by their roles make a tableau, and a pick over the roles is a pick over its rows
 use Rattle.std.proofs.Common.{◌≡◌, ℕ, ◌<◌, ◌≤◌, ◌+◌, ◌-◌, sym, ap, ◌∙◌, arith, cond, ltb, ⊎_elim, subst, lt-ltb, le-ltb, ℤ, pos, ◌*ℤ◌, ◌<ℤ◌}
 use Rattle.net_core.proofs.Library.{cases_lt}
-use Rattle.simplex_law.specs.Terms.{dot, unit_vector, ColumnOf, IsRow, IsTableau, IsPick, IsRatioLe}
-use Rattle.simplex_law.proofs.Lemmas.{same_tableau, weights}
-use Rattle.key_law.specs.Kept.{IsKept}
-use Rattle.key_law.specs.KeyRows.{full_kept, full_prices, full_key, key_nums, HaveWeights, role_nums, AreKeyRows}
-use Rattle.key_law.specs.Turns.{IsKeyPick}
-use Rattle.key_law.proofs.Kept.{kept_row, prices_row, cost_product, key_row}
+use Rattle.simplex_law.{specs.Terms.{dot, unit_vector, ColumnOf, IsRow, IsTableau, IsPick, IsRatioLe}, proofs.Lemmas.{same_tableau, weights}}
+use Rattle.key_law.{specs.Kept.IsKept, specs.KeyRows.{full_kept, full_prices, full_key, key_nums, HaveWeights, role_nums, AreKeyRows}, specs.Turns.IsKeyPick, proofs.Kept.{kept_row, prices_row, cost_product, key_row}}
 
 -- the denominators of the rows by role; those of the keys are given
 abbrev pub role_den : ℕ → (ℕ → ℤ) → (ℕ → ℤ) → ℕ → ℤ

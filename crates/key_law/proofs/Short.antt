@@ -2,12 +2,8 @@
 use Rattle.std.proofs.Common.{◌≡◌, ℕ, zero, suc, ◌<◌, ◌+◌, sym, ap, ◌∙◌, arith, subst, ℤ, pos, ◌-ℤ◌, ◌*ℤ◌}
 use Rattle.net_core.proofs.Library.{*ℤ-zero, ints}
 use Rattle.checked_fraction.specs.Terms.{combined}
-use Rattle.simplex_law.specs.Terms.{dot, ColumnOf, IsLexNonneg, valued, IsNoLater}
-use Rattle.simplex_law.proofs.Lemmas.{distribute_minus, minus_left, lex_more, dot-none, dot-combined}
-use Rattle.key_law.specs.Keys.{IsSpread, AreRoles, AreKeys, key_part, left_column}
-use Rattle.key_law.specs.KeyRows.{full_kept}
-use Rattle.key_law.proofs.Spread.{is_spread}
-use Rattle.key_law.proofs.Kept.{kept_product}
+use Rattle.simplex_law.{specs.Terms.{dot, ColumnOf, IsLexNonneg, valued, IsNoLater}, proofs.Lemmas.{distribute_minus, minus_left, lex_more, dot-none, dot-combined}}
+use Rattle.key_law.{specs.Keys.{IsSpread, AreRoles, AreKeys, key_part, left_column}, specs.KeyRows.full_kept, proofs.Spread.is_spread, proofs.Kept.kept_product}
 
 module _ {N : Type 0} (links demands : ℕ) (basis : ℕ → ColumnOf N) (place role : ℕ → ℕ) (roles : AreRoles (links + demands) place role) (keys_are : AreKeys links demands basis place) (bound : ℕ → ℤ) where
   pub short_no_later : (u : ℕ → ℤ) (d p : ℤ) (v : ℕ → ℤ) (e q : ℤ) → IsNoLater links (left_column links demands basis place bound) u p v q

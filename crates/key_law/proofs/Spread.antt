@@ -1,11 +1,9 @@
 -- the product of a spread row with a column, and its lowest terms
 use Rattle.std.proofs.Common.{◌≡◌, ℕ, ◌<◌, ◌+◌, ◌-◌, refl, sym, ap, ◌∙◌, arith, cond, subst, unsigned_abs, lt-ltb, le-ltb, ℤ, ◌+ℤ◌, ◌-ℤ◌, ◌*ℤ◌}
 use Rattle.net_core.proofs.Library.{◌∣◌, *ℤ_comm, ints}
-use Rattle.checked_fraction.specs.Terms.{IsInLowestTerms}
-use Rattle.simplex_law.specs.Terms.{int_sum, dot, unit_vector}
-use Rattle.simplex_law.proofs.Lemmas.{distribute_minus, minus_left, sum-split, sum-minus, sum-times, sum-same, dot-same, sum-unit, priced}
+use Rattle.checked_fraction.{specs.Terms.IsInLowestTerms, proofs.Products.regroup}
+use Rattle.simplex_law.{specs.Terms.{int_sum, dot, unit_vector}, proofs.Lemmas.{distribute_minus, minus_left, sum-split, sum-minus, sum-times, sum-same, dot-same, sum-unit, priced}}
 use Rattle.key_law.specs.Keys.{difference, IsSpread, spread}
-use Rattle.checked_fraction.proofs.Products.{regroup}
 
 module _ (links demands : ℕ) (keys : ℕ → ℕ → ℤ) where
   -- the product with a difference, from the products with the column and the keys

@@ -1,12 +1,8 @@
 -- a turn is a step of the whole basis: the next one is reached, and less is left over
 use Rattle.std.proofs.Common.{ℕ, ◌<◌, ◌+◌, ℤ}
 use Rattle.checked_fraction.specs.Terms.{IsNarrow}
-use Rattle.simplex_law.specs.Terms.{put, ColumnOf, IsReached, AreNarrowDuals, left_over, IsPick}
-use Rattle.simplex_law.proofs.Lemmas.{left_over_falls, Rises, turn_reached, rises_to}
-use Rattle.key_law.specs.KeyRows.{full_prices, role_nums, AreKeyRows}
-use Rattle.key_law.specs.Kept.{IsKept}
-use Rattle.key_law.proofs.Kept.{prices_row}
-use Rattle.key_law.proofs.Roles.{role_tableau}
+use Rattle.simplex_law.{specs.Terms.{put, ColumnOf, IsReached, AreNarrowDuals, left_over, IsPick}, proofs.Lemmas.{left_over_falls, Rises, turn_reached, rises_to}}
+use Rattle.key_law.{specs.KeyRows.{full_prices, role_nums, AreKeyRows}, specs.Kept.IsKept, proofs.Kept.prices_row, proofs.Roles.role_tableau}
 
 module _ {N : Type 0} {links demands : ℕ} {bound : ℕ → ℤ} {basis : ℕ → ColumnOf N} {place role : ℕ → ℕ} {kept : ℕ → ℕ → ℤ} {den prices : ℕ → ℤ} {prices_den : ℤ}
     {of_keys : ℕ → ℕ → ℤ} {of_den : ℕ → ℤ} (h : IsKept links demands bound basis place role kept den prices prices_den) (k : AreKeyRows links demands basis place of_keys of_den)

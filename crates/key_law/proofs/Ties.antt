@@ -1,11 +1,9 @@
 -- the order of the ratio test by values, by link entries, and by what the keys take
 use Rattle.std.proofs.Common.{◌≡◌, ℕ, zero, suc, ◌<◌, ◌≤◌, ◌+◌, ◌-◌, sym, ap, ◌∙◌, arith, inr, ⊎_elim, subst, ℤ, pos, ◌-ℤ◌, ◌*ℤ◌, ◌<ℤ◌, ◌≤ℤ◌}
 use Rattle.net_core.proofs.Library.{cases_lt, *ℤ_comm, *ℤ-zero, ints}
-use Rattle.checked_fraction.specs.Terms.{combined}
-use Rattle.simplex_law.specs.Terms.{dot, unit_vector, valued, IsNoLater}
-use Rattle.simplex_law.proofs.Lemmas.{distribute_minus, minus_left, times_nonneg, dot-none, unit-same, unit-other, dot-combined, lex_at, lex_rest, gone, over, weaken}
+use Rattle.checked_fraction.{specs.Terms.combined, proofs.Products.positive_product}
+use Rattle.simplex_law.{specs.Terms.{dot, unit_vector, valued, IsNoLater}, proofs.Lemmas.{distribute_minus, minus_left, times_nonneg, dot-none, unit-same, unit-other, dot-combined, lex_at, lex_rest, gone, over, weaken}}
 use Rattle.key_law.specs.Keys.{IsSpread}
-use Rattle.checked_fraction.proofs.Products.{positive_product}
 
 module _ {links demands : ℕ} {keys : ℕ → ℕ → ℤ} (bound : ℕ → ℤ) {t u : ℕ → ℤ} {d : ℤ} {first : ℕ → ℤ} (first_is : IsSpread links demands keys t u d first) (p : ℤ)
     {s v : ℕ → ℤ} {e : ℤ} {second : ℕ → ℤ} (second_is : IsSpread links demands keys s v e second) (q : ℤ)

@@ -1,18 +1,9 @@
 -- turns keep what is kept
 use Rattle.std.proofs.Common.{◌≡◌, ◌≢◌, ℕ, ◌<◌, ◌+◌, ◌-◌, refl, sym, ap, ◌∙◌, arith, cond, ⊎_elim, subst, lt-ltb, eq-eqb, ne_eqb, ℤ, pos, ◌-ℤ◌, ◌*ℤ◌, ◌<ℤ◌}
 use Rattle.net_core.proofs.Library.{cases_eq, zero-*ℤ}
-use Rattle.checked_fraction.specs.Terms.{IsInLowestTerms, combined}
-use Rattle.simplex_law.specs.Terms.{int_sum, dot, unit_vector, put, ColumnOf, IsRow, IsTableau, HasTableau, IsPick}
-use Rattle.simplex_law.proofs.Lemmas.{sum-same, dot-same, multiple, reduced_row, first_row, other_row, objective_row, turned_raw}
-use Rattle.key_law.specs.Keys.{left_target, AreKeys, IsBlockRow, key, key_part, left_column, block}
-use Rattle.key_law.specs.KeyRows.{full_kept, full_prices, full_key, cost, role_nums, AreKeyRows}
-use Rattle.key_law.specs.Kept.{IsKept}
-use Rattle.key_law.specs.Turns.{IsBlockTurned, IsLoneKey}
-use Rattle.key_law.proofs.Spread.{is_spread}
-use Rattle.key_law.proofs.Blocks.{block_of}
-use Rattle.key_law.proofs.Kept.{inverse_block, row_product, cost_product}
-use Rattle.key_law.proofs.Roles.{role_tableau, role_den}
-use Rattle.checked_fraction.proofs.Products.{positive_product}
+use Rattle.checked_fraction.{specs.Terms.{IsInLowestTerms, combined}, proofs.Products.positive_product}
+use Rattle.simplex_law.{specs.Terms.{int_sum, dot, unit_vector, put, ColumnOf, IsRow, IsTableau, HasTableau, IsPick}, proofs.Lemmas.{sum-same, dot-same, multiple, reduced_row, first_row, other_row, objective_row, turned_raw}}
+use Rattle.key_law.{specs.Keys.{left_target, AreKeys, IsBlockRow, key, key_part, left_column, block}, specs.KeyRows.{full_kept, full_prices, full_key, cost, role_nums, AreKeyRows}, specs.Kept.IsKept, specs.Turns.{IsBlockTurned, IsLoneKey}, proofs.Spread.is_spread, proofs.Blocks.block_of, proofs.Kept.{inverse_block, row_product, cost_product}, proofs.Roles.{role_tableau, role_den}}
 
 -- a row is a row of the basis where its numbers agree with one below m
 row_same : (m : ℕ) (basic : ℕ → ℕ → ℤ) (target u v : ℕ → ℤ) (d : ℤ) → ((k : ℕ) → k < m → u k ≡ v k) → IsRow m basic target u d → IsRow m basic target v d

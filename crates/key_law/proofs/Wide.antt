@@ -1,19 +1,9 @@
 -- where a kept number is too wide, a kind holds of the whole basis
-use Rattle.std.proofs.Common.{◌≡◌, ◌≢◌, ℕ, ◌<◌, ◌≤◌, ◌+◌, ◌^◌, refl, sym, ap, ◌∙◌, arith, inl, inr, cond, ⊎_elim, subst, unsigned_abs, eq-eqb, ne_eqb, ℤ, pos, ◌-ℤ◌, ◌*ℤ◌, ◌<ℤ◌}
-use Rattle.std.proofs.lemmas.Nat.Gcd.{le_of_dvd}
+use Rattle.std.{proofs.Common.{◌≡◌, ◌≢◌, ℕ, ◌<◌, ◌≤◌, ◌+◌, ◌^◌, refl, sym, ap, ◌∙◌, arith, inl, inr, cond, ⊎_elim, subst, unsigned_abs, eq-eqb, ne_eqb, ℤ, pos, ◌-ℤ◌, ◌*ℤ◌, ◌<ℤ◌}, proofs.lemmas.Nat.Gcd.le_of_dvd}
 use Rattle.net_core.proofs.Library.{◌∣◌, ints}
-use Rattle.checked_fraction.specs.Terms.{IsInLowestTerms, IsNarrow, combined, IsTooWide, IsFirstWide}
-use Rattle.checked_fraction.specs.declared.wide.WideNumber.{WideNumber}
-use Rattle.simplex_law.specs.Terms.{dot, unit_vector, put, ColumnOf, IsRow, IsWide, IsRowOf, HoldsRow, HoldsProduct, HoldsCommon, IsPick}
-use Rattle.simplex_law.proofs.Lemmas.{some_lowest, multiple, reduced_row, large_part, inverse_row, last_row, wide_multiple}
-use Rattle.key_law.specs.Keys.{left_target, spread, AreRoles, AreKeys, IsBlockRow, key, key_part, left_column, block}
-use Rattle.key_law.specs.KeyRows.{full_kept, full_prices, full_key, cost, key_nums, key_dot, HaveWeights, role_nums, AreKeyRows}
-use Rattle.key_law.specs.Kept.{IsKept}
-use Rattle.key_law.proofs.Spread.{is_spread, full_lowest}
-use Rattle.key_law.proofs.Blocks.{full_of}
-use Rattle.key_law.proofs.Kept.{unit_target, key_block, kept_row, prices_row, row_product, cost_product, key_row, key_row_product}
-use Rattle.key_law.proofs.Turns.{next_other, next_prices, next_keys, some_pivot}
-use Rattle.checked_fraction.proofs.Products.{positive_product}
+use Rattle.checked_fraction.{specs.Terms.{IsInLowestTerms, IsNarrow, combined, IsTooWide, IsFirstWide}, specs.declared.wide.WideNumber.WideNumber, proofs.Products.positive_product}
+use Rattle.simplex_law.{specs.Terms.{dot, unit_vector, put, ColumnOf, IsRow, IsWide, IsRowOf, HoldsRow, HoldsProduct, HoldsCommon, IsPick}, proofs.Lemmas.{some_lowest, multiple, reduced_row, large_part, inverse_row, last_row, wide_multiple}}
+use Rattle.key_law.{specs.Keys.{left_target, spread, AreRoles, AreKeys, IsBlockRow, key, key_part, left_column, block}, specs.KeyRows.{full_kept, full_prices, full_key, cost, key_nums, key_dot, HaveWeights, role_nums, AreKeyRows}, specs.Kept.IsKept, proofs.Spread.{is_spread, full_lowest}, proofs.Blocks.full_of, proofs.Kept.{unit_target, key_block, kept_row, prices_row, row_product, cost_product, key_row, key_row_product}, proofs.Turns.{next_other, next_prices, next_keys, some_pivot}}
 
 -- a row whose link entries have a wide number is a wide row
 found : {N : Type 0} (links demands : ℕ) (basis : ℕ → ColumnOf N) (full : ℕ → ℤ) (den : ℤ) (i : ℕ) (nums : ℕ → ℤ) (wide : WideNumber) → IsRowOf (links + demands) basis i full den

@@ -1,10 +1,7 @@
 -- a basis with its keys and what is kept of it, and a turn of it
 use Rattle.std.specs.Prelude.{Bool, ℕ, ℤ, ◌+◌, IsTrue}
 use Rattle.simplex_law.specs.Terms.{put, ColumnOf}
-use Rattle.key_law.specs.Keys.{left_column}
-use Rattle.key_law.specs.Kept.{IsKept}
-use Rattle.key_law.specs.KeyRows.{full_prices, cost, AreKeyRows}
-use Rattle.key_law.specs.Turns.{IsKeyPick}
+use Rattle.key_law.{specs.Keys.left_column, specs.Kept.IsKept, specs.KeyRows.{full_prices, cost, AreKeyRows}, specs.Turns.IsKeyPick}
 
 -- the columns of a program, as a test tells them
 abbrev pub IsColumnBy : {N : Type 0} → (ColumnOf N → Bool) → ColumnOf N → Type 0

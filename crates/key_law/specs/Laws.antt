@@ -2,10 +2,7 @@
 use Rattle.std.specs.Prelude.{Bool, ℕ, ℤ, pos, ◌≡◌, ◌<◌, ◌+◌, ◌*ℤ◌, ◌<ℤ◌}
 use Rattle.checked_fraction.specs.Terms.{IsNarrow}
 use Rattle.simplex_law.specs.Terms.{ColumnOf, IsRow, Gains, IsReached, IsOptimum, AreNarrowDuals, left_over}
-use Rattle.key_law.specs.Keys.{spread, AreRoles, AreKeys, IsBlockRow, key_part}
-use Rattle.key_law.specs.Kept.{IsKept}
-use Rattle.key_law.specs.KeyRows.{full_prices, role_value}
-use Rattle.key_law.specs.KeyedBases.{IsColumnBy, KeyedBasis, whole_rows, whole_prices, KeyedTurn, basis_after}
+use Rattle.key_law.{specs.Keys.{spread, AreRoles, AreKeys, IsBlockRow, key_part}, specs.Kept.IsKept, specs.KeyRows.{full_prices, role_value}, specs.KeyedBases.{IsColumnBy, KeyedBasis, whole_rows, whole_prices, KeyedTurn, basis_after}}
 
 module _ (N : Type 0) where
   -- a row of the block, spread, is a row of the whole basis

@@ -2,8 +2,7 @@
 use Rattle.std.specs.Prelude.{ℕ, ℤ, pos, ◌≡◌, ◌≢◌, ◌<◌, ◌+◌, ◌*ℤ◌, ◌<ℤ◌}
 use Rattle.checked_fraction.specs.Terms.{IsReduced, combined}
 use Rattle.simplex_law.specs.Terms.{dot, unit_vector, ColumnOf, IsRatioLe}
-use Rattle.key_law.specs.Keys.{left_column}
-use Rattle.key_law.specs.KeyRows.{cost, HaveWeights, key_nums, role_nums}
+use Rattle.key_law.{specs.Keys.left_column, specs.KeyRows.{cost, HaveWeights, key_nums, role_nums}}
 
 -- Three things may happen to the roles. A column of the block leaves: its row is the pivot of all rows of the block, and the keys stay.
 -- A key leaves that has no other basic column of its demand: the entering column is the new key, and the block stays. A key and a

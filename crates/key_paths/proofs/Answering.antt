@@ -3,21 +3,12 @@ use Rattle.std.proofs.Common.{◌≡◌, ℕ, ℤ, List, Some, Result, Ok, Err, 
 use Rattle.net_core.proofs.Library.{◌∣◌, cases_lt, get_or_append_left, get_or-append_right, slice_get-get_or}
 use Rattle.checked_fraction.specs.Terms.{num}
 use Rattle.plan_terms.specs.Terms.{RouteColumn, LinkSlack, DemandSlack, WideKind, Number, Row as RowOf, Product, Sum, Common, Value, Length, Demand, Graph}
-use Rattle.simplex_law.specs.Terms.{ColumnOf, IsPacking, slack_basis, AreNames, IsReached, HoldsKind, IsReachedEvidence, IsOptimum}
-use Rattle.simplex_law.proofs.Lemmas.{greatest, sum-same, dot-same}
-use Rattle.simplex_core.specs.Terms.{Solves, IsSimplexAnswer, nums_at}
-use Rattle.simplex_core.specs.declared.optimum.Optimum.{Optimum}
-use Rattle.simplex_core.specs.declared.solver.SimplexFault.{SimplexFault}
-use Rattle.simplex_core.specs.declared.solver.SimplexFault.TheVariants.{Wide, NoMemory}
+use Rattle.simplex_law.{specs.Terms.{ColumnOf, IsPacking, slack_basis, AreNames, IsReached, HoldsKind, IsReachedEvidence, IsOptimum}, proofs.Lemmas.{greatest, sum-same, dot-same}}
+use Rattle.simplex_core.{specs.Terms.{Solves, IsSimplexAnswer, nums_at}, specs.declared.optimum.Optimum.Optimum, specs.declared.solver.SimplexFault.SimplexFault, specs.declared.solver.SimplexFault.TheVariants.{Wide, NoMemory}}
 use Rattle.route_law.specs.Terms.{route_rows, route_slack, IsCarrying, IsRouteColumn}
-use Rattle.key_law.specs.Terms.{key, key_part, full_prices, role_value}
-use Rattle.key_law.proofs.Lemmas.{kept_optimum, is_spread, wide_block_common}
-use Rattle.key_rows.specs.Terms.{IsKeyed}
-use Rattle.key_paths.specs.inner.Ends.{shares, role_over, IsEnded, IsWideEnd, IsKeyedEnd}
-use Rattle.key_paths.specs.inner.Gaining.{NoneGains}
-use Rattle.key_rows.specs.declared.keyed.Keyed.{Keyed}
-use Rattle.key_paths.proofs.Costs.{none_gains}
-use Rattle.key_paths.proofs.Fitting.{above, share_times, role_over_is, role_low}
+use Rattle.key_law.{specs.Terms.{key, key_part, full_prices, role_value}, proofs.Lemmas.{kept_optimum, is_spread, wide_block_common}}
+use Rattle.key_rows.{specs.Terms.IsKeyed, specs.declared.keyed.Keyed.Keyed}
+use Rattle.key_paths.{specs.inner.Ends.{shares, role_over, IsEnded, IsWideEnd, IsKeyedEnd}, specs.inner.Gaining.NoneGains, proofs.Costs.none_gains, proofs.Fitting.{above, share_times, role_over_is, role_low}}
 
 -- a basis is optimal also with values and prices that equal its own
 optimum_same : {N : Type 0} (m : ℕ) (bound : ℕ → ℤ) (is_column : ColumnOf N → Type 0) (basis : ℕ → ColumnOf N) (values others : ℕ → ℤ) (den : ℤ) (duals prices : ℕ → ℤ) (duals_den : ℤ)

@@ -2,14 +2,10 @@
 use Rattle.std.proofs.Common.{◌≡◌, ◌-◌, ℕ, None, Option, MatchOption, zero, suc, ◌<◌, ◌≤◌, ◌+◌, ◌++◌, List, [], ◌∷◌, All, Some, length, length-append, remove, slice_get, slice_index, inl, inr, ⊎_elim, refl, sym, ap, ◌∙◌, subst, arith, ℤ, pos, ◌+ℤ◌, ◌-ℤ◌, ◌<ℤ◌, ◌≤ℤ◌}
 use Rattle.net_core.proofs.Library.{AllByRecursion, cases_eq, ints, get_or_from_slice_get, slice_get_within, All-push, few_nodes}
 use Rattle.checked_fraction.specs.Terms.{num}
-use Rattle.plan_terms.specs.Terms.{LinkSlack, DemandSlack, Carry, Demand, LinkId, AreDemands, IsDemand, Graph, Joins, IsNetwork, IsPath, length_of}
-use Rattle.plan_terms.proofs.Lemmas.{path_links_inside, path_few, joins_inside}
+use Rattle.plan_terms.{specs.Terms.{LinkSlack, DemandSlack, Carry, Demand, LinkId, AreDemands, IsDemand, Graph, Joins, IsNetwork, IsPath, length_of}, proofs.Lemmas.{path_links_inside, path_few, joins_inside}}
 use Rattle.simplex_law.proofs.Lemmas.{sparse}
-use Rattle.key_paths.specs.declared.carrier.Carrier.{Carrier}
-use Rattle.key_rows.specs.declared.keyed.Keyed.{Keyed}
-use Rattle.key_paths.specs.inner.Gaining.{cost_at, AreLinkCosts, AreOffers, IsCarried, IsCarrier, IsGaining, NoneGains, NoneIsCheap, Offers}
-use Rattle.key_rows.specs.Terms.{IsShortPath}
-use Rattle.key_rows.proofs.Paths.{path_total}
+use Rattle.key_rows.{specs.declared.keyed.Keyed.Keyed, specs.Terms.IsShortPath, proofs.Paths.path_total}
+use Rattle.key_paths.{specs.declared.carrier.Carrier.Carrier, specs.inner.Gaining.{cost_at, AreLinkCosts, AreOffers, IsCarried, IsCarrier, IsGaining, NoneGains, NoneIsCheap, Offers}}
 
 prices_along : (n : ℕ) (nums : ℕ → ℤ) (prices : List ℕ) (path : List LinkId) → AllByRecursion (λ l. l.0 < n) path → ((e : ℕ) → e < n → nums e ≡ pos (slice_index prices e))
     → path_total nums path ≡ pos (length_of prices path)

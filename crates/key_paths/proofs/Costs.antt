@@ -3,16 +3,11 @@ use Rattle.std.proofs.Common.{◌≡◌, ℕ, List, [], length, ◌+◌, refl, s
 use Rattle.net_core.proofs.Library.{*ℤ-zero, ints}
 use Rattle.checked_fraction.specs.Terms.{num}
 use Rattle.plan_terms.specs.Terms.{RouteColumn, LinkSlack, DemandSlack, Carry, Demand, Graph}
-use Rattle.simplex_law.specs.Terms.{int_sum, dot, unit_vector, ColumnOf, Gains}
-use Rattle.simplex_law.proofs.Lemmas.{sum-same, sum-none, sum-unit, dot-same, dot-unit, dot-none-column, sum-split}
+use Rattle.simplex_law.{specs.Terms.{int_sum, dot, unit_vector, ColumnOf, Gains}, proofs.Lemmas.{sum-same, sum-none, sum-unit, dot-same, dot-unit, dot-none-column, sum-split}}
 use Rattle.route_law.specs.Terms.{route_rows, IsRouteColumn}
-use Rattle.key_law.specs.Terms.{key, key_part, cost, full_prices}
-use Rattle.key_law.proofs.Lemmas.{cost_product, is_spread}
-use Rattle.key_rows.specs.Terms.{IsColumnNamed, IsKeyed, path_uses, uses, own_entry, gain_in}
-use Rattle.key_paths.specs.inner.Gaining.{cost_at, IsGaining, IsRouteName, NoneGains}
-use Rattle.key_rows.specs.declared.keyed.Keyed.{Keyed}
-use Rattle.key_paths.proofs.Carried.{carried_place}
-use Rattle.key_paths.proofs.RouteNames.{route_name, route_named}
+use Rattle.key_law.{specs.Terms.{key, key_part, cost, full_prices}, proofs.Lemmas.{cost_product, is_spread}}
+use Rattle.key_rows.{specs.Terms.{IsColumnNamed, IsKeyed, path_uses, uses, own_entry, gain_in}, specs.declared.keyed.Keyed.Keyed}
+use Rattle.key_paths.{specs.inner.Gaining.{cost_at, IsGaining, IsRouteName, NoneGains}, proofs.Carried.carried_place, proofs.RouteNames.{route_name, route_named}}
 
 -- the cost of a name by its links, its demand and its gain
 module _ (g : Graph) (demands : List Demand) (b : Keyed) (links : length b.prices.nums ≡ length g.links) where

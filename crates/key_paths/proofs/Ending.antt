@@ -1,13 +1,11 @@
 -- the values of a basis with keys over a common denominator
 use Rattle.std.proofs.Common.{◌≡◌, ℕ, zero, suc, List, [], ◌∷◌, Some, length, get_or, slice_get, unsigned_abs, ◌<◌, ◌≤◌, ◌+◌, ◌-◌, ◌*◌, ◌/◌, ◌++◌, refl, sym, ap, ◌∙◌, subst, arith, ⊎_elim, ℤ, pos, ◌+ℤ◌, ◌-ℤ◌, ◌*ℤ◌, ◌≤ℤ◌}
 use Rattle.net_core.proofs.Library.{◌∣◌, ints, get_or_append_left, get_or-append_right}
-use Rattle.checked_fraction.specs.Terms.{num, IsNarrow, IsInLowestTerms}
-use Rattle.checked_fraction.specs.declared.row.Row.{Row}
+use Rattle.checked_fraction.{specs.Terms.{num, IsNarrow, IsInLowestTerms}, specs.declared.row.Row.Row}
 use Rattle.simplex_law.specs.Terms.{unit_vector}
 use Rattle.simplex_core.specs.Terms.{den_of}
+use Rattle.key_rows.{specs.Terms.{amounts, times_taken, weighted}, specs.declared.keyed.Keyed.Keyed}
 use Rattle.key_paths.specs.inner.Ends.{row_den, shares, key_over, FitOver}
-use Rattle.key_rows.specs.Terms.{amounts, times_taken, weighted}
-use Rattle.key_rows.specs.declared.keyed.Keyed.{Keyed}
 
 -- the denominator of a row that is given
 pub row_den_at : (rows : List Row) (i : ℕ) (row : Row) → slice_get rows i ≡ Some row → unsigned_abs row.den ≡ row_den rows i

@@ -3,18 +3,11 @@ use Rattle.std.proofs.Common.{◌≡◌, ◌≢◌, ℕ, List, true, false, pos,
 use Rattle.net_core.proofs.Library.{cases_eq, cases_lt, ints, get_or_past}
 use Rattle.checked_fraction.specs.Terms.{num, IsNarrow, IsReduced}
 use Rattle.plan_terms.specs.Terms.{RouteColumn}
-use Rattle.simplex_law.specs.Terms.{dot, unit_vector, ColumnOf, IsPick}
-use Rattle.simplex_law.proofs.Lemmas.{minus_left, sum-same, dot-same, unit-same}
+use Rattle.simplex_law.{specs.Terms.{dot, unit_vector, ColumnOf, IsPick}, proofs.Lemmas.{minus_left, sum-same, dot-same, unit-same}}
 use Rattle.simplex_core.specs.Terms.{nums_of, nums_at, den_of, den_at}
-use Rattle.key_law.specs.Terms.{swap, key_part, left_column, full_prices, key_nums, role_nums, IsKept, IsExchanged}
-use Rattle.key_law.proofs.Lemmas.{kept_value_nonneg, kept_value_low, new_difference, exchanged, swap_first, swap_second, different, key_at, swap_other, exchanged_pick, exchanged_product, exchanged_prices, some_key_rows}
-use Rattle.key_rows.specs.Terms.{IsShapedBasis, IsColumnNamed, IsKeyed, amounts, less_rows, IsOwn, demand_in, links_in, column_name, key_name, key_links, left_uses, own_entry, owner_in, path_uses, IsNameWithin}
-use Rattle.key_paths.specs.inner.Held.{IsNameOf, IsHeld, IsEntering, HaveProducts}
-use Rattle.key_paths.specs.inner.Turning.{key_takes, with_numbers, IsRoleSwap}
-use Rattle.key_rows.specs.declared.keyed.Keyed.{Keyed}
-use Rattle.key_rows.proofs.Columns.{owner_entry, times_are, have_weights}
-use Rattle.key_paths.proofs.Holding.{den_narrow, bound_narrow, held_packing, held_columns, key_named, key_own, left_low, left_of_name}
-use Rattle.key_paths.proofs.Named.{uses_path, own_owner, IsNamedColumn}
+use Rattle.key_law.{specs.Terms.{swap, key_part, left_column, full_prices, key_nums, role_nums, IsKept, IsExchanged}, proofs.Lemmas.{kept_value_nonneg, kept_value_low, new_difference, exchanged, swap_first, swap_second, different, key_at, swap_other, exchanged_pick, exchanged_product, exchanged_prices, some_key_rows}}
+use Rattle.key_rows.{specs.Terms.{IsShapedBasis, IsColumnNamed, IsKeyed, amounts, less_rows, IsOwn, demand_in, links_in, column_name, key_name, key_links, left_uses, own_entry, owner_in, path_uses, IsNameWithin}, specs.declared.keyed.Keyed.Keyed, proofs.Columns.{owner_entry, times_are, have_weights}}
+use Rattle.key_paths.{specs.inner.Held.{IsNameOf, IsHeld, IsEntering, HaveProducts}, specs.inner.Turning.{key_takes, with_numbers, IsRoleSwap}, proofs.Holding.{den_narrow, bound_narrow, held_packing, held_columns, key_named, key_own, left_low, left_of_name}, proofs.Named.{uses_path, own_owner, IsNamedColumn}}
 
 swap_in : (a b r m : ℕ) → a < m → b < m → r < m → swap a b r < m
 swap_in a b r m la lb lr =

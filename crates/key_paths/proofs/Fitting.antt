@@ -1,20 +1,13 @@
 -- the values of a basis with keys, over a common denominator of its rows
 use Rattle.std.proofs.Common.{◌≡◌, ℕ, ℤ, List, length, get_or, slice_set, cond, ltb, pos, unsigned_abs, ◌<◌, ◌+◌, ◌-◌, ◌*◌, ◌/◌, ◌^◌, ◌-ℤ◌, ◌*ℤ◌, sym, ap, ◌∙◌, subst, arith, ⊎_elim, ◌<ℤ◌, ◌≤ℤ◌, lt-ltb, le-ltb, get_or-set_same, get_or-set_other}
 use Rattle.net_core.proofs.Library.{cases_eq, cases_lt, ints}
-use Rattle.checked_fraction.specs.Terms.{num}
+use Rattle.checked_fraction.{specs.Terms.num, proofs.Products.regroup}
 use Rattle.plan_terms.specs.Terms.{RouteColumn}
-use Rattle.simplex_law.specs.Terms.{dot, unit_vector, ColumnOf, IsPacking}
-use Rattle.simplex_law.proofs.Lemmas.{sum-same, dot-times, row_value_low}
+use Rattle.simplex_law.{specs.Terms.{dot, unit_vector, ColumnOf, IsPacking}, proofs.Lemmas.{sum-same, dot-times, row_value_low}}
 use Rattle.simplex_core.specs.Terms.{nums_at, den_at, DivideAll}
-use Rattle.key_law.specs.Terms.{left_column, full_kept, key_dot, role_value}
-use Rattle.key_law.proofs.Lemmas.{key_value_low, kept_row, row_product}
-use Rattle.key_rows.specs.Terms.{IsKeyed, amounts, times_taken, weighted, AreWeights, left_over_rows}
-use Rattle.key_paths.specs.inner.Ends.{row_den, shares, row_over, key_over, role_over, FitOver, HasFittingValues, AreApartPlaces}
-use Rattle.key_rows.specs.declared.keyed.Keyed.{Keyed}
-use Rattle.key_rows.proofs.Columns.{times_are, have_weights, left_nonneg}
-use Rattle.key_paths.proofs.Ending.{share_at}
-use Rattle.key_rows.proofs.Weighing.{times_back}
-use Rattle.checked_fraction.proofs.Products.{regroup}
+use Rattle.key_law.{specs.Terms.{left_column, full_kept, key_dot, role_value}, proofs.Lemmas.{key_value_low, kept_row, row_product}}
+use Rattle.key_rows.{specs.Terms.{IsKeyed, amounts, times_taken, weighted, AreWeights, left_over_rows}, specs.declared.keyed.Keyed.Keyed, proofs.Columns.{times_are, have_weights, left_nonneg}, proofs.Weighing.times_back}
+use Rattle.key_paths.{specs.inner.Ends.{row_den, shares, row_over, key_over, role_over, FitOver, HasFittingValues, AreApartPlaces}, proofs.Ending.share_at}
 
 module _ {links demands : ℕ} {bound : ℕ → ℤ} {basis : ℕ → ColumnOf RouteColumn} {place role : ℕ → ℕ} {b : Keyed} (h : IsKeyed links demands bound basis place role b) where
   -- no two roles have one place

@@ -1,19 +1,13 @@
 -- what a held basis knows of its numbers
 use Rattle.std.proofs.Common.{◌≡◌, ℕ, Option, Some, None, zero, suc, pos, length, get_or, slice_get, ◌<◌, ◌≤◌, ◌+◌, ◌*◌, ◌^◌, refl, sym, ap, ◌∙◌, subst, arith, ⊎_elim, unsigned_abs, ℤ, ◌-ℤ◌, ◌*ℤ◌, ◌<ℤ◌, ◌≤ℤ◌}
 use Rattle.net_core.proofs.Library.{*ℤ-zero, cases_lt, ints, get_or_past}
-use Rattle.checked_fraction.specs.Terms.{num, IsNarrow}
-use Rattle.checked_fraction.specs.declared.row.Row.{Row}
+use Rattle.checked_fraction.{specs.Terms.{num, IsNarrow}, specs.declared.row.Row.Row}
 use Rattle.plan_terms.specs.Terms.{RouteColumn}
-use Rattle.simplex_law.specs.Terms.{int_sum, dot, ColumnOf, IsPacking}
-use Rattle.simplex_law.proofs.Lemmas.{unit-same}
+use Rattle.simplex_law.{specs.Terms.{int_sum, dot, ColumnOf, IsPacking}, proofs.Lemmas.unit-same}
 use Rattle.simplex_core.specs.Terms.{nums_at, den_of}
-use Rattle.key_law.specs.Terms.{key_part, left_column}
-use Rattle.key_law.proofs.Lemmas.{kept_value_low}
-use Rattle.key_rows.specs.Terms.{IsShapedBasis, IsColumnNamed, IsKeyed, amounts, demand_in, links_in, left_uses, HasKey, IsShortPath, key_links, column_name, key_name, own_entry}
-use Rattle.key_paths.specs.inner.Held.{IsZeroOrOne, IsNameOf, IsOnce, AreColumnNames, IsHeld}
-use Rattle.key_rows.specs.declared.keyed.Keyed.{Keyed}
-use Rattle.key_rows.proofs.Columns.{left_is, left_is_free}
-use Rattle.key_paths.proofs.Named.{entry_01, once_links, short_links, named_packing, IsNamedColumn}
+use Rattle.key_law.{specs.Terms.{key_part, left_column}, proofs.Lemmas.kept_value_low}
+use Rattle.key_rows.{specs.Terms.{IsShapedBasis, IsColumnNamed, IsKeyed, amounts, demand_in, links_in, left_uses, HasKey, IsShortPath, key_links, column_name, key_name, own_entry}, specs.declared.keyed.Keyed.Keyed, proofs.Columns.{left_is, left_is_free}}
+use Rattle.key_paths.{specs.inner.Held.{IsZeroOrOne, IsNameOf, IsOnce, AreColumnNames, IsHeld}, proofs.Named.{entry_01, once_links, short_links, named_packing, IsNamedColumn}}
 
 pub den_narrow : (row : Option Row) → IsNarrow (den_of row)
 den_narrow None = omega (arith, ints)

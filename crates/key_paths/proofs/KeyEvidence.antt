@@ -3,17 +3,11 @@ use Rattle.std.proofs.Common.{◌≡◌, ℕ, List, true, false, pos, length, ge
 use Rattle.net_core.proofs.Library.{one-dvd, ◌∣◌}
 use Rattle.checked_fraction.specs.Terms.{num, IsTooWide}
 use Rattle.plan_terms.specs.Terms.{RouteColumn}
-use Rattle.simplex_law.specs.Terms.{HoldsRow, HoldsCommon, ColumnOf}
-use Rattle.simplex_law.proofs.Lemmas.{sum-same}
+use Rattle.simplex_law.{specs.Terms.{HoldsRow, HoldsCommon, ColumnOf}, proofs.Lemmas.sum-same}
 use Rattle.simplex_core.specs.Terms.{nums_at, den_at}
-use Rattle.key_law.specs.Terms.{key_nums}
-use Rattle.key_law.proofs.Lemmas.{wide_block_common, wide_key_row, wide_key_number}
-use Rattle.key_rows.specs.Terms.{IsKeyed, less_rows, IsWideSpread}
+use Rattle.key_law.{specs.Terms.key_nums, proofs.Lemmas.{wide_block_common, wide_key_row, wide_key_number}}
+use Rattle.key_rows.{specs.Terms.{IsKeyed, less_rows, IsWideSpread}, specs.declared.key_row.WideKey.WideKey, specs.declared.key_row.WideKey.TheVariants.{Common, Row as RowOf}, specs.declared.keyed.Keyed.Keyed, proofs.Columns.{times_are, have_weights}}
 use Rattle.key_paths.specs.inner.Outcomes.{wide_spread, HoldsWide}
-use Rattle.key_rows.specs.declared.key_row.WideKey.{WideKey}
-use Rattle.key_rows.specs.declared.key_row.WideKey.TheVariants.{Common, Row as RowOf}
-use Rattle.key_rows.specs.declared.keyed.Keyed.{Keyed}
-use Rattle.key_rows.proofs.Columns.{times_are, have_weights}
 
 module _ {links demands : ℕ} {bound : ℕ → ℤ} {basis : ℕ → ColumnOf RouteColumn} {place role : ℕ → ℕ} {b : Keyed} (h : IsKeyed links demands bound basis place role b)
     (is_column : ColumnOf RouteColumn → Type 0) (d : ℕ) (ld : d < demands) where

@@ -1,18 +1,13 @@
 -- a key leaves
 use Rattle.std.proofs.Common.{◌≡◌, ℕ, Some, pos, length, cond, ◌<◌, ◌+◌, ◌-◌, refl, sym, ap, ◌∙◌, subst, arith, ⊎_elim, ℤ, ◌-ℤ◌, ◌*ℤ◌, ◌<ℤ◌, le-ltb}
 use Rattle.net_core.proofs.Library.{cases_eq, ints}
-use Rattle.checked_fraction.specs.Terms.{num}
+use Rattle.checked_fraction.{specs.Terms.num, proofs.Products.cancelled}
 use Rattle.plan_terms.specs.Terms.{RouteColumn, LinkSlack, DemandSlack, Carry}
-use Rattle.simplex_law.specs.Terms.{dot, unit_vector, ColumnOf, IsPick}
-use Rattle.simplex_law.proofs.Lemmas.{positive_cancel, pick_again, dot-same, unit-other, row_unique, weights}
+use Rattle.simplex_law.{specs.Terms.{dot, unit_vector, ColumnOf, IsPick}, proofs.Lemmas.{positive_cancel, pick_again, dot-same, unit-other, row_unique, weights}}
 use Rattle.simplex_core.specs.Terms.{nums_at, den_at}
-use Rattle.key_law.specs.Terms.{cost, full_kept, full_prices, full_key, key_nums, role_nums, HaveWeights, AreKeyRows, IsKept}
-use Rattle.key_law.proofs.Lemmas.{prices_row, cost_product, key_row_product, alone_key_dot, role_tableau, demand_rows}
-use Rattle.key_paths.specs.inner.Held.{IsEntering, IsPriced, HasPriced, IsAlone}
-use Rattle.key_rows.specs.Terms.{demand_in, column_name, own_entry}
-use Rattle.key_rows.specs.declared.keyed.Keyed.{Keyed}
-use Rattle.key_paths.proofs.Named.{own_none}
-use Rattle.checked_fraction.proofs.Products.{cancelled}
+use Rattle.key_law.{specs.Terms.{cost, full_kept, full_prices, full_key, key_nums, role_nums, HaveWeights, AreKeyRows, IsKept}, proofs.Lemmas.{prices_row, cost_product, key_row_product, alone_key_dot, role_tableau, demand_rows}}
+use Rattle.key_rows.{specs.Terms.{demand_in, column_name, own_entry}, specs.declared.keyed.Keyed.Keyed}
+use Rattle.key_paths.{specs.inner.Held.{IsEntering, IsPriced, HasPriced, IsAlone}, proofs.Named.own_none}
 
 -- a column with an entry in a demand is one of it
 unit_at : (f d : ℕ) → pos 0 <ℤ unit_vector f d → f ≡ d

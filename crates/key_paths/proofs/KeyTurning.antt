@@ -3,17 +3,11 @@ use Rattle.std.proofs.Common.{◌≡◌, ◌≢◌, ℕ, List, Some, pos, length
 use Rattle.net_core.proofs.Library.{*ℤ_comm, cases_eq, ints, unsigned_abs-mul}
 use Rattle.checked_fraction.specs.Terms.{num, IsNarrow}
 use Rattle.plan_terms.specs.Terms.{RouteColumn, DemandSlack}
-use Rattle.simplex_law.specs.Terms.{IsWide, dot, put, ColumnOf}
-use Rattle.simplex_law.proofs.Lemmas.{unit-same}
+use Rattle.simplex_law.{specs.Terms.{IsWide, dot, put, ColumnOf}, proofs.Lemmas.unit-same}
 use Rattle.simplex_core.specs.Terms.{nums_at, den_at}
-use Rattle.key_law.specs.Terms.{key, key_part, left_column, full_prices, IsKept, IsLoneKey}
-use Rattle.key_law.proofs.Lemmas.{kept_value_nonneg, kept_value_low, new_difference, key_turned_product, is_spread, key_turned, new_key, old_key, wide_demand}
-use Rattle.key_rows.specs.Terms.{IsShapedBasis, IsColumnNamed, IsKeyed, amounts, demand_in, links_in, column_name, key_name, own_entry, owner_in, path_uses, key_dual, IsNameWithin}
-use Rattle.key_paths.specs.inner.Held.{IsNameOf, IsOnce, IsHeld, IsEntering, IsAlone, IsWideNext}
-use Rattle.key_rows.specs.declared.keyed.Keyed.{Keyed}
-use Rattle.key_paths.proofs.Named.{own_none, uses_path, once_links, named_price, put_each, IsNamedColumn}
-use Rattle.key_paths.proofs.Holding.{den_narrow, held_packing, held_columns, key_named, key_own, amount_low}
-use Rattle.key_rows.proofs.Columns.{own_demand}
+use Rattle.key_law.{specs.Terms.{key, key_part, left_column, full_prices, IsKept, IsLoneKey}, proofs.Lemmas.{kept_value_nonneg, kept_value_low, new_difference, key_turned_product, is_spread, key_turned, new_key, old_key, wide_demand}}
+use Rattle.key_rows.{specs.Terms.{IsShapedBasis, IsColumnNamed, IsKeyed, amounts, demand_in, links_in, column_name, key_name, own_entry, owner_in, path_uses, key_dual, IsNameWithin}, specs.declared.keyed.Keyed.Keyed, proofs.Columns.own_demand}
+use Rattle.key_paths.{specs.inner.Held.{IsNameOf, IsOnce, IsHeld, IsEntering, IsAlone, IsWideNext}, proofs.Named.{own_none, uses_path, once_links, named_price, put_each, IsNamedColumn}, proofs.Holding.{den_narrow, held_packing, held_columns, key_named, key_own, amount_low}}
 
 module _ {links demands : ℕ} {bound : ℕ → ℤ} {basis : ℕ → ColumnOf RouteColumn} {place role : ℕ → ℕ} {b : Keyed} {name : RouteColumn} {c : ColumnOf RouteColumn}
     (d : ℕ) (e : IsEntering links demands bound basis place role b name c (links + d)) (own : demand_in name ≡ Some d) (alone : IsAlone b.owners links d) where

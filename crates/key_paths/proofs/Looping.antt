@@ -3,25 +3,11 @@ use Rattle.std.proofs.Common.{◌≡◌, ℕ, ℤ, zero, suc, List, Some, length
 use Rattle.net_core.proofs.Library.{cases_lt, by_lt_z, slice_get-get_or}
 use Rattle.checked_fraction.specs.Terms.{num, IsNarrow}
 use Rattle.plan_terms.specs.Terms.{AreDemands, Graph, IsNetwork, names_link, Demand, Caps, RouteColumn, DemandSlack, WideKind, Number, Row as RowOf, Product, Sum, Common, Value, Length}
-use Rattle.route_law.specs.Terms.{route_rows, route_bound, route_slack, IsCarrying, IsRouteColumn}
-use Rattle.route_law.proofs.Lemmas.{beside_first}
-use Rattle.simplex_law.specs.Terms.{unit_vector, put, ColumnOf, IsPacking, slack_basis, IsReached, HoldsKind, IsReachedEvidence, valued, AreNarrowDuals, digit, lex_number, left_below, left_over}
-use Rattle.simplex_law.proofs.Lemmas.{start_reached, slack_is, dot-same, unit-same, unit-other}
-use Rattle.key_law.specs.Terms.{key, key_part, full_prices, role_nums}
-use Rattle.key_law.proofs.Lemmas.{some_limit, role_tableau, some_key_rows, role_den, is_spread, key_reached, key_falls}
-use Rattle.key_paths.specs.inner.Starts.{IsStart}
-use Rattle.key_rows.specs.Terms.{IsColumnNamed}
-use Rattle.key_paths.specs.inner.Entering.{IsGainingIn, IsPicked, HasGaining, Enters, EntersAs}
-use Rattle.key_paths.specs.inner.Gaining.{IsGaining, IsRouteName}
-use Rattle.key_paths.specs.inner.Held.{IsHeld, IsNameOf, IsZeroOrOne}
-use Rattle.key_paths.specs.inner.Outcomes.{HoldsWide, IsWideBasis}
-use Rattle.key_rows.specs.declared.keyed.Keyed.{Keyed}
-use Rattle.key_paths.specs.declared.turns.Turn.{Turn}
-use Rattle.key_paths.specs.declared.turns.Turn.TheVariants.{Again, Unbounded, Wide}
-use Rattle.key_paths.proofs.Costs.{key_cost_named, gains_named}
-use Rattle.key_paths.proofs.Holding.{bound_narrow}
-use Rattle.key_paths.proofs.RouteNames.{route_named, route_name, column_named, name_demand, name_within}
-use Rattle.key_paths.proofs.Starting.{start_keyed}
+use Rattle.route_law.{specs.Terms.{route_rows, route_bound, route_slack, IsCarrying, IsRouteColumn}, proofs.Lemmas.beside_first}
+use Rattle.simplex_law.{specs.Terms.{unit_vector, put, ColumnOf, IsPacking, slack_basis, IsReached, HoldsKind, IsReachedEvidence, valued, AreNarrowDuals, digit, lex_number, left_below, left_over}, proofs.Lemmas.{start_reached, slack_is, dot-same, unit-same, unit-other}}
+use Rattle.key_law.{specs.Terms.{key, key_part, full_prices, role_nums}, proofs.Lemmas.{some_limit, role_tableau, some_key_rows, role_den, is_spread, key_reached, key_falls}}
+use Rattle.key_rows.{specs.Terms.IsColumnNamed, specs.declared.keyed.Keyed.Keyed}
+use Rattle.key_paths.{specs.inner.Starts.IsStart, specs.inner.Entering.{IsGainingIn, IsPicked, HasGaining, Enters, EntersAs}, specs.inner.Gaining.{IsGaining, IsRouteName}, specs.inner.Held.{IsHeld, IsNameOf, IsZeroOrOne}, specs.inner.Outcomes.{HoldsWide, IsWideBasis}, specs.declared.turns.Turn.Turn, specs.declared.turns.Turn.TheVariants.{Again, Unbounded, Wide}, proofs.Costs.{key_cost_named, gains_named}, proofs.Holding.bound_narrow, proofs.RouteNames.{route_named, route_name, column_named, name_demand, name_within}, proofs.Starting.start_keyed}
 
 -- the prices of the links, and then those of the demands
 abbrev pub whole_price : ℕ → Keyed → ℕ → ℤ

@@ -3,10 +3,8 @@ use Rattle.std.proofs.Common.{◌≡◌, ◌≢◌, ℕ, List, Some, pos, length
 use Rattle.net_core.proofs.Library.{cases_eq, cases_lt, ints}
 use Rattle.checked_fraction.specs.Terms.{IsNarrow}
 use Rattle.plan_terms.specs.Terms.{RouteColumn, LinkSlack, DemandSlack, Carry}
-use Rattle.simplex_law.specs.Terms.{dot, unit_vector, put, ColumnOf, IsPacking}
-use Rattle.simplex_law.proofs.Lemmas.{unit-same, unit-other, dot-same}
-use Rattle.key_law.specs.Terms.{key, key_part, full_prices}
-use Rattle.key_law.proofs.Lemmas.{is_spread}
+use Rattle.simplex_law.{specs.Terms.{dot, unit_vector, put, ColumnOf, IsPacking}, proofs.Lemmas.{unit-same, unit-other, dot-same}}
+use Rattle.key_law.{specs.Terms.{key, key_part, full_prices}, proofs.Lemmas.is_spread}
 use Rattle.key_rows.specs.Terms.{IsColumnNamed, demand_in, gain_in, links_in, column_name, own_entry, owner_in, path_uses, uses, key_dual, IsShortPath, IsNameWithin}
 use Rattle.key_paths.specs.inner.Held.{IsZeroOrOne, IsNameOf, IsOnce}
 

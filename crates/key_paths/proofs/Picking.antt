@@ -2,26 +2,11 @@
 use Rattle.std.proofs.Common.{◌≡◌, ℕ, ℤ, List, Some, None, length, pos, get_or, ◌+◌, ◌-ℤ◌, ◌*ℤ◌, ◌<◌, ◌≤◌, ◌^◌, inl, inr, unsigned_abs, sym, ap, ◌∙◌, subst, refl, arith, ◌<ℤ◌, ◌≤ℤ◌}
 use Rattle.checked_fraction.specs.Terms.{num}
 use Rattle.plan_terms.specs.Terms.{RouteColumn}
-use Rattle.simplex_law.specs.Terms.{IsInverseRow, HoldsProduct, HoldsRow, ColumnOf, dot}
-use Rattle.simplex_law.proofs.Lemmas.{dot-same}
+use Rattle.simplex_law.{specs.Terms.{IsInverseRow, HoldsProduct, HoldsRow, ColumnOf, dot}, proofs.Lemmas.dot-same}
 use Rattle.simplex_core.specs.Terms.{nums_at, den_at}
-use Rattle.key_law.specs.Terms.{left_column, role_nums, cost, key_dot}
-use Rattle.key_law.proofs.Lemmas.{cost_product, role_tableau, some_key_rows, role_den, wide_key_product}
-use Rattle.key_rows.specs.Terms.{IsKeyed, IsShapedBasis, IsAsked, IsFirstRole, IsFirstOfRoles, LeaveSomething, weighted, HaveValues, HaveColumnProducts, IsWideTest, product_over, demand_in, key_links, own_entry, IsShortPath}
-use Rattle.key_paths.specs.inner.Entering.{with_products, wide_kind, IsGainingIn, IsPicked, Enters}
-use Rattle.key_paths.specs.inner.Gaining.{cost_at}
-use Rattle.key_paths.specs.inner.Held.{IsHeld, IsEntering, HasPriced}
-use Rattle.key_paths.specs.inner.Outcomes.{HoldsWide, ComesOf, TurnsAt}
-use Rattle.key_rows.specs.declared.keyed.Keyed.{Keyed}
-use Rattle.key_rows.specs.declared.ratio_test.WideTest.{WideTest}
-use Rattle.key_rows.specs.declared.ratio_test.WideTest.TheVariants.{Common as TestCommon, Product as TestProduct, Row as TestRow}
-use Rattle.key_paths.specs.declared.turns.Turn.{Turn}
-use Rattle.key_paths.specs.declared.turns.Turn.TheVariants.{Again, Unbounded, Wide}
-use Rattle.key_rows.proofs.Columns.{have_weights, left_nonneg}
-use Rattle.key_rows.proofs.FirstRoles.{positive_again}
-use Rattle.key_paths.proofs.Holding.{held_names, key_short, left_of_name}
-use Rattle.key_paths.proofs.KeyEvidence.{spread_common, spread_row}
-use Rattle.key_rows.proofs.Leavers.{key_dot_is}
+use Rattle.key_law.{specs.Terms.{left_column, role_nums, cost, key_dot}, proofs.Lemmas.{cost_product, role_tableau, some_key_rows, role_den, wide_key_product}}
+use Rattle.key_rows.{specs.Terms.{IsKeyed, IsShapedBasis, IsAsked, IsFirstRole, IsFirstOfRoles, LeaveSomething, weighted, HaveValues, HaveColumnProducts, IsWideTest, product_over, demand_in, key_links, own_entry, IsShortPath}, specs.declared.keyed.Keyed.Keyed, specs.declared.ratio_test.WideTest.WideTest, specs.declared.ratio_test.WideTest.TheVariants.{Common as TestCommon, Product as TestProduct, Row as TestRow}, proofs.Columns.{have_weights, left_nonneg}, proofs.FirstRoles.positive_again, proofs.Leavers.key_dot_is}
+use Rattle.key_paths.{specs.inner.Entering.{with_products, wide_kind, IsGainingIn, IsPicked, Enters}, specs.inner.Gaining.cost_at, specs.inner.Held.{IsHeld, IsEntering, HasPriced}, specs.inner.Outcomes.{HoldsWide, ComesOf, TurnsAt}, specs.declared.turns.Turn.Turn, specs.declared.turns.Turn.TheVariants.{Again, Unbounded, Wide}, proofs.Holding.{held_names, key_short, left_of_name}, proofs.KeyEvidence.{spread_common, spread_row}}
 
 module _ {links demands : ℕ} {bound : ℕ → ℤ} {basis : ℕ → ColumnOf RouteColumn} {place role : ℕ → ℕ} {b : Keyed} where
   -- products are room, of which a held basis asks nothing

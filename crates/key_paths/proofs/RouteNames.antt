@@ -1,15 +1,11 @@
 -- the columns of a routing program by their names
 use Rattle.std.proofs.Common.{◌≡◌, ℕ, List, [], ◌∷◌, length, cond, false, ◌+◌, ◌-◌, ◌<◌, ◌≤◌, inl, inr, ⊎_elim, refl, sym, ap, ◌∙◌, subst, arith, ℤ, pos, ◌+ℤ◌, eq-eqb, ne_eqb}
 use Rattle.net_core.proofs.Library.{ForSome, cases_eq, cases_lt, ints}
-use Rattle.plan_terms.specs.Terms.{RouteColumn, LinkSlack, DemandSlack, Carry, Demand, LinkId, AreDemands, Graph, IsNetwork, names_link}
-use Rattle.plan_terms.proofs.Lemmas.{DistinctLinks, path_links_differ}
+use Rattle.plan_terms.{specs.Terms.{RouteColumn, LinkSlack, DemandSlack, Carry, Demand, LinkId, AreDemands, Graph, IsNetwork, names_link}, proofs.Lemmas.{DistinctLinks, path_links_differ}}
 use Rattle.simplex_law.specs.Terms.{unit_vector, ColumnOf, IsSlack, slack_basis}
-use Rattle.route_law.specs.Terms.{path_entry, route_rows, route_slack, IsCarrying, IsRouteColumn}
-use Rattle.route_law.proofs.Lemmas.{beside_first, beside_after}
+use Rattle.route_law.{specs.Terms.{path_entry, route_rows, route_slack, IsCarrying, IsRouteColumn}, proofs.Lemmas.{beside_first, beside_after}}
 use Rattle.key_rows.specs.Terms.{IsColumnNamed, path_uses, demand_in, IsNameWithin}
-use Rattle.key_paths.specs.inner.Gaining.{IsRouteName}
-use Rattle.key_paths.proofs.Carried.{carried_short, carried_place}
-use Rattle.key_paths.proofs.Starting.{slack_named, first, second}
+use Rattle.key_paths.{specs.inner.Gaining.IsRouteName, proofs.Carried.{carried_short, carried_place}, proofs.Starting.{slack_named, first, second}}
 
 -- a path without a link twice uses each of its links once
 uses_once : (path : List LinkId) (k : ℕ) → DistinctLinks path → path_uses path k ≡ cond (names_link k path) (pos 1) (pos 0)

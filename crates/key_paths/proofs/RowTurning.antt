@@ -1,24 +1,13 @@
 -- a column enters for that of a row
 use Rattle.std.proofs.Common.{◌≡◌, ◌≢◌, ℕ, List, pos, length, get_or, slice_get, slice_set, cond, ◌<◌, ◌+◌, ◌^◌, refl, sym, ap, ◌∙◌, subst, arith, ◌⊎◌, ⊎_elim, unsigned_abs, length-set, ℤ, ◌-ℤ◌, ◌*ℤ◌, ◌<ℤ◌, ◌≤ℤ◌, ne_eqb, get_or-set_same, get_or-set_other}
 use Rattle.net_core.proofs.Library.{*ℤ_comm, dvd-mul_right, ◌∣◌, cases_eq, ints, unsigned_abs-mul}
-use Rattle.checked_fraction.specs.Terms.{num, IsNarrow, IsInLowestTerms, IsReduced, combined, IsTooWide}
-use Rattle.checked_fraction.specs.declared.wide.WideNumber.{WideNumber}
+use Rattle.checked_fraction.{specs.Terms.{num, IsNarrow, IsInLowestTerms, IsReduced, combined, IsTooWide}, specs.declared.wide.WideNumber.WideNumber, proofs.Products.{regroup, cancelled}}
 use Rattle.plan_terms.specs.Terms.{RouteColumn, DemandSlack, Row as RowOf, Product}
-use Rattle.simplex_law.specs.Terms.{IsWide, HoldsRow, HoldsProduct, dot, put, ColumnOf}
-use Rattle.simplex_law.proofs.Lemmas.{multiple, sum-same, dot-same, unit-same}
+use Rattle.simplex_law.{specs.Terms.{IsWide, HoldsRow, HoldsProduct, dot, put, ColumnOf}, proofs.Lemmas.{multiple, sum-same, dot-same, unit-same}}
 use Rattle.simplex_core.specs.Terms.{nums_at, den_at, AreTurned, IsWideRow}
-use Rattle.key_law.specs.Terms.{left_column, full_prices, IsKept, IsBlockTurned}
-use Rattle.key_law.proofs.Lemmas.{kept_value_nonneg, kept_value_low, block_turned, some_pivot, wide_demand, wide_cost, wide_kept_product, wide_turned, wide_turned_prices}
-use Rattle.key_rows.specs.Terms.{IsShapedBasis, IsColumnNamed, amounts, column_name, key_name, owner_in, key_dual, IsNameWithin}
-use Rattle.key_paths.specs.inner.Held.{IsNameOf, AreColumnNames, IsHeld, IsEntering, IsPriced}
-use Rattle.key_paths.specs.inner.Outcomes.{wide_place, IsProductPlace, IsWideBasis}
-use Rattle.key_paths.specs.inner.Turning.{AreRowsTurned, IsWideTurn}
-use Rattle.key_paths.specs.declared.turn_rows.WideTurn.{WideTurn}
-use Rattle.key_paths.specs.declared.turn_rows.WideTurn.TheVariants.{Prices, Row as RowAt}
-use Rattle.key_rows.specs.declared.keyed.Keyed.{Keyed}
-use Rattle.key_paths.proofs.Holding.{den_narrow, held_packing, held_columns, held_names, rest_low}
-use Rattle.key_paths.proofs.Named.{named_price, put_each, IsNamedColumn}
-use Rattle.checked_fraction.proofs.Products.{regroup, cancelled}
+use Rattle.key_law.{specs.Terms.{left_column, full_prices, IsKept, IsBlockTurned}, proofs.Lemmas.{kept_value_nonneg, kept_value_low, block_turned, some_pivot, wide_demand, wide_cost, wide_kept_product, wide_turned, wide_turned_prices}}
+use Rattle.key_rows.{specs.Terms.{IsShapedBasis, IsColumnNamed, amounts, column_name, key_name, owner_in, key_dual, IsNameWithin}, specs.declared.keyed.Keyed.Keyed}
+use Rattle.key_paths.{specs.inner.Held.{IsNameOf, AreColumnNames, IsHeld, IsEntering, IsPriced}, specs.inner.Outcomes.{wide_place, IsProductPlace, IsWideBasis}, specs.inner.Turning.{AreRowsTurned, IsWideTurn}, specs.declared.turn_rows.WideTurn.WideTurn, specs.declared.turn_rows.WideTurn.TheVariants.{Prices, Row as RowAt}, proofs.Holding.{den_narrow, held_packing, held_columns, held_names, rest_low}, proofs.Named.{named_price, put_each, IsNamedColumn}}
 
 -- a row in lowest terms that is reduced again stays
 reduced_same : (n : ℕ) (u v : ℕ → ℤ) (d e : ℤ) → pos 0 <ℤ d → IsInLowestTerms n u d → IsReduced n u d v e → (k : ℕ) → k < n → v k ≡ u k

@@ -1,17 +1,12 @@
 -- the lists of the slack basis
 use Rattle.std.proofs.Common.{◌≡◌, ℕ, ℤ, List, Some, length, length-set, pos, get_or, slice_get, replicate, ◌+◌, ◌-◌, ◌<◌, ◌^◌, sym, ap, ◌∙◌, subst, arith, ⊎_elim}
 use Rattle.net_core.proofs.Library.{cases_lt, ints, get_or-replicate, get_or_from_slice_get, length-replicate}
-use Rattle.checked_fraction.specs.Terms.{num, IsNarrow}
-use Rattle.checked_fraction.specs.declared.row.Row.{Row}
+use Rattle.checked_fraction.{specs.Terms.{num, IsNarrow}, specs.declared.row.Row.Row, proofs.Units.zeros_narrow}
 use Rattle.plan_terms.specs.Terms.{Graph, DemandSlack}
 use Rattle.route_law.specs.Terms.{route_slack}
-use Rattle.simplex_core.specs.Terms.{nums_of, den_of, AtEach, IsUnit}
-use Rattle.simplex_core.proofs.Starts.{each_at, zeros_num, zeros_length, num_past, unit_num}
-use Rattle.key_paths.specs.inner.Starts.{IsStart}
-use Rattle.key_rows.specs.Terms.{column_name, IsNameWithin}
-use Rattle.key_rows.specs.declared.keyed.Keyed.{Keyed}
-use Rattle.key_paths.proofs.Starting.{first, second}
-use Rattle.checked_fraction.proofs.Units.{zeros_narrow}
+use Rattle.simplex_core.{specs.Terms.{nums_of, den_of, AtEach, IsUnit}, proofs.Starts.{each_at, zeros_num, zeros_length, num_past, unit_num}}
+use Rattle.key_rows.{specs.Terms.{column_name, IsNameWithin}, specs.declared.keyed.Keyed.Keyed}
+use Rattle.key_paths.{specs.inner.Starts.IsStart, proofs.Starting.{first, second}}
 
 pub number_at : (f : ℕ → ℤ) (xs : List ℤ) (k : ℕ) → AtEach (λ i x. x ≡ f i) xs → k < length xs → num xs k ≡ f k
 number_at f xs k all l = let x = each_at (λ i x. x ≡ f i) xs k l all in get_or_from_slice_get xs k x.0 (pos 0) x.1 ∙ x.2

@@ -3,16 +3,12 @@ use Rattle.std.proofs.Common.{◌≡◌, ℕ, ℤ, length, pos, ◌+◌, ◌-◌
 use Rattle.net_core.proofs.Library.{*ℤ-zero, cases_lt, ints}
 use Rattle.checked_fraction.specs.Terms.{num}
 use Rattle.plan_terms.specs.Terms.{Graph, RouteColumn, LinkSlack, DemandSlack}
-use Rattle.route_law.specs.Terms.{route_slack}
-use Rattle.route_law.proofs.Lemmas.{beside_first, beside_after}
-use Rattle.simplex_law.specs.Terms.{dot, unit_vector, slack_basis}
-use Rattle.simplex_law.proofs.Lemmas.{sum-same, sum-none, unit-same, unit-other, dot-of-unit, dot-none}
+use Rattle.route_law.{specs.Terms.route_slack, proofs.Lemmas.{beside_first, beside_after}}
+use Rattle.simplex_law.{specs.Terms.{dot, unit_vector, slack_basis}, proofs.Lemmas.{sum-same, sum-none, unit-same, unit-other, dot-of-unit, dot-none}}
 use Rattle.simplex_core.specs.Terms.{nums_at, den_at}
-use Rattle.key_law.specs.Terms.{left_column}
-use Rattle.key_law.proofs.Lemmas.{is_spread, kept_start}
+use Rattle.key_law.{specs.Terms.left_column, proofs.Lemmas.{is_spread, kept_start}}
+use Rattle.key_rows.{specs.Terms.{IsColumnNamed, IsKeyed, gain_in, uses, own_entry, owner_in, column_name}, specs.declared.keyed.Keyed.Keyed}
 use Rattle.key_paths.specs.inner.Starts.{IsStart}
-use Rattle.key_rows.specs.Terms.{IsColumnNamed, IsKeyed, gain_in, uses, own_entry, owner_in, column_name}
-use Rattle.key_rows.specs.declared.keyed.Keyed.{Keyed}
 
 plain : (x : ℤ) → x -ℤ pos 0 ≡ x
 plain x = omega (arith, ints)

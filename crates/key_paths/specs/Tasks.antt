@@ -2,9 +2,7 @@
 use Rattle.std.specs.Prelude.{ℕ, ◌<◌, List, Result}
 use Rattle.checked_fraction.specs.Terms.{IsNarrow}
 use Rattle.plan_terms.specs.Terms.{Caps, Demand, Graph, RouteColumn}
-use Rattle.simplex_core.specs.Terms.{IsSimplexAnswer}
-use Rattle.simplex_core.specs.declared.optimum.Optimum.{Optimum}
-use Rattle.simplex_core.specs.declared.solver.SimplexFault.{SimplexFault}
+use Rattle.simplex_core.{specs.Terms.IsSimplexAnswer, specs.declared.optimum.Optimum.Optimum, specs.declared.solver.SimplexFault.SimplexFault}
 use Rattle.route_law.specs.Terms.{IsCarrying, route_bound, route_rows, route_slack}
 
 -- the bound of each row is narrow

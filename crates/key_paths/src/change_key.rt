@@ -1,13 +1,11 @@
-ghost use Rattle.std.specs.Prelude.{◌≡◌, ◌≢◌, ◌<◌, ◌≤◌, ◌+◌, ◌^◌, ◌≤ℤ◌, ℕ, ℤ, pos, length, get_or, slice_set, unsigned_abs, OnOk, OnErr, IfErr};
-ghost use Rattle.std.specs.Option.{ForSome};
+ghost use Rattle.std.{specs.Prelude.{◌≡◌, ◌≢◌, ◌<◌, ◌≤◌, ◌+◌, ◌^◌, ◌≤ℤ◌, ℕ, ℤ, pos, length, get_or, slice_set, unsigned_abs, OnOk, OnErr, IfErr}, specs.Option.ForSome};
 ghost use Rattle.checked_fraction.specs.Terms.{num};
 ghost use Rattle.plan_terms.specs.Terms.{RouteColumn as Name};
 ghost use Rattle.simplex_law.specs.Terms.{dot, ColumnOf};
 ghost use Rattle.simplex_core.specs.Terms.{nums_at};
 ghost use Rattle.key_law.specs.Terms.{swap};
 ghost use Rattle.key_rows.specs.Terms.{IsShapedBasis, IsRoom, amounts, IsOwn, IsWideSpread, demand_in, key_links, left_uses, HasKey, IsNameWithin, IsShortPath};
-ghost use Rattle.key_paths.specs.inner.Held.{IsEntering, HasEntering};
-ghost use Rattle.key_paths.specs.inner.Turning.{with_numbers};
+ghost use Rattle.key_paths.{specs.inner.Held.{IsEntering, HasEntering}, specs.inner.Turning.with_numbers};
 
 use crate::exchange::swap_roles;
 use key_rows::{Keyed, Room, WideKey, column_product, demand_of, key_path, worth};

@@ -1,11 +1,7 @@
-ghost use Rattle.std.specs.Prelude.{◌≡◌, ◌<◌, ◌≤◌, ◌+◌, ◌^◌, ◌+ℤ◌, ◌-ℤ◌, ℕ, length, unsigned_abs};
-ghost use Rattle.std.specs.Option.{ForSome};
+ghost use Rattle.std.{specs.Prelude.{◌≡◌, ◌<◌, ◌≤◌, ◌+◌, ◌^◌, ◌+ℤ◌, ◌-ℤ◌, ℕ, length, unsigned_abs}, specs.Option.ForSome};
 ghost use Rattle.checked_fraction.specs.Terms.{num, IsNarrow};
 ghost use Rattle.key_rows.specs.Terms.{IsShapedBasis, IsRoom, HaveColumnProducts, IsWideTest, demand_in, key_links, IsNameWithin};
-ghost use Rattle.key_paths.specs.inner.Entering.{with_products, wide_kind as kind_of, HasGaining, EntersAs};
-ghost use Rattle.key_paths.specs.inner.Gaining.{cost_at};
-ghost use Rattle.key_paths.specs.inner.Held.{HasPriced};
-ghost use Rattle.key_paths.specs.inner.Outcomes.{TurnsAt};
+ghost use Rattle.key_paths.{specs.inner.Entering.{with_products, wide_kind as kind_of, HasGaining, EntersAs}, specs.inner.Gaining.cost_at, specs.inner.Held.HasPriced, specs.inner.Outcomes.TurnsAt};
 
 use crate::turn_at_key::turn_at_key;
 use crate::turns::{Turn, turn_row};

@@ -1,5 +1,4 @@
-ghost use Rattle.std.specs.Prelude.{◌≡◌, ◌≢◌, ◌<◌, ◌≤◌, ◌+◌, ◌*◌, ◌/◌, ◌^◌, ◌++◌, ◌*ℤ◌, ◌≤ℤ◌, ◌<ℤ◌, ℕ, pos, length, get_or, unsigned_abs, IfOk, IfSome, IfNone, MatchOption, slice_set};
-ghost use Rattle.std.specs.Int.{◌∣◌};
+ghost use Rattle.std.{specs.Prelude.{◌≡◌, ◌≢◌, ◌<◌, ◌≤◌, ◌+◌, ◌*◌, ◌/◌, ◌^◌, ◌++◌, ◌*ℤ◌, ◌≤ℤ◌, ◌<ℤ◌, ℕ, pos, length, get_or, unsigned_abs, IfOk, IfSome, IfNone, MatchOption, slice_set}, specs.Int.◌∣◌};
 ghost use Rattle.checked_fraction.specs.Terms.{num, IsNarrow, IsInLowestTerms};
 ghost use Rattle.simplex_law.specs.Terms.{unit_vector};
 ghost use Rattle.simplex_core.specs.Terms.{IsDenominator, HaveNoDenominator};

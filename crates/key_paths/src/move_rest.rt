@@ -1,7 +1,7 @@
 ghost use Rattle.std.specs.Prelude.{◌≡◌, ◌<◌, ◌^◌, ◌-ℤ◌, ◌*ℤ◌, ℕ, length, unsigned_abs};
 ghost use Rattle.checked_fraction.specs.Terms.{num, IsNarrow};
-ghost use Rattle.key_paths.specs.inner.Held.{IsOnce};
 ghost use Rattle.key_rows.specs.Terms.{path_uses};
+ghost use Rattle.key_paths.specs.inner.Held.{IsOnce};
 
 use key_rows::{shift_back_list, shift_list};
 use net_core::{LinkId, List};

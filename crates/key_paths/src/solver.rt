@@ -1,10 +1,8 @@
 ghost use Rattle.std.specs.Prelude.{◌≡◌, ◌<◌, ◌+◌, All, length};
 ghost use Rattle.plan_terms.specs.Terms.{AreDemands, graph, graph_of};
 ghost use Rattle.route_law.specs.Terms.{route_bound, route_slack};
-ghost use Rattle.key_paths.specs.Tasks.{HasNarrowBounds, IsTaskAnswer};
-ghost use Rattle.key_paths.specs.inner.Starts.{IsStart};
 ghost use Rattle.key_rows.specs.Terms.{IsRoom};
-ghost use Rattle.key_paths.specs.inner.Gaining.{IsCarrier};
+ghost use Rattle.key_paths.{specs.Tasks.{HasNarrowBounds, IsTaskAnswer}, specs.inner.Starts.IsStart, specs.inner.Gaining.IsCarrier};
 
 use crate::carrier::Carrier;
 use crate::entering::enter;

@@ -3,9 +3,8 @@ ghost use Rattle.checked_fraction.specs.Terms.{num};
 ghost use Rattle.plan_terms.specs.Terms.{graph_of};
 ghost use Rattle.route_law.specs.Terms.{route_rows, route_bound, route_slack};
 ghost use Rattle.simplex_core.specs.Terms.{AtEach, IsUnit};
-ghost use Rattle.key_paths.specs.Tasks.{HasNarrowBounds};
-ghost use Rattle.key_paths.specs.inner.Starts.{IsStart};
 ghost use Rattle.key_rows.specs.Terms.{IsRoom, amounts};
+ghost use Rattle.key_paths.{specs.Tasks.HasNarrowBounds, specs.inner.Starts.IsStart};
 
 use crate::numbers::{bounds_of, counted, links_of, rows_of, slack_names};
 use checked_fraction::Row;

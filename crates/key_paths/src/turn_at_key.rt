@@ -2,8 +2,7 @@ ghost use Rattle.std.specs.Prelude.{◌≡◌, ◌<◌, ◌+◌, ◌^◌, ℕ, �
 ghost use Rattle.plan_terms.specs.Terms.{RouteColumn as Name};
 ghost use Rattle.simplex_law.specs.Terms.{ColumnOf};
 ghost use Rattle.key_rows.specs.Terms.{IsRoom, IsOwn, demand_in};
-ghost use Rattle.key_paths.specs.inner.Held.{IsEntering, HasEntering, HasPriced, IsAlone};
-ghost use Rattle.key_paths.specs.inner.Outcomes.{wide_spread, ComesOf, TurnsAt};
+ghost use Rattle.key_paths.{specs.inner.Held.{IsEntering, HasEntering, HasPriced, IsAlone}, specs.inner.Outcomes.{wide_spread, ComesOf, TurnsAt}};
 
 use crate::change_key::change_key;
 use crate::exchange::row_of;

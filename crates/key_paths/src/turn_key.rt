@@ -1,8 +1,8 @@
 ghost use Rattle.std.specs.Prelude.{◌≡◌, ◌<◌, ◌+◌, ℕ, ℤ, length, slice_set, Some, OnOk, IfErr};
 ghost use Rattle.plan_terms.specs.Terms.{RouteColumn as Name};
 ghost use Rattle.simplex_law.specs.Terms.{put, ColumnOf};
-ghost use Rattle.key_paths.specs.inner.Held.{IsHeld, IsEntering, HasEntering, IsAlone, IsWideNext};
 ghost use Rattle.key_rows.specs.Terms.{demand_in};
+ghost use Rattle.key_paths.specs.inner.Held.{IsHeld, IsEntering, HasEntering, IsAlone, IsWideNext};
 
 use crate::move_rest::move_rest;
 use crate::turn_rows::set_name;

@@ -2,9 +2,7 @@ ghost use Rattle.std.specs.Prelude.{◌≡◌, ◌<◌, ◌≤◌, ◌^◌, ℕ,
 ghost use Rattle.checked_fraction.specs.Terms.{num};
 ghost use Rattle.simplex_core.specs.Terms.{HavePivot, IsNarrowOver};
 ghost use Rattle.key_rows.specs.Terms.{IsRoom};
-ghost use Rattle.key_paths.specs.inner.Held.{HasPriced};
-ghost use Rattle.key_paths.specs.inner.Outcomes.{wide_place, IsProductPlace, TurnsAt};
-ghost use Rattle.key_paths.specs.declared.turn_rows.WideTurn.{WideTurn as Found};
+ghost use Rattle.key_paths.{specs.inner.Held.HasPriced, specs.inner.Outcomes.{wide_place, IsProductPlace, TurnsAt}, specs.declared.turn_rows.WideTurn.{WideTurn as Found}};
 
 use crate::turn_rows::{WideTurn, turn_rows};
 use key_rows::{Keyed, Room, renew_dual_list, renew_value_list};

@@ -1,16 +1,11 @@
 -- the first row by the ratio test, row by row
 use Rattle.std.proofs.Common.{◌≡◌, ℕ, ℤ, List, Option, Some, None, pos, ◌+◌, ◌*ℤ◌, sym, ap, ◌∙◌, subst, arith, ⊎_elim, inl, inr, ◌⊎◌, ◌<ℤ◌}
 use Rattle.net_core.proofs.Library.{cases_lt, ints}
-use Rattle.checked_fraction.specs.Terms.{num, combined}
-use Rattle.checked_fraction.specs.declared.row.Row.{Row}
-use Rattle.simplex_law.specs.Terms.{dot, IsNoLater}
-use Rattle.simplex_law.proofs.Lemmas.{gone, over, lex_at, lex_none}
-use Rattle.simplex_core.specs.Terms.{nums_at}
-use Rattle.simplex_core.proofs.Ratios.{no_later_trans, no_later_same}
+use Rattle.checked_fraction.{specs.Terms.{num, combined}, specs.declared.row.Row.Row}
+use Rattle.simplex_law.{specs.Terms.{dot, IsNoLater}, proofs.Lemmas.{gone, over, lex_at, lex_none}}
+use Rattle.simplex_core.{specs.Terms.nums_at, proofs.Ratios.{no_later_trans, no_later_same}}
 use Rattle.key_law.specs.Terms.{ComesFirst}
-use Rattle.key_rows.specs.KeyRows.{HaveValues}
-use Rattle.key_rows.specs.inner.Orders.{IsRowFirst, IsRowCandidate, IsNoLaterRow, IsBetterRow, IsBestRow}
-use Rattle.key_rows.specs.declared.order.Candidate.{Candidate}
+use Rattle.key_rows.{specs.KeyRows.HaveValues, specs.inner.Orders.{IsRowFirst, IsRowCandidate, IsNoLaterRow, IsBetterRow, IsBestRow}, specs.declared.order.Candidate.Candidate}
 
 -- what comes first comes no later
 no_later : (m : ℕ) (rest u : ℕ → ℤ) (p : ℤ) (v : ℕ → ℤ) (q x y : ℤ) (a b : ℕ) → x ≡ dot m u rest → y ≡ dot m v rest → ComesFirst m x p y q u p v q a b → IsNoLater m rest u p v q

@@ -1,19 +1,11 @@
 -- what names and owners say of the columns of a basis with keys
 use Rattle.std.proofs.Common.{◌≡◌, ℕ, ℤ, List, Some, None, pos, ◌+◌, ◌<◌, ◌≤◌, ◌-ℤ◌, ◌*ℤ◌, get_or, sym, ap, ◌∙◌, subst, refl, arith, ⊎_elim, ◌≤ℤ◌}
-use Rattle.net_core.proofs.Library.{zero-*ℤ, cases_eq, ints}
+use Rattle.net_core.{proofs.Library.{zero-*ℤ, cases_eq, ints}, specs.declared.columns.RouteColumn.RouteColumn, specs.declared.columns.RouteColumn.TheVariants.{LinkSlack, DemandSlack, Carry}}
 use Rattle.checked_fraction.specs.Terms.{num}
-use Rattle.net_core.specs.declared.columns.RouteColumn.{RouteColumn}
-use Rattle.net_core.specs.declared.columns.RouteColumn.TheVariants.{LinkSlack, DemandSlack, Carry}
-use Rattle.simplex_law.specs.Terms.{int_sum, dot, unit_vector, ColumnOf}
-use Rattle.simplex_law.proofs.Lemmas.{sum-same, unit-other, unit-same}
+use Rattle.simplex_law.{specs.Terms.{int_sum, dot, unit_vector, ColumnOf}, proofs.Lemmas.{sum-same, unit-other, unit-same}}
 use Rattle.simplex_core.specs.Terms.{nums_at, den_at}
-use Rattle.key_law.specs.Terms.{key_part, left_column, HaveWeights, key_times}
-use Rattle.key_law.proofs.Lemmas.{owned_difference, free_difference, key_part_low}
-use Rattle.key_rows.specs.Bases.{IsColumnNamed, IsKeyed}
-use Rattle.key_rows.specs.KeyRows.{AreWeights, amounts, times_taken, weighted, left_over_rows}
-use Rattle.key_rows.specs.Names.{path_uses, uses, left_uses, links_in, demand_in, own_entry, owner_in, column_name, key_links, key_name}
-use Rattle.key_rows.specs.declared.keyed.Keyed.{Keyed}
-use Rattle.key_rows.proofs.Testing.{weight_positive}
+use Rattle.key_law.{specs.Terms.{key_part, left_column, HaveWeights, key_times}, proofs.Lemmas.{owned_difference, free_difference, key_part_low}}
+use Rattle.key_rows.{specs.Bases.{IsColumnNamed, IsKeyed}, specs.KeyRows.{AreWeights, amounts, times_taken, weighted, left_over_rows}, specs.Names.{path_uses, uses, left_uses, links_in, demand_in, own_entry, owner_in, column_name, key_links, key_name}, specs.declared.keyed.Keyed.Keyed, proofs.Testing.weight_positive}
 
 -- the entry in a demand's row by the owner
 own_unit : (demands : ℕ) (name : RouteColumn) (d : ℕ) → d < demands → own_entry name d ≡ unit_vector (owner_in demands name) d

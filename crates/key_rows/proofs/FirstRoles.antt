@@ -1,12 +1,11 @@
 -- the ratio test over roles doesn't ask which rows of the inverse are taken for them
 use Rattle.std.proofs.Common.{◌≡◌, ℕ, ℤ, pos, ◌+◌, ◌<◌, ◌*ℤ◌, subst, ◌<ℤ◌}
 use Rattle.net_core.specs.declared.columns.RouteColumn.{RouteColumn}
-use Rattle.simplex_law.specs.Terms.{IsInverseRow, ColumnOf, dot, unit_vector, IsRatioLe}
-use Rattle.simplex_law.proofs.Lemmas.{positive_cancel, first_scaled, second_scaled, dot_scaled, row_unique, valued_scaled}
+use Rattle.simplex_law.{specs.Terms.{IsInverseRow, ColumnOf, dot, unit_vector, IsRatioLe}, proofs.Lemmas.{positive_cancel, first_scaled, second_scaled, dot_scaled, row_unique, valued_scaled}}
 use Rattle.simplex_core.proofs.Ratios.{no_later_trans, no_later_same}
 use Rattle.key_law.specs.Terms.{IsKept}
-use Rattle.key_rows.specs.FirstRoles.{HasStep, LimitsNothing, IsNoLaterRole}
 use Rattle.checked_fraction.proofs.Products.{positive_product}
+use Rattle.key_rows.specs.FirstRoles.{HasStep, LimitsNothing, IsNoLaterRole}
 
 module _ {links demands : ℕ} {bound : ℕ → ℤ} {basis : ℕ → ColumnOf RouteColumn} {place role : ℕ → ℕ} {kept : ℕ → ℕ → ℤ} {den prices : ℕ → ℤ} {prices_den : ℤ}
     (h : IsKept links demands bound basis place role kept den prices prices_den) (a : ℕ → ℤ) where

@@ -1,20 +1,11 @@
 -- rows and keys that may leave, as rows of the whole inverse
 use Rattle.std.proofs.Common.{◌≡◌, ℕ, ℤ, List, pos, ◌+◌, ◌<◌, ◌-ℤ◌, ◌*ℤ◌, sym, ap, ◌∙◌, subst, refl, arith}
-use Rattle.net_core.proofs.Library.{ints}
+use Rattle.net_core.{proofs.Library.ints, specs.declared.columns.RouteColumn.RouteColumn}
 use Rattle.checked_fraction.specs.Terms.{num}
-use Rattle.net_core.specs.declared.columns.RouteColumn.{RouteColumn}
-use Rattle.simplex_law.specs.Terms.{dot, unit_vector, ColumnOf}
-use Rattle.simplex_law.proofs.Lemmas.{sum-same}
+use Rattle.simplex_law.{specs.Terms.{dot, unit_vector, ColumnOf}, proofs.Lemmas.sum-same}
 use Rattle.simplex_core.specs.Terms.{nums_at, den_at}
-use Rattle.key_law.specs.Terms.{key_part, left_column, full_kept, full_key, key_nums, key_dot, IsRoleRow}
-use Rattle.key_law.proofs.Lemmas.{row_product, key_row_product, is_spread}
-use Rattle.key_rows.specs.Bases.{IsKeyed}
-use Rattle.key_rows.specs.KeyRows.{amounts, times_taken, weighted}
-use Rattle.key_rows.specs.inner.Candidates.{IsKeyCandidate}
-use Rattle.key_rows.specs.inner.Orders.{IsRowCandidate}
-use Rattle.key_rows.specs.declared.keyed.Keyed.{Keyed}
-use Rattle.key_rows.specs.declared.order.Candidate.{Candidate}
-use Rattle.key_rows.proofs.Columns.{times_are}
+use Rattle.key_law.{specs.Terms.{key_part, left_column, full_kept, full_key, key_nums, key_dot, IsRoleRow}, proofs.Lemmas.{row_product, key_row_product, is_spread}}
+use Rattle.key_rows.{specs.Bases.IsKeyed, specs.KeyRows.{amounts, times_taken, weighted}, specs.inner.Candidates.IsKeyCandidate, specs.inner.Orders.IsRowCandidate, specs.declared.keyed.Keyed.Keyed, specs.declared.order.Candidate.Candidate, proofs.Columns.times_are}
 
 module _ {links demands : ℕ} {bound : ℕ → ℤ} {basis : ℕ → ColumnOf RouteColumn} {place role : ℕ → ℕ} {b : Keyed} (h : IsKeyed links demands bound basis place role b)
     (a : ℕ → ℤ) (have : (i : ℕ) → i < links → num b.products i ≡ dot links (nums_at b.rows i) (left_column links demands basis place a)) where

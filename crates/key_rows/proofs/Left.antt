@@ -1,8 +1,7 @@
 -- what the rows of a demand leave
 use Rattle.std.proofs.Common.{◌≡◌, ℕ, ℤ, suc, List, pos, ◌+◌, ◌-◌, ◌*◌, ◌^◌, ◌≤◌, ◌+ℤ◌, ◌-ℤ◌, ◌*ℤ◌, unsigned_abs, sym, ap, ◌∙◌, subst, arith, ◌≤ℤ◌}
 use Rattle.net_core.proofs.Library.{*ℤ-zero, ints}
-use Rattle.simplex_law.specs.Terms.{unit_vector, int_sum}
-use Rattle.simplex_law.proofs.Lemmas.{minus_left, unit-same}
+use Rattle.simplex_law.{specs.Terms.{unit_vector, int_sum}, proofs.Lemmas.{minus_left, unit-same}}
 use Rattle.key_rows.specs.KeyRows.{times_taken, left_over_rows}
 
 one_more : (n : ℕ) → suc n ≡ n + 1

@@ -1,8 +1,7 @@
 -- lists that are written item by item
 use Rattle.std.proofs.Common.{◌≡◌, ℕ, ℤ, List, pos, length, slice_set, slice_get, Some, ◌+◌, ◌<◌, sym, subst, ap, ◌∙◌, arith, ⊎_elim, get_or-set_same, get_or-set_other}
 use Rattle.net_core.proofs.Library.{cases_eq}
-use Rattle.checked_fraction.specs.Terms.{num}
-use Rattle.checked_fraction.specs.declared.row.Row.{Row}
+use Rattle.checked_fraction.{specs.Terms.num, specs.declared.row.Row.Row}
 use Rattle.simplex_law.specs.Terms.{dot}
 use Rattle.simplex_core.specs.Terms.{nums_of, nums_at, IsRectangle}
 use Rattle.key_law.specs.Terms.{IsTieFirst}

@@ -1,27 +1,11 @@
 -- the order of two candidates by their rows in lowest terms is that of their rows of the whole inverse
 use Rattle.std.proofs.Common.{◌⊎◌, ◌≡◌, ℕ, ℤ, List, length, pos, ◌+◌, ◌-◌, ◌<◌, ◌-ℤ◌, ◌*ℤ◌, inl, inr, sym, ap, ◌∙◌, subst, arith, ⊎_elim, ◌<ℤ◌}
-use Rattle.net_core.proofs.Library.{*ℤ-zero, *ℤ_comm}
-use Rattle.checked_fraction.specs.Terms.{num}
-use Rattle.net_core.specs.declared.columns.RouteColumn.{RouteColumn}
-use Rattle.net_core.specs.declared.ids.LinkId.{LinkId}
-use Rattle.simplex_law.specs.Terms.{dot, unit_vector, ColumnOf, IsNoLater}
-use Rattle.simplex_law.proofs.Lemmas.{moved_out, sum-same}
+use Rattle.net_core.{proofs.Library.{*ℤ-zero, *ℤ_comm}, specs.declared.columns.RouteColumn.RouteColumn, specs.declared.ids.LinkId.LinkId}
+use Rattle.checked_fraction.{specs.Terms.num, proofs.Products.cancelled}
+use Rattle.simplex_law.{specs.Terms.{dot, unit_vector, ColumnOf, IsNoLater}, proofs.Lemmas.{moved_out, sum-same}}
 use Rattle.simplex_core.specs.Terms.{nums_at, den_at}
-use Rattle.key_law.specs.Terms.{key_part, left_column, full_kept, full_key, key_nums, IsRoleRow, IsTieFirst}
-use Rattle.key_law.proofs.Lemmas.{comes_first}
-use Rattle.key_rows.specs.Bases.{IsKeyed}
-use Rattle.key_rows.specs.KeyRows.{AreWeights, weighted, less_rows}
-use Rattle.key_rows.specs.KeyTests.{HaveColumnProducts, IsKeyRow}
-use Rattle.key_rows.specs.Names.{left_uses, own_entry}
-use Rattle.key_rows.specs.inner.Candidates.{IsLeavingCandidate, IsKeyCandidate, IsLowered, IsLoweredKey, LeavesFirst, lowered_step}
-use Rattle.key_rows.specs.inner.Orders.{IsRowCandidate}
-use Rattle.key_rows.specs.declared.keyed.Keyed.{Keyed}
-use Rattle.key_rows.specs.declared.order.Candidate.{Candidate}
-use Rattle.key_rows.proofs.Columns.{times_are}
-use Rattle.key_rows.proofs.Leavers.{row_leaver, key_leaver}
-use Rattle.key_rows.proofs.Products.{key_scaled}
-use Rattle.key_rows.proofs.Weighted.{left_crossed}
-use Rattle.checked_fraction.proofs.Products.{cancelled}
+use Rattle.key_law.{specs.Terms.{key_part, left_column, full_kept, full_key, key_nums, IsRoleRow, IsTieFirst}, proofs.Lemmas.comes_first}
+use Rattle.key_rows.{specs.Bases.IsKeyed, specs.KeyRows.{AreWeights, weighted, less_rows}, specs.KeyTests.{HaveColumnProducts, IsKeyRow}, specs.Names.{left_uses, own_entry}, specs.inner.Candidates.{IsLeavingCandidate, IsKeyCandidate, IsLowered, IsLoweredKey, LeavesFirst, lowered_step}, specs.inner.Orders.IsRowCandidate, specs.declared.keyed.Keyed.Keyed, specs.declared.order.Candidate.Candidate, proofs.Columns.times_are, proofs.Leavers.{row_leaver, key_leaver}, proofs.Products.key_scaled, proofs.Weighted.left_crossed}
 
 -- a candidate's row of the whole inverse, over the denominator of its value and its product
 abbrev pub IsWholeRow : ℕ → ℕ → (ℕ → ColumnOf RouteColumn) → (ℕ → ℕ) → Keyed → RouteColumn → Candidate → (ℕ → ℤ) → Type 0

@@ -1,7 +1,6 @@
 -- a row's numbers along a path, one after another
 use Rattle.std.proofs.Common.{◌≡◌, ℕ, zero, suc, ◌<◌, ◌≤◌, ◌+◌, List, [], ◌∷◌, length, drop, get_or, refl, subst, arith, ℤ, pos, ◌+ℤ◌}
-use Rattle.net_core.proofs.Library.{ints, AllByRecursion}
-use Rattle.net_core.specs.declared.ids.LinkId.{LinkId}
+use Rattle.net_core.{proofs.Library.{ints, AllByRecursion}, specs.declared.ids.LinkId.LinkId}
 use Rattle.simplex_law.proofs.Lemmas.{entry_dot}
 
 -- the sum of numbers at the links of a path

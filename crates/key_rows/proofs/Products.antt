@@ -1,13 +1,10 @@
 -- products with what is left of a column
 use Rattle.std.proofs.Common.{◌≡◌, ℕ, ℤ, List, pos, ◌<◌, ◌+ℤ◌, ◌-ℤ◌, ◌*ℤ◌, sym, ap, ◌∙◌, subst, arith, ◌<ℤ◌}
 use Rattle.net_core.proofs.Library.{*ℤ_comm, ints}
-use Rattle.checked_fraction.specs.Terms.{num, IsReduced}
-use Rattle.checked_fraction.specs.declared.row.Row.{Row}
-use Rattle.simplex_law.specs.Terms.{int_sum, dot}
-use Rattle.simplex_law.proofs.Lemmas.{minus_left, distribute_minus, distribute_left, moved_out, positive_cancel, priced, sum-same, sum-minus, sum-none, sum-times}
+use Rattle.checked_fraction.{specs.Terms.{num, IsReduced}, specs.declared.row.Row.Row, proofs.Products.{regroup, positive_product}}
+use Rattle.simplex_law.{specs.Terms.{int_sum, dot}, proofs.Lemmas.{minus_left, distribute_minus, distribute_left, moved_out, positive_cancel, priced, sum-same, sum-minus, sum-none, sum-times}}
 use Rattle.simplex_core.specs.Terms.{nums_at}
 use Rattle.key_rows.specs.KeyRows.{times_taken, weighted, less_rows, left_over_rows}
-use Rattle.checked_fraction.proofs.Products.{regroup, positive_product}
 
 -- a difference of products is the product with the difference
 pub left_product : (n : ℕ) (u a b : ℕ → ℤ) (x y : ℤ) → x ≡ dot n u a → y ≡ dot n u b → x -ℤ y ≡ dot n u (λ k. a k -ℤ b k)

@@ -1,28 +1,11 @@
 -- the first of the roles, found candidate by candidate
 use Rattle.std.proofs.Common.{◌≡◌, ℕ, ℤ, List, Option, Some, None, length, pos, ◌+◌, ◌-◌, ◌<◌, ◌-ℤ◌, ◌*ℤ◌, ◌⊎◌, inl, inr, get_or, sym, ap, ◌∙◌, subst, refl, arith, ⊎_elim, ◌<ℤ◌, ◌≤ℤ◌}
-use Rattle.net_core.proofs.Library.{*ℤ-zero, zero-*ℤ, cases_eq, ints}
+use Rattle.net_core.{proofs.Library.{*ℤ-zero, zero-*ℤ, cases_eq, ints}, specs.declared.columns.RouteColumn.RouteColumn, specs.declared.ids.LinkId.LinkId}
 use Rattle.checked_fraction.specs.Terms.{num}
-use Rattle.net_core.specs.declared.columns.RouteColumn.{RouteColumn}
-use Rattle.net_core.specs.declared.ids.LinkId.{LinkId}
-use Rattle.simplex_law.specs.Terms.{IsInverseRow, ColumnOf, int_sum, dot, IsNoLater}
-use Rattle.simplex_law.proofs.Lemmas.{sum-same, sum-none, unit-other, weights}
+use Rattle.simplex_law.{specs.Terms.{IsInverseRow, ColumnOf, int_sum, dot, IsNoLater}, proofs.Lemmas.{sum-same, sum-none, unit-other, weights}}
 use Rattle.simplex_core.specs.Terms.{nums_at, den_at}
-use Rattle.key_law.specs.Terms.{left_column, full_kept, full_key, key_nums, key_times}
-use Rattle.key_law.proofs.Lemmas.{kept_row, key_row, row_product, key_row_product, short_no_later}
-use Rattle.key_rows.specs.Bases.{IsKeyed}
-use Rattle.key_rows.specs.FirstRoles.{HasStep, LimitsNothing, IsNoLaterRole, IsFirstRole}
-use Rattle.key_rows.specs.KeyRows.{AreWeights, IsOwn, weighted}
-use Rattle.key_rows.specs.KeyTests.{HaveColumnProducts, product_over}
-use Rattle.key_rows.specs.Names.{own_entry}
-use Rattle.key_rows.specs.inner.Candidates.{HasNoStep, IsLeavingCandidate, IsKeyCandidate, LeavesFirst, IsJoined, IsWithKey}
-use Rattle.key_rows.specs.inner.Orders.{IsRowCandidate, IsBestRow}
-use Rattle.key_rows.specs.inner.Tried.{role_in}
-use Rattle.key_rows.specs.declared.keyed.Keyed.{Keyed}
-use Rattle.key_rows.specs.declared.order.Candidate.{Candidate}
-use Rattle.key_rows.proofs.Columns.{have_weights, owner_entry}
-use Rattle.key_rows.proofs.FirstRoles.{positive_again, limits_nothing, no_later_role, no_later_itself, no_later_over}
-use Rattle.key_rows.proofs.Leavers.{key_dot_is}
-use Rattle.key_rows.proofs.Lowered.{first_comes, IsWholeRow}
+use Rattle.key_law.{specs.Terms.{left_column, full_kept, full_key, key_nums, key_times}, proofs.Lemmas.{kept_row, key_row, row_product, key_row_product, short_no_later}}
+use Rattle.key_rows.{specs.Bases.IsKeyed, specs.FirstRoles.{HasStep, LimitsNothing, IsNoLaterRole, IsFirstRole}, specs.KeyRows.{AreWeights, IsOwn, weighted}, specs.KeyTests.{HaveColumnProducts, product_over}, specs.Names.own_entry, specs.inner.Candidates.{HasNoStep, IsLeavingCandidate, IsKeyCandidate, LeavesFirst, IsJoined, IsWithKey}, specs.inner.Orders.{IsRowCandidate, IsBestRow}, specs.inner.Tried.role_in, specs.declared.keyed.Keyed.Keyed, specs.declared.order.Candidate.Candidate, proofs.Columns.{have_weights, owner_entry}, proofs.FirstRoles.{positive_again, limits_nothing, no_later_role, no_later_itself, no_later_over}, proofs.Leavers.key_dot_is, proofs.Lowered.{first_comes, IsWholeRow}}
 
 module _ {links demands : ℕ} {bound : ℕ → ℤ} {basis : ℕ → ColumnOf RouteColumn} {place role : ℕ → ℕ} {b : Keyed} (h : IsKeyed links demands bound basis place role b)
     (name : RouteColumn) (key : List LinkId) (a : ℕ → ℤ) (have : (i : ℕ) → i < links → num b.products i ≡ dot links (nums_at b.rows i) (left_column links demands basis place a))

@@ -1,11 +1,8 @@
 -- rows that are taken away
 use Rattle.std.proofs.Common.{◌≡◌, ℕ, suc, ◌+◌, ◌<◌, List, Bool, true, false, Result, Ok, Err, Some, get_or, slice_get, sym, ap, ◌∙◌, subst, arith, OnOk, IfErr, is_ok, ℤ, pos, ◌+ℤ◌, ◌-ℤ◌, ◌*ℤ◌}
 use Rattle.net_core.proofs.Library.{ints}
-use Rattle.checked_fraction.specs.Terms.{num, IsReduced, IsTooWide}
-use Rattle.checked_fraction.specs.declared.wide.WideNumber.{WideNumber}
-use Rattle.checked_fraction.specs.declared.row.Row.{Row}
-use Rattle.simplex_law.specs.Terms.{unit_vector, int_sum}
-use Rattle.simplex_law.proofs.Lemmas.{unit-same}
+use Rattle.checked_fraction.{specs.Terms.{num, IsReduced, IsTooWide}, specs.declared.wide.WideNumber.WideNumber, specs.declared.row.Row.Row}
+use Rattle.simplex_law.{specs.Terms.{unit_vector, int_sum}, proofs.Lemmas.unit-same}
 use Rattle.simplex_core.specs.Terms.{nums_of, nums_at}
 use Rattle.key_rows.specs.KeyRows.{times_taken, less_rows}
 

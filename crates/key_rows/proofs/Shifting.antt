@@ -1,8 +1,7 @@
 -- a number added at each link of a path
 use Rattle.std.proofs.Common.{◌≡◌, ℕ, ℤ, zero, suc, ◌<◌, ◌≤◌, ◌+◌, ◌*◌, ◌^◌, ◌+ℤ◌, ◌-ℤ◌, ◌*ℤ◌, List, [], ◌∷◌, pos, cond, eqb, length, drop, get_or, slice_set, unsigned_abs, refl, sym, ap, ◌∙◌, subst, arith, ⊎_elim, eq-eqb, ne_eqb, get_or-set_same, get_or-set_other}
-use Rattle.net_core.proofs.Library.{*ℤ-zero, zero-*ℤ, cases_eq, ints}
+use Rattle.net_core.{proofs.Library.{*ℤ-zero, zero-*ℤ, cases_eq, ints}, specs.declared.ids.LinkId.LinkId}
 use Rattle.checked_fraction.specs.Terms.{num}
-use Rattle.net_core.specs.declared.ids.LinkId.{LinkId}
 use Rattle.simplex_law.proofs.Lemmas.{distribute_left, distribute_minus}
 use Rattle.key_rows.specs.Names.{path_uses}
 

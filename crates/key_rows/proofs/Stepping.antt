@@ -1,17 +1,9 @@
 -- the product of a key's row in lowest terms
 use Rattle.std.proofs.Common.{◌≡◌, ℕ, ℤ, Bool, true, false, List, pos, length, subst, inr, refl, ◌<ℤ◌}
-use Rattle.checked_fraction.specs.Terms.{num}
-use Rattle.checked_fraction.specs.declared.row.Row.{Row}
-use Rattle.net_core.specs.declared.columns.RouteColumn.{RouteColumn}
-use Rattle.net_core.specs.declared.ids.LinkId.{LinkId}
-use Rattle.key_rows.specs.KeyTests.{HaveColumnProducts, IsKeyRow}
-use Rattle.key_rows.specs.Names.{left_uses, own_entry}
-use Rattle.key_rows.specs.inner.Candidates.{IsKeyCandidate, IsLowered, DecidesTie, lowered_step}
+use Rattle.checked_fraction.{specs.Terms.num, specs.declared.row.Row.Row}
+use Rattle.net_core.{specs.declared.columns.RouteColumn.RouteColumn, specs.declared.ids.LinkId.LinkId}
 use Rattle.key_law.specs.Terms.{IsTieFirst}
-use Rattle.key_rows.specs.declared.keyed.Keyed.{Keyed}
-use Rattle.key_rows.specs.declared.order.Candidate.{Candidate}
-use Rattle.key_rows.proofs.Products.{key_scaled, key_positive}
-use Rattle.key_rows.proofs.Weighted.{left_positive}
+use Rattle.key_rows.{specs.KeyTests.{HaveColumnProducts, IsKeyRow}, specs.Names.{left_uses, own_entry}, specs.inner.Candidates.{IsKeyCandidate, IsLowered, DecidesTie, lowered_step}, specs.declared.keyed.Keyed.Keyed, specs.declared.order.Candidate.Candidate, proofs.Products.{key_scaled, key_positive}, proofs.Weighted.left_positive}
 
 module _ (b : Keyed) (name : RouteColumn) (key : List LinkId) (d : ℕ) (x : Candidate) (row : Row) (p : ℤ)
     (have : HaveColumnProducts b name key) (candidate : IsKeyCandidate b d (own_entry name d) x) (is_row : IsKeyRow b d row) (step : p ≡ lowered_step b name key d row) where

@@ -1,15 +1,9 @@
 -- a key as a candidate
 use Rattle.std.proofs.Common.{◌≡◌, ℕ, ℤ, List, Option, Some, None, Ok, pos, length, ◌+◌, ◌<◌, ◌*ℤ◌, MatchOption, slice_get, unsigned_abs, sym, ap, ◌∙◌, subst, arith, ◌<ℤ◌, ◌≤ℤ◌}
 use Rattle.net_core.proofs.Library.{*ℤ_comm, ints}
-use Rattle.checked_fraction.specs.Terms.{num}
-use Rattle.checked_fraction.specs.declared.row.Row.{Row}
-use Rattle.checked_fraction.proofs.Products.{positive_factor}
+use Rattle.checked_fraction.{specs.Terms.num, specs.declared.row.Row.Row, proofs.Products.positive_factor}
 use Rattle.simplex_core.specs.Terms.{den_of, den_at}
-use Rattle.key_rows.specs.KeyRows.{IsOwn, AreWeights}
-use Rattle.key_rows.specs.KeyTests.{product_over}
-use Rattle.key_rows.specs.inner.Candidates.{IsKeyTest, value_over}
-use Rattle.key_rows.specs.declared.keyed.Keyed.{Keyed}
-use Rattle.key_rows.specs.declared.order.Candidate.{Candidate}
+use Rattle.key_rows.{specs.KeyRows.{IsOwn, AreWeights}, specs.KeyTests.product_over, specs.inner.Candidates.{IsKeyTest, value_over}, specs.declared.keyed.Keyed.Keyed, specs.declared.order.Candidate.Candidate}
 
 den_positive : (row : Option Row) → pos 0 <ℤ den_of row
 den_positive None = omega (arith, ints)

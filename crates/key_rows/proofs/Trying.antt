@@ -1,23 +1,10 @@
 -- which keys have to be tried, and what is known when they have been
 use Rattle.std.proofs.Common.{◌≡◌, ◌≢◌, ℕ, ℤ, zero, suc, List, Option, Some, None, length, pos, ◌+◌, ◌-◌, ◌<◌, ◌≤◌, ◌⊎◌, inl, inr, get_or, unsigned_abs, sym, ap, ◌∙◌, subst, refl, arith, ⊎_elim}
-use Rattle.net_core.proofs.Library.{ForSome, cases_eq, cases_lt, ints}
+use Rattle.net_core.{proofs.Library.{ForSome, cases_eq, cases_lt, ints}, specs.declared.columns.RouteColumn.RouteColumn, specs.declared.columns.RouteColumn.TheVariants.{LinkSlack, DemandSlack, Carry}, specs.declared.ids.LinkId.LinkId}
 use Rattle.checked_fraction.specs.Terms.{num}
-use Rattle.net_core.specs.declared.columns.RouteColumn.{RouteColumn}
-use Rattle.net_core.specs.declared.columns.RouteColumn.TheVariants.{LinkSlack, DemandSlack, Carry}
-use Rattle.net_core.specs.declared.ids.LinkId.{LinkId}
-use Rattle.simplex_law.specs.Terms.{ColumnOf}
-use Rattle.simplex_law.proofs.Lemmas.{unit-other}
-use Rattle.key_rows.specs.FirstRoles.{IsAsked, IsFirstOfRoles, IsFirstRole, LimitsNothing}
-use Rattle.key_rows.specs.KeyRows.{IsOwn, HaveValues}
-use Rattle.key_rows.specs.KeyTests.{HaveColumnProducts}
-use Rattle.key_rows.specs.Names.{demand_in, own_entry}
-use Rattle.key_rows.specs.inner.Candidates.{IsJoined, IsKeyCandidate, IsPlacedCandidate, IsWithKey}
-use Rattle.key_rows.specs.inner.Orders.{IsBestRow}
-use Rattle.key_rows.specs.inner.Tried.{role_in, IsSeen, IsTouched, IsTried, TouchesNoMore}
+use Rattle.simplex_law.{specs.Terms.ColumnOf, proofs.Lemmas.unit-other}
 use Rattle.key_law.specs.Terms.{left_column}
-use Rattle.key_rows.specs.declared.keyed.Keyed.{Keyed}
-use Rattle.key_rows.specs.declared.order.Candidate.{Candidate}
-use Rattle.key_rows.proofs.RatioTests.{rows_first, with_key_first, untouched_limits_nothing}
+use Rattle.key_rows.{specs.FirstRoles.{IsAsked, IsFirstOfRoles, IsFirstRole, LimitsNothing}, specs.KeyRows.{IsOwn, HaveValues}, specs.KeyTests.HaveColumnProducts, specs.Names.{demand_in, own_entry}, specs.inner.Candidates.{IsJoined, IsKeyCandidate, IsPlacedCandidate, IsWithKey}, specs.inner.Orders.IsBestRow, specs.inner.Tried.{role_in, IsSeen, IsTouched, IsTried, TouchesNoMore}, specs.declared.keyed.Keyed.Keyed, specs.declared.order.Candidate.Candidate, proofs.RatioTests.{rows_first, with_key_first, untouched_limits_nothing}}
 
 -- fewer roles
 fewer_roles : (m : ℕ) (bound : ℕ → ℤ) (basis : ℕ → ColumnOf RouteColumn) (place : ℕ → ℕ) (a : ℕ → ℤ) (these others : ℕ → Type 0) (o : Option ℕ) → ((r : ℕ) → r < m → others r → these r)

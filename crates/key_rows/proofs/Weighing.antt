@@ -1,11 +1,9 @@
 -- what brings the rows of a demand over one denominator
 use Rattle.std.proofs.Common.{◌≡◌, ℕ, ℤ, List, pos, length, cond, eqb, get_or, slice_set, slice_get, Some, ◌+◌, ◌*◌, ◌/◌, ◌^◌, ◌<◌, ◌*ℤ◌, unsigned_abs, sym, ap, subst, ◌∙◌, arith, ⊎_elim, ◌<ℤ◌, eq-eqb, get_or-set_same, get_or-set_other}
 use Rattle.net_core.proofs.Library.{◌∣◌, one-dvd, mul-div_cancel', cases_eq, ints, dvd_refl}
-use Rattle.checked_fraction.specs.Terms.{num, IsNarrow}
-use Rattle.checked_fraction.specs.declared.row.Row.{Row}
+use Rattle.checked_fraction.{specs.Terms.{num, IsNarrow}, specs.declared.row.Row.Row}
 use Rattle.simplex_core.specs.Terms.{den_at, den_of, IsLeastMultiple, IsDenominator}
-use Rattle.key_rows.specs.KeyRows.{own_den, IsOwn, AreWeights}
-use Rattle.key_rows.specs.inner.Written.{AreWritten}
+use Rattle.key_rows.{specs.KeyRows.{own_den, IsOwn, AreWeights}, specs.inner.Written.AreWritten}
 
 -- the least common multiple of a number and 1
 pub multiple_of_one : (a : ℕ) → 0 < a → a < 2 ^ 62 → IsLeastMultiple a 1 a

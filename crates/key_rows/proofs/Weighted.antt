@@ -1,14 +1,10 @@
 -- the weights of a demand's rows over two denominators
 use Rattle.std.proofs.Common.{◌≡◌, ℕ, ℤ, zero, suc, List, pos, length, get_or, ◌+◌, ◌<◌, ◌≤◌, ◌-ℤ◌, ◌*ℤ◌, sym, ap, ◌∙◌, subst, arith, ⊎_elim, ◌<ℤ◌}
 use Rattle.net_core.proofs.Library.{*ℤ_comm, zero-*ℤ, cases_eq}
-use Rattle.checked_fraction.specs.Terms.{num}
-use Rattle.checked_fraction.specs.declared.row.Row.{Row}
-use Rattle.simplex_law.specs.Terms.{unit_vector}
-use Rattle.simplex_law.proofs.Lemmas.{minus_left, moved_out, positive_cancel, unit-other}
+use Rattle.checked_fraction.{specs.Terms.num, specs.declared.row.Row.Row, proofs.Products.{regroup, positive_product}}
+use Rattle.simplex_law.{specs.Terms.unit_vector, proofs.Lemmas.{minus_left, moved_out, positive_cancel, unit-other}}
 use Rattle.simplex_core.specs.Terms.{den_at}
-use Rattle.key_rows.specs.KeyRows.{IsOwn, AreWeights, times_taken, left_over_rows}
-use Rattle.key_rows.proofs.Left.{left_more, left_none}
-use Rattle.checked_fraction.proofs.Products.{regroup, positive_product}
+use Rattle.key_rows.{specs.KeyRows.{IsOwn, AreWeights, times_taken, left_over_rows}, proofs.Left.{left_more, left_none}}
 
 module _ (rows : List Row) (owners : List ℕ) (weights others : List ℤ) (d : ℕ) (all whole : ℤ) (are : AreWeights rows owners weights d all) (be : AreWeights rows owners others d whole) where
   cross : (i : ℕ) → i < length rows → IsOwn owners d i → whole *ℤ num weights i ≡ all *ℤ num others i

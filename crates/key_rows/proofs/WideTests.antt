@@ -1,15 +1,7 @@
 -- what is too wide of a key when it is decided which column leaves
 use Rattle.std.proofs.Common.{◌≡◌, ℕ, length, Err, ◌+◌, ◌-◌, ◌<◌, ◌≤◌, ◌⊎◌, ◌∙◌, pos, refl, arith, ⊎_elim, ◌<ℤ◌}
 use Rattle.net_core.specs.declared.columns.RouteColumn.{RouteColumn}
-use Rattle.key_rows.specs.KeyTests.{IsWideSpread, IsWideTest}
-use Rattle.key_rows.specs.Names.{own_entry}
-use Rattle.key_rows.specs.inner.Candidates.{IsKeyTest, IsKeyCandidate, IsPlacedCandidate, IsWideRowTest, wide_test_of}
-use Rattle.key_rows.specs.declared.key_row.WideKey.{WideKey}
-use Rattle.key_rows.specs.declared.key_row.WideKey.TheVariants.{Common as CommonOf, Row as RowOf}
-use Rattle.key_rows.specs.declared.keyed.Keyed.{Keyed}
-use Rattle.key_rows.specs.declared.ratio_test.WideTest.{WideTest}
-use Rattle.key_rows.specs.declared.ratio_test.WideTest.TheVariants.{Common, Product, Row}
-use Rattle.key_rows.specs.declared.order.Candidate.{Candidate}
+use Rattle.key_rows.{specs.KeyTests.{IsWideSpread, IsWideTest}, specs.Names.own_entry, specs.inner.Candidates.{IsKeyTest, IsKeyCandidate, IsPlacedCandidate, IsWideRowTest, wide_test_of}, specs.declared.key_row.WideKey.WideKey, specs.declared.key_row.WideKey.TheVariants.{Common as CommonOf, Row as RowOf}, specs.declared.keyed.Keyed.Keyed, specs.declared.ratio_test.WideTest.WideTest, specs.declared.ratio_test.WideTest.TheVariants.{Common, Product, Row}, specs.declared.order.Candidate.Candidate}
 
 -- of a key's row
 pub row_test : (b : Keyed) (name : RouteColumn) (d role : ℕ) (wide : WideTest) → d < length b.duals → role ≡ length b.rows + d → IsWideRowTest b d role wide → IsWideTest b name wide

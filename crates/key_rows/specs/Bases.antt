@@ -5,10 +5,7 @@ use Rattle.net_core.specs.declared.columns.RouteColumn.{RouteColumn}
 use Rattle.simplex_law.specs.Terms.{dot, ColumnOf}
 use Rattle.simplex_core.specs.Terms.{nums_at, den_at, IsRectangle}
 use Rattle.key_law.specs.Terms.{IsKept, left_column, full_prices}
-use Rattle.key_rows.specs.KeyRows.{amounts}
-use Rattle.key_rows.specs.Names.{gain_in, uses, own_entry, owner_in, column_name, IsNameWithin}
-use Rattle.key_rows.specs.declared.keyed.Keyed.{Keyed}
-use Rattle.key_rows.specs.declared.keyed.Room.{Room}
+use Rattle.key_rows.{specs.KeyRows.amounts, specs.Names.{gain_in, uses, own_entry, owner_in, column_name, IsNameWithin}, specs.declared.keyed.Keyed.Keyed, specs.declared.keyed.Room.Room}
 
 -- each list has as many items as there are links, demands, or rows of both; what they hold names links and places that there are
 pub record IsShapedBasis (links demands : ℕ) (b : Keyed) : Type 0 where

@@ -5,9 +5,7 @@ use Rattle.net_core.specs.declared.columns.RouteColumn.{RouteColumn}
 use Rattle.simplex_law.specs.Terms.{IsInverseRow, ColumnOf, dot, IsRatioLe}
 use Rattle.simplex_core.specs.Terms.{nums_at}
 use Rattle.key_law.specs.Terms.{left_column}
-use Rattle.key_rows.specs.Bases.{IsColumnNamed, IsKeyed}
-use Rattle.key_rows.specs.KeyRows.{AreWeights, amounts, left_over_rows}
-use Rattle.key_rows.specs.declared.keyed.Keyed.{Keyed}
+use Rattle.key_rows.{specs.Bases.{IsColumnNamed, IsKeyed}, specs.KeyRows.{AreWeights, amounts, left_over_rows}, specs.declared.keyed.Keyed.Keyed}
 
 module _ (m : ℕ) (bound : ℕ → ℤ) (basis : ℕ → ColumnOf RouteColumn) (place : ℕ → ℕ) (a : ℕ → ℤ) where
   -- role r limits the column: its row has a positive product with it

@@ -1,8 +1,6 @@
 -- rows, steps and values of keys, by the rows of their demands' other columns
 use Rattle.std.specs.Prelude.{ℕ, ℤ, List, length, pos, ◌≡◌, ◌<◌, ◌≤◌, ◌^◌, ◌-ℤ◌, ◌*ℤ◌, ◌<ℤ◌, ◌⊎◌, unsigned_abs, get_or, cond, eqb}
-use Rattle.checked_fraction.specs.Terms.{num, IsNarrow, IsTooWide}
-use Rattle.checked_fraction.specs.declared.row.Row.{Row}
-use Rattle.checked_fraction.specs.declared.wide.WideNumber.{WideNumber}
+use Rattle.checked_fraction.{specs.Terms.{num, IsNarrow, IsTooWide}, specs.declared.row.Row.Row, specs.declared.wide.WideNumber.WideNumber}
 use Rattle.simplex_law.specs.Terms.{int_sum, unit_vector, dot}
 use Rattle.simplex_core.specs.Terms.{nums_at, den_at}
 

@@ -1,18 +1,10 @@
 -- what is too wide of a key when it is decided which column leaves
 use Rattle.std.specs.Prelude.{ℕ, ℤ, List, length, ◌≡◌, ◌<◌, ◌≤◌, ◌+◌, ◌^◌, unsigned_abs}
-use Rattle.checked_fraction.specs.Terms.{num, IsReduced}
-use Rattle.checked_fraction.specs.declared.row.Row.{Row}
+use Rattle.checked_fraction.{specs.Terms.{num, IsReduced}, specs.declared.row.Row.Row}
 use Rattle.simplex_core.specs.Terms.{HaveNoDenominator, nums_at}
 use Rattle.simplex_law.specs.Terms.{dot}
-use Rattle.net_core.specs.declared.columns.RouteColumn.{RouteColumn}
-use Rattle.net_core.specs.declared.ids.LinkId.{LinkId}
-use Rattle.key_rows.specs.KeyRows.{own_den, AreWeights, less_rows, left_over_rows, IsWideKey}
-use Rattle.key_rows.specs.Names.{left_uses, own_entry}
-use Rattle.key_rows.specs.declared.key_row.WideKey.{WideKey}
-use Rattle.key_rows.specs.declared.key_row.WideKey.TheVariants.{Common, Row as RowOf}
-use Rattle.key_rows.specs.declared.keyed.Keyed.{Keyed}
-use Rattle.key_rows.specs.declared.ratio_test.WideTest.{WideTest}
-use Rattle.key_rows.specs.declared.ratio_test.WideTest.TheVariants.{Common as TestCommon, Product as TestProduct, Row as TestRow}
+use Rattle.net_core.{specs.declared.columns.RouteColumn.RouteColumn, specs.declared.ids.LinkId.LinkId}
+use Rattle.key_rows.{specs.KeyRows.{own_den, AreWeights, less_rows, left_over_rows, IsWideKey}, specs.Names.{left_uses, own_entry}, specs.declared.key_row.WideKey.WideKey, specs.declared.key_row.WideKey.TheVariants.{Common, Row as RowOf}, specs.declared.keyed.Keyed.Keyed, specs.declared.ratio_test.WideTest.WideTest, specs.declared.ratio_test.WideTest.TheVariants.{Common as TestCommon, Product as TestProduct, Row as TestRow}}
 
 module _ (b : Keyed) (d : ℕ) where
   -- the product of the key of demand d with a column over all, where the rows have these weights and own is the column's entry in the demand's row

@@ -1,9 +1,6 @@
 -- the columns of a routing program by their names
-use Rattle.std.specs.Prelude.{ℕ, ℤ, List, [], length, Option, Some, None, pos, get_or, ◌<◌, ◌≤◌, ◌+◌, ◌-ℤ◌, ◌*ℤ◌}
-use Rattle.std.specs.List.{AllByRecursion}
-use Rattle.net_core.specs.declared.columns.RouteColumn.{RouteColumn}
-use Rattle.net_core.specs.declared.columns.RouteColumn.TheVariants.{LinkSlack, DemandSlack, Carry}
-use Rattle.net_core.specs.declared.ids.LinkId.{LinkId}
+use Rattle.std.{specs.Prelude.{ℕ, ℤ, List, [], length, Option, Some, None, pos, get_or, ◌<◌, ◌≤◌, ◌+◌, ◌-ℤ◌, ◌*ℤ◌}, specs.List.AllByRecursion}
+use Rattle.net_core.{specs.declared.columns.RouteColumn.RouteColumn, specs.declared.columns.RouteColumn.TheVariants.{LinkSlack, DemandSlack, Carry}, specs.declared.ids.LinkId.LinkId}
 use Rattle.simplex_law.specs.Terms.{dot, unit_vector, entry_at}
 
 -- how often a path uses link k

@@ -2,10 +2,7 @@ ghost use Rattle.std.specs.Prelude.{◌≡◌, ◌<◌, ◌≤◌, ◌+◌, ◌^
 ghost use Rattle.checked_fraction.specs.Terms.{num, IsNarrow, IsReduced, total, IsExact, HasRoom};
 ghost use Rattle.simplex_law.specs.Terms.{unit_vector};
 ghost use Rattle.simplex_core.specs.Terms.{nums_at, IsRectangle};
-ghost use Rattle.key_rows.specs.Bases.{IsShapedBasis, IsRoom};
-ghost use Rattle.key_rows.specs.KeyRows.{times_taken, less_rows, HasWide, IsWideKey};
-ghost use Rattle.key_rows.specs.KeyTests.{IsKeyRow, IsWideSpread};
-ghost use Rattle.key_rows.specs.inner.Written.{AreRaw};
+ghost use Rattle.key_rows.{specs.Bases.{IsShapedBasis, IsRoom}, specs.KeyRows.{times_taken, less_rows, HasWide, IsWideKey}, specs.KeyTests.{IsKeyRow, IsWideSpread}, specs.inner.Written.AreRaw};
 
 use crate::keyed::{Keyed, Room};
 use crate::weights::weigh;

@@ -1,5 +1,4 @@
-ghost use Rattle.std.specs.Prelude.{◌≡◌, ◌≢◌, ◌<◌, ◌≤◌, ◌+◌, ◌^◌, ◌+ℤ◌, ◌-ℤ◌, ◌*ℤ◌, ℕ, pos, length, get_or, unsigned_abs, IsTrue, MatchOption, false};
-ghost use Rattle.std.specs.Option.{ForSome};
+ghost use Rattle.std.{specs.Prelude.{◌≡◌, ◌≢◌, ◌<◌, ◌≤◌, ◌+◌, ◌^◌, ◌+ℤ◌, ◌-ℤ◌, ◌*ℤ◌, ℕ, pos, length, get_or, unsigned_abs, IsTrue, MatchOption, false}, specs.Option.ForSome};
 ghost use Rattle.checked_fraction.specs.Terms.{num, IsNarrow};
 ghost use Rattle.simplex_law.specs.Terms.{dot};
 ghost use Rattle.simplex_core.specs.Terms.{nums_at, IsRectangle};

@@ -1,5 +1,4 @@
-ghost use Rattle.std.specs.Prelude.{◌≡◌, ◌<◌, ◌*◌, ◌^◌, ◌*ℤ◌, ◌<ℤ◌, ◌↔◌, ◌⊎◌, ℕ, pos, length, false, IsTrue};
-ghost use Rattle.std.specs.Ordering.{nat_cmp};
+ghost use Rattle.std.{specs.Prelude.{◌≡◌, ◌<◌, ◌*◌, ◌^◌, ◌*ℤ◌, ◌<ℤ◌, ◌↔◌, ◌⊎◌, ℕ, pos, length, false, IsTrue}, specs.Ordering.nat_cmp};
 ghost use Rattle.checked_fraction.specs.Terms.{num, IsNarrow};
 ghost use Rattle.simplex_core.specs.Terms.{HasOrder};
 ghost use Rattle.key_law.specs.Terms.{IsRoleFirst, IsTieFirst};

@@ -1,18 +1,8 @@
-ghost use Rattle.std.specs.Prelude.{◌≡◌, ◌≢◌, ◌<◌, ◌+◌, ◌-◌, ◌^◌, ◌<ℤ◌, ◌≤◌, ◌≤ℤ◌, ◌⊎◌, ℕ, ℤ, List, pos, unsigned_abs, MatchOption, Some, IfOk, IfErr, length, false, IsTrue, get_or, ◌↔◌};
-ghost use Rattle.std.specs.Option.{ForSome};
+ghost use Rattle.std.{specs.Prelude.{◌≡◌, ◌≢◌, ◌<◌, ◌+◌, ◌-◌, ◌^◌, ◌<ℤ◌, ◌≤◌, ◌≤ℤ◌, ◌⊎◌, ℕ, ℤ, List, pos, unsigned_abs, MatchOption, Some, IfOk, IfErr, length, false, IsTrue, get_or, ◌↔◌}, specs.Option.ForSome};
 ghost use Rattle.checked_fraction.specs.Terms.{num, IsNarrow};
 ghost use Rattle.key_law.specs.Terms.{IsTieFirst};
-ghost use Rattle.key_rows.specs.declared.order.Candidate.{Candidate};
-ghost use Rattle.key_rows.specs.Bases.{IsShapedBasis, IsRoom};
-ghost use Rattle.key_rows.specs.FirstRoles.{IsFirstOfRoles, LeaveSomething};
-ghost use Rattle.key_rows.specs.KeyRows.{AreWeights, amounts, left_over_rows, HaveValues};
-ghost use Rattle.key_rows.specs.KeyTests.{IsWideTest, HaveColumnProducts};
-ghost use Rattle.key_rows.specs.Names.{demand_in, key_links, IsNameWithin, IsShortPath};
-ghost use Rattle.key_rows.specs.inner.Candidates.{IsJoined, IsKeyTest, IsWithKey, IsBetterKey, IsPlacedCandidate, DecidesTie};
-ghost use Rattle.key_rows.specs.inner.Entrants.{IsEntrant, HaveTestNumbers, AreRivals};
-ghost use Rattle.key_rows.specs.inner.Orders.{IsRowFirst, IsRowCandidate, IsPlacedRow, IsBetterRow, IsBestRow};
-ghost use Rattle.key_rows.specs.inner.Tried.{role_in, IsSeen, IsTried, TouchesNoMore};
 ghost use Rattle.simplex_core.specs.Terms.{nums_at, IsRectangle};
+ghost use Rattle.key_rows.{specs.declared.order.Candidate.Candidate, specs.Bases.{IsShapedBasis, IsRoom}, specs.FirstRoles.{IsFirstOfRoles, LeaveSomething}, specs.KeyRows.{AreWeights, amounts, left_over_rows, HaveValues}, specs.KeyTests.{IsWideTest, HaveColumnProducts}, specs.Names.{demand_in, key_links, IsNameWithin, IsShortPath}, specs.inner.Candidates.{IsJoined, IsKeyTest, IsWithKey, IsBetterKey, IsPlacedCandidate, DecidesTie}, specs.inner.Entrants.{IsEntrant, HaveTestNumbers, AreRivals}, specs.inner.Orders.{IsRowFirst, IsRowCandidate, IsPlacedRow, IsBetterRow, IsBestRow}, specs.inner.Tried.{role_in, IsSeen, IsTried, TouchesNoMore}};
 
 use crate::entrant::Entrant;
 use crate::keyed::{Keyed, Room};

@@ -1,11 +1,7 @@
 ghost use Rattle.std.specs.Prelude.{◌≡◌, ◌≢◌, ◌<◌, ◌≤◌, ◌+◌, ◌^◌, ◌+ℤ◌, ◌*ℤ◌, ◌<ℤ◌, ◌≤ℤ◌, ◌⊎◌, ℕ, pos, length, unsigned_abs, OnOk, IfOk, IfErr};
 ghost use Rattle.checked_fraction.specs.Terms.{num, IsNarrow};
 ghost use Rattle.simplex_law.specs.Terms.{dot, unit_vector};
-ghost use Rattle.key_rows.specs.Bases.{IsShapedBasis, IsRoom};
-ghost use Rattle.key_rows.specs.KeyTests.{IsKeyRow, IsWideSpread};
-ghost use Rattle.key_rows.specs.Names.{left_uses, own_entry, IsNameWithin, IsShortPath};
-ghost use Rattle.key_rows.specs.inner.Entrants.{IsEntrant};
-ghost use Rattle.key_rows.specs.inner.Candidates.{IsKeyCandidate, IsLowered, IsWideRowTest, DecidesTie, wide_test_of};
+ghost use Rattle.key_rows.{specs.Bases.{IsShapedBasis, IsRoom}, specs.KeyTests.{IsKeyRow, IsWideSpread}, specs.Names.{left_uses, own_entry, IsNameWithin, IsShortPath}, specs.inner.Entrants.IsEntrant, specs.inner.Candidates.{IsKeyCandidate, IsLowered, IsWideRowTest, DecidesTie, wide_test_of}};
 
 use crate::entrant::Entrant;
 use crate::key_row::{WideKey, spread_key};

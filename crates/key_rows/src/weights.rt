@@ -1,10 +1,8 @@
-ghost use Rattle.std.specs.Prelude.{◌≡◌, ◌+◌, ◌*◌, ◌<◌, ◌≤◌, ◌^◌, ◌+ℤ◌, ◌-ℤ◌, ◌*ℤ◌, ◌<ℤ◌, ◌≤ℤ◌, ℕ, pos, length, unsigned_abs, cond, eqb, IfSome, IfNone};
-ghost use Rattle.std.specs.Int.{◌∣◌};
+ghost use Rattle.std.{specs.Prelude.{◌≡◌, ◌+◌, ◌*◌, ◌<◌, ◌≤◌, ◌^◌, ◌+ℤ◌, ◌-ℤ◌, ◌*ℤ◌, ◌<ℤ◌, ◌≤ℤ◌, ℕ, pos, length, unsigned_abs, cond, eqb, IfSome, IfNone}, specs.Int.◌∣◌};
 ghost use Rattle.checked_fraction.specs.Terms.{num, IsNarrow, total, IsExact, HasRoom};
 ghost use Rattle.simplex_law.specs.Terms.{unit_vector};
 ghost use Rattle.simplex_core.specs.Terms.{IsCommonMultiple, IsDenominator, HaveNoDenominator};
-ghost use Rattle.key_rows.specs.KeyRows.{AreWeights, IsOwn, amounts, left_over_rows, own_den};
-ghost use Rattle.key_rows.specs.inner.Written.{AreWritten};
+ghost use Rattle.key_rows.{specs.KeyRows.{AreWeights, IsOwn, amounts, left_over_rows, own_den}, specs.inner.Written.AreWritten};
 
 use checked_fraction::{Row, Sum, size_of_den};
 use net_core::List;

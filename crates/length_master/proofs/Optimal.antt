@@ -1,26 +1,14 @@
 -- what passes the test is an optimum of the master program
 use Rattle.std.proofs.Common.{◌≡◌, ℕ, ◌<◌, inl, inr, List, [], All, Contains, get_or, length, slice_index, refl, sym, ap, ◌∙◌, subst, ⊎_elim, arith, ℤ, pos, ◌*ℤ◌, ◌<ℤ◌, ◌≤ℤ◌}
 use Rattle.net_core.proofs.Library.{cases_eq, ints, All-contains, All-get_or, Contains-get_or, get_or_default}
-use Rattle.checked_fraction.specs.Terms.{IsInLowestTerms, num}
-use Rattle.checked_fraction.specs.declared.row.Row.{Row}
-use Rattle.checked_fraction.proofs.Products.{positive_product}
+use Rattle.checked_fraction.{specs.Terms.{IsInLowestTerms, num}, specs.declared.row.Row.Row, proofs.Products.positive_product}
 use Rattle.module_prices.specs.declared.cheapest.UnitPair.{UnitPair}
-use Rattle.plan_terms.specs.Terms.{MasterColumn, Link, CutLine, IsModule}
-use Rattle.plan_terms.proofs.Lemmas.{lowest_positive}
+use Rattle.plan_terms.{specs.Terms.{MasterColumn, Link, CutLine, IsModule}, proofs.Lemmas.lowest_positive}
 use Rattle.metric_cut.specs.Bounded.{HaveBound}
-use Rattle.simplex_law.specs.Terms.{ColumnOf, Gains, IsBest, IsFeasible, IsSlack, dot, int_sum, unit_vector}
-use Rattle.simplex_law.proofs.Duality.{equal_value}
-use Rattle.simplex_law.proofs.Lemmas.{dot-same, dot-unit}
-use Rattle.master_law.specs.Terms.{AreUnitPairs, IsCutColumn, IsMasterColumn, cut_entry, cut_gain, master_bound, master_slack, unit_capacities}
-use Rattle.master_law.proofs.Columns.{pair_below}
-use Rattle.master_bound.specs.Answers.{cut_at}
-use Rattle.master_bound.specs.Optima.{IsMasterOptimum}
-use Rattle.length_master.specs.declared.slot.Slot.{Slot}
-use Rattle.length_master.specs.declared.slot.Slot.TheVariants.{Slack, Cut}
-use Rattle.length_master.specs.declared.row.KeptRow.{KeptRow}
-use Rattle.length_master.specs.inner.Slots.{IsPlacedRow, IsSlotInside, row_at, slot_column, slot_entry, slot_gain, slot_lengths}
-use Rattle.length_master.specs.inner.Tests.{AreBasicValues, AreBestPrices, AreNamesBelow}
-use Rattle.length_master.proofs.Scaling.{HasMultiple, multiple_of, taken, taken_lengths, taken_slack, unit_scaled, worth_nonneg}
+use Rattle.simplex_law.{specs.Terms.{ColumnOf, Gains, IsBest, IsFeasible, IsSlack, dot, int_sum, unit_vector}, proofs.Duality.equal_value, proofs.Lemmas.{dot-same, dot-unit}}
+use Rattle.master_law.{specs.Terms.{AreUnitPairs, IsCutColumn, IsMasterColumn, cut_entry, cut_gain, master_bound, master_slack, unit_capacities}, proofs.Columns.pair_below}
+use Rattle.master_bound.{specs.Answers.cut_at, specs.Optima.IsMasterOptimum}
+use Rattle.length_master.{specs.declared.slot.Slot.Slot, specs.declared.slot.Slot.TheVariants.{Slack, Cut}, specs.declared.row.KeptRow.KeptRow, specs.inner.Slots.{IsPlacedRow, IsSlotInside, row_at, slot_column, slot_entry, slot_gain, slot_lengths}, specs.inner.Tests.{AreBasicValues, AreBestPrices, AreNamesBelow}, proofs.Scaling.{HasMultiple, multiple_of, taken, taken_lengths, taken_slack, unit_scaled, worth_nonneg}}
 
 abbrev no_line : CutLine
 no_line = record { state = record { 0 = 0 }; lengths = []; right = 0 }

@@ -2,9 +2,7 @@
 use Rattle.std.proofs.Common.{◌≡◌, ◌≢◌, ℕ, zero, suc, ◌*◌, ◌<◌, cond, eqb, mul-pos, refl, sym, ap, ◌∙◌, subst, ⊎_elim, arith, eq-eqb, ne_eqb, ℤ, pos, ◌*ℤ◌, ◌<ℤ◌, ◌≤ℤ◌}
 use Rattle.net_core.proofs.Library.{cases_eq, *ℤ-zero, *ℤ_comm, pos-*ℤ-pos}
 use Rattle.checked_fraction.proofs.Products.{regroup}
-use Rattle.simplex_law.specs.Terms.{dot, int_sum, unit_vector}
-use Rattle.simplex_law.proofs.Duality.{equal_value}
-use Rattle.simplex_law.proofs.Lemmas.{dot-unit, le_cancel, sum-same, sum-times, sum-unit, swap_last, times_nonneg, unit-other, weaken}
+use Rattle.simplex_law.{specs.Terms.{dot, int_sum, unit_vector}, proofs.Duality.equal_value, proofs.Lemmas.{dot-unit, le_cancel, sum-same, sum-times, sum-unit, swap_last, times_nonneg, unit-other, weaken}}
 
 -- a number that the first n capacities divide, apart from those that are 0, with its parts
 pub record HasMultiple (n : ℕ) (c : ℕ → ℕ) : Type 0 where

@@ -3,11 +3,8 @@ use Rattle.std.proofs.Common.{◌≡◌, ℕ, List, refl, sym, ◌∙◌, subst,
 use Rattle.net_core.proofs.Library.{*ℤ-zero}
 use Rattle.module_prices.specs.declared.cheapest.UnitPair.{UnitPair}
 use Rattle.plan_terms.specs.Terms.{Link, CutLine}
-use Rattle.simplex_law.specs.Terms.{dot}
-use Rattle.simplex_law.proofs.Lemmas.{dot-unit}
-use Rattle.length_master.specs.declared.slot.Slot.{Slot}
-use Rattle.length_master.specs.declared.slot.Slot.TheVariants.{Slack}
-use Rattle.length_master.specs.inner.Slots.{IsSlotInside, slot_entry, slot_gain, slot_lengths}
+use Rattle.simplex_law.{specs.Terms.dot, proofs.Lemmas.dot-unit}
+use Rattle.length_master.{specs.declared.slot.Slot.Slot, specs.declared.slot.Slot.TheVariants.Slack, specs.inner.Slots.{IsSlotInside, slot_entry, slot_gain, slot_lengths}}
 
 -- what a row over lengths has for a slack is its number
 pub slack_length : (u : ℕ → ℤ) (n c e : ℕ) (cuts : List CutLine) (slot : Slot) → slot ≡ Slack e → IsSlotInside n c slot → dot n u (slot_lengths cuts slot) ≡ u e

@@ -1,30 +1,16 @@
 -- prices of the links' capacity that pass the test are those of a least share
-use Rattle.std.proofs.Common.{◌≡◌, ℕ, zero, suc, ◌+◌, ◌*◌, ◌<◌, List, All, length, map, replicate, slice_index, refl, sym, ap, ◌∙◌, subst, arith, unsigned_abs, ℤ, pos, ◌*ℤ◌, ◌<ℤ◌, ◌≤ℤ◌}
-use Rattle.std.proofs.lemmas.Grind.{same_number_lists}
+use Rattle.std.{proofs.Common.{◌≡◌, ℕ, zero, suc, ◌+◌, ◌*◌, ◌<◌, List, All, length, map, replicate, slice_index, refl, sym, ap, ◌∙◌, subst, arith, unsigned_abs, ℤ, pos, ◌*ℤ◌, ◌<ℤ◌, ◌≤ℤ◌}, proofs.lemmas.Grind.same_number_lists}
 use Rattle.net_core.proofs.Library.{All-get_or, get_or-map, get_or-replicate, ints, length-map, length-replicate, unsigned_abs-mul, *ℤ-zero, ◌∣◌, get_or-map-range_with_len, length-map-range_with_len, range_with_len}
-use Rattle.checked_fraction.specs.Terms.{IsInLowestTerms, num}
-use Rattle.checked_fraction.specs.declared.row.Row.{Row}
-use Rattle.checked_fraction.proofs.Products.{cancelled, positive_product, regroup}
+use Rattle.checked_fraction.{specs.Terms.{IsInLowestTerms, num}, specs.declared.row.Row.Row, proofs.Products.{cancelled, positive_product, regroup}}
 use Rattle.module_prices.specs.declared.cheapest.UnitPair.{UnitPair}
 use Rattle.plan_terms.specs.Terms.{Caps, CutLine, Link, IsModule}
 use Rattle.plan_types.specs.declared.quality.Share.{Share}
 use Rattle.metric_cut.specs.Bounded.{HaveBound}
-use Rattle.simplex_law.specs.Terms.{dot}
-use Rattle.simplex_law.proofs.Lemmas.{dot-same, dot-times, le_cancel, le_times, moved_out, some_lowest, times_nonneg, weaken}
-use Rattle.simplex_law.proofs.Rows.{IsMultiple}
-use Rattle.master_law.specs.Terms.{AreUnitPairs, IsLeastShare, cut_entry, cut_gain, share_capacities, share_caps, unit_capacities}
-use Rattle.master_law.proofs.Capacities.{share_at, share_count}
+use Rattle.simplex_law.{specs.Terms.dot, proofs.Lemmas.{dot-same, dot-times, le_cancel, le_times, moved_out, some_lowest, times_nonneg, weaken}, proofs.Rows.IsMultiple}
+use Rattle.master_law.{specs.Terms.{AreUnitPairs, IsLeastShare, cut_entry, cut_gain, share_capacities, share_caps, unit_capacities}, proofs.Capacities.{share_at, share_count}}
 use Rattle.master_bound.specs.Answers.{cut_at}
-use Rattle.length_master.specs.declared.slot.Slot.{Slot}
-use Rattle.length_master.specs.declared.slot.Slot.TheVariants.{Slack, Cut}
-use Rattle.length_master.specs.declared.row.KeptRow.{KeptRow}
 use Rattle.route_law.specs.Terms.{caps_times}
-use Rattle.length_master.specs.WideShares.{AreLeastCaps}
-use Rattle.length_master.specs.inner.Capacities.{capacities_over, given_at, given_by}
-use Rattle.length_master.specs.inner.Slots.{IsSlotInside, slot_entry, slot_gain, slot_lengths}
-use Rattle.length_master.specs.inner.Tests.{AreBasicValues, AreBestPrices}
-use Rattle.length_master.proofs.Optimal.{basis, best, factor, many, placed, slot, taken_slot}
-use Rattle.length_master.proofs.Scaling.{taken}
+use Rattle.length_master.{specs.declared.slot.Slot.Slot, specs.declared.slot.Slot.TheVariants.{Slack, Cut}, specs.declared.row.KeptRow.KeptRow, specs.WideShares.AreLeastCaps, specs.inner.Capacities.{capacities_over, given_at, given_by}, specs.inner.Slots.{IsSlotInside, slot_entry, slot_gain, slot_lengths}, specs.inner.Tests.{AreBasicValues, AreBestPrices}, proofs.Optimal.{basis, best, factor, many, placed, slot, taken_slot}, proofs.Scaling.taken}
 
 abbrev caps_at : ℕ → List ℕ → Caps
 caps_at scale nums = record { scale = scale; nums = nums }

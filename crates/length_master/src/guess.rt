@@ -4,8 +4,7 @@ ghost use Rattle.simplex_law.specs.Terms.{AreNames};
 ghost use Rattle.master_law.specs.Terms.{AreUnitPairs, cut_gain};
 ghost use Rattle.metric_cut.specs.Bounded.{HaveBound};
 ghost use Rattle.master_bound.specs.Optima.{IsMasterOptimum};
-ghost use Rattle.length_master.specs.inner.Slots.{ArePlacedRows, IsSlotInside, slot_name};
-ghost use Rattle.length_master.specs.inner.Tests.{AreBasicValues, AreBestPrices, AreNamesBelow};
+ghost use Rattle.length_master.{specs.inner.Slots.{ArePlacedRows, IsSlotInside, slot_name}, specs.inner.Tests.{AreBasicValues, AreBestPrices, AreNamesBelow}};
 
 use crate::amounts::Numbers;
 use crate::priced_lengths::{are_even, none_gains};

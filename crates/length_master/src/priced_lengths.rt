@@ -2,9 +2,8 @@ ghost use Rattle.std.specs.Prelude.{◌≡◌, ◌*◌, ◌≤◌, ◌<◌, ◌^
 ghost use Rattle.checked_fraction.specs.Terms.{num};
 ghost use Rattle.simplex_law.specs.Terms.{dot};
 ghost use Rattle.master_law.specs.Terms.{cut_entry, cut_gain};
-ghost use Rattle.length_master.specs.inner.Slots.{ArePlacedRows, IsSlotInside, slot_entry, slot_gain};
 ghost use Rattle.master_bound.specs.Narrow.{length_entry};
-ghost use Rattle.length_master.specs.inner.Tests.{AreEven, IsBalance, IsPriced, NoneGains, cut_cost};
+ghost use Rattle.length_master.{specs.inner.Slots.{ArePlacedRows, IsSlotInside, slot_entry, slot_gain}, specs.inner.Tests.{AreEven, IsBalance, IsPriced, NoneGains, cut_cost}};
 
 use crate::row::KeptRow;
 use crate::slot::Slot;

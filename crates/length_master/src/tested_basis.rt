@@ -4,8 +4,7 @@ ghost use Rattle.plan_terms.specs.Terms.{CutLine};
 ghost use Rattle.simplex_law.specs.Terms.{dot, unit_vector};
 ghost use Rattle.master_law.specs.Terms.{cut_entry, cut_gain, unit_capacities};
 ghost use Rattle.master_bound.specs.Answers.{cut_at};
-ghost use Rattle.length_master.specs.inner.Slots.{ArePlacedRows, IsPlacedRow, IsSlotInside, row_at as row_of, slot_entry, slot_gain, slot_lengths};
-ghost use Rattle.length_master.specs.inner.Tests.{AreFilled, AreInverse, IsInverseAt, filled_below};
+ghost use Rattle.length_master.{specs.inner.Slots.{ArePlacedRows, IsPlacedRow, IsSlotInside, row_at as row_of, slot_entry, slot_gain, slot_lengths}, specs.inner.Tests.{AreFilled, AreInverse, IsInverseAt, filled_below}};
 
 use crate::row::KeptRow;
 use crate::slot::Slot;

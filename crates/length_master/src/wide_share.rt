@@ -2,8 +2,7 @@ ghost use Rattle.std.specs.Prelude.{◌≡◌, ◌≤◌, ◌<◌, ◌^◌, All,
 ghost use Rattle.checked_fraction.specs.Terms.{num};
 ghost use Rattle.metric_cut.specs.Bounded.{HaveBound};
 ghost use Rattle.master_law.specs.Terms.{AreUnitPairs};
-ghost use Rattle.length_master.specs.WideShares.{AreLeastCaps};
-ghost use Rattle.length_master.specs.inner.Capacities.{capacities_over, given_by};
+ghost use Rattle.length_master.{specs.WideShares.AreLeastCaps, specs.inner.Capacities.{capacities_over, given_by}};
 
 use crate::amounts::Numbers;
 use crate::guess::{are_prices, are_values, lowered};

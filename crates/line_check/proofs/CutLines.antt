@@ -2,10 +2,8 @@
 use Rattle.std.proofs.Common.{◌≡◌, ℕ, ◌+◌, ◌*◌, List, [], ◌∷◌, length, map, zip, sum_by, slice_index, refl, ap, arith}
 use Rattle.net_core.proofs.Library.{sum_by-cons, below-first}
 use Rattle.module_choice.proofs.Pairs.{capacities_long}
-use Rattle.plan_terms.specs.Terms.{AreCounts, Case, CutLine, IsAble, IsCut, Link, Module, capacities, fixed_along, graph_in, modules_capacity, sum_below}
-use Rattle.plan_terms.proofs.Lemmas.{metric_inequality_listed}
-use Rattle.line_check.specs.Inequalities.{MeetsLine, coefficients_of, entry, line_of_cut, over_modules}
-use Rattle.line_check.proofs.OverModules.{over-first}
+use Rattle.plan_terms.{specs.Terms.{AreCounts, Case, CutLine, IsAble, IsCut, Link, Module, capacities, fixed_along, graph_in, modules_capacity, sum_below}, proofs.Lemmas.metric_inequality_listed}
+use Rattle.line_check.{specs.Inequalities.{MeetsLine, coefficients_of, entry, line_of_cut, over_modules}, proofs.OverModules.over-first}
 
 -- a link's modules along a length
 link_along : (far : ℕ) (modules : List Module) (counts : List ℕ) → length counts ≡ length modules

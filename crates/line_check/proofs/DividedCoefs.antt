@@ -2,8 +2,7 @@
 use Rattle.std.proofs.Common.{◌≡◌, ℕ, ◌+◌, ◌<◌, ◌≤◌, ◌^◌, ⊎_elim, List, [], ◌∷◌, ◌++◌, get_or, length, map, ap, subst, sym, ◌∙◌, arith}
 use Rattle.net_core.proofs.Library.{cases_lt, get_or-map, map-range_with_len_more, range_with_len}
 use Rattle.plan_terms.specs.Terms.{Link}
-use Rattle.line_check.specs.Inequalities.{WeightedLine, module_number, module_price}
-use Rattle.line_check.specs.inner.Dividing.{AreDividedCoefs, AreLinkCoefs, divided_coef}
+use Rattle.line_check.{specs.Inequalities.{WeightedLine, module_number, module_price}, specs.inner.Dividing.{AreDividedCoefs, AreLinkCoefs, divided_coef}}
 
 -- how many modules the link of a place has
 pub number_at : (links : List Link) (e : ℕ) (l : Link) → e < length links → module_number links e ≡ length (get_or links e l).modules

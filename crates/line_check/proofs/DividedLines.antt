@@ -1,15 +1,9 @@
 -- counts that meet lines meet the sum of them, capped, divided and rounded up
-use Rattle.std.proofs.Common.{◌≡◌, ℕ, ◌+◌, ◌-◌, ◌*◌, ◌/◌, ◌%◌, ◌<◌, ◌≤◌, ⊎_elim, List, [], ◌∷◌, length, min, ap, subst, sym, ◌∙◌, arith}
-use Rattle.std.proofs.Math.Nat.{div-add-mod, mul-le-mul_left}
-use Rattle.std.proofs.lemmas.Grind.{div_ceil_times}
+use Rattle.std.{proofs.Common.{◌≡◌, ℕ, ◌+◌, ◌-◌, ◌*◌, ◌/◌, ◌%◌, ◌<◌, ◌≤◌, ⊎_elim, List, [], ◌∷◌, length, min, ap, subst, sym, ◌∙◌, arith}, proofs.Math.Nat.{div-add-mod, mul-le-mul_left}, proofs.lemmas.Grind.div_ceil_times}
 use Rattle.net_core.proofs.Library.{cases_lt, mod_below, sum_by-cons, AllByRecursion}
 use Rattle.master_bound.specs.declared.answer.Multiplier.{Multiplier}
 use Rattle.plan_terms.specs.Terms.{Link}
-use Rattle.line_check.specs.Inequalities.{AreNamedBy, MeetsLine, WeightedLine, entry, module_number, module_price, need_of, over_modules, summed_need, table_of}
-use Rattle.line_check.specs.Lines.{IsDividedLine, divided_line, divided_up}
-use Rattle.line_check.specs.declared.inequality.Inequality.{Inequality}
-use Rattle.line_check.proofs.KindWeights.{capped_term, over_min, table_entry}
-use Rattle.line_check.proofs.OverModules.{over-le, over-plus, over-same, over-times}
+use Rattle.line_check.{specs.Inequalities.{AreNamedBy, MeetsLine, WeightedLine, entry, module_number, module_price, need_of, over_modules, summed_need, table_of}, specs.Lines.{IsDividedLine, divided_line, divided_up}, specs.declared.inequality.Inequality.Inequality, proofs.KindWeights.{capped_term, over_min, table_entry}, proofs.OverModules.{over-le, over-plus, over-same, over-times}}
 
 -- ---- sums
 

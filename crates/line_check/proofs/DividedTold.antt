@@ -3,12 +3,7 @@ use Rattle.std.proofs.Common.{◌≡◌, ℕ, ◌<◌, ◌^◌, Bool, List, [], 
 use Rattle.net_core.proofs.Library.{All-from_recursion, recursion_from_All, AllByRecursion}
 use Rattle.master_bound.specs.declared.answer.Multiplier.{Multiplier}
 use Rattle.plan_terms.specs.Terms.{Link}
-use Rattle.line_check.specs.Inequalities.{AreNamedBy, WeightedLine, module_number, module_price, summed_need}
-use Rattle.line_check.specs.Lines.{IsDividedLine, divided_line, divided_up}
-use Rattle.line_check.specs.Testing.{names_by, says, test_at, weighed}
-use Rattle.line_check.specs.declared.inequality.Inequality.{Inequality}
-use Rattle.line_check.specs.declared.tested_lines.Tested.{Tested}
-use Rattle.line_check.specs.inner.Dividing.{AreDividedCoefs, KeepsLimits}
+use Rattle.line_check.{specs.Inequalities.{AreNamedBy, WeightedLine, module_number, module_price, summed_need}, specs.Lines.{IsDividedLine, divided_line, divided_up}, specs.Testing.{names_by, says, test_at, weighed}, specs.declared.inequality.Inequality.Inequality, specs.declared.tested_lines.Tested.Tested, specs.inner.Dividing.{AreDividedCoefs, KeepsLimits}}
 
 pub same_weighted : (t : WeightedLine) (line : Inequality) (num : ℕ) → t.line ≡ line → t.num ≡ num → t ≡ record { line = line; num = num }
 same_weighted t line num its own = ap (λ (l : Inequality). record { line = l; num = t.num }) its ∙ ap (λ (n : ℕ). record { line = line; num = n }) own

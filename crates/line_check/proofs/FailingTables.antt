@@ -3,14 +3,7 @@ use Rattle.std.proofs.Common.{◌≡◌, ℕ, zero, suc, ◌+◌, ◌*◌, ◌<�
 use Rattle.net_core.proofs.Library.{cases_Bool, cases_lt, get_or-map, length-map, slice_get_past, sum_by-cons, option_map_or}
 use Rattle.cover_table.specs.CoverWeights.{CoversNeed, IsLeastWeight, total_of_kinds}
 use Rattle.plan_terms.specs.Terms.{AreCounts, Case, Listed, fails, names_link}
-use Rattle.line_check.specs.Inequalities.{MeetsLine, entry, module_number, need_of, over_modules}
-use Rattle.line_check.specs.Laws.{surviving_counts}
-use Rattle.line_check.specs.Lines.{AreKinds, IsSpared, IsTableOver, NeverFails, capped, weight_of}
-use Rattle.line_check.specs.declared.inequality.Inequality.{Inequality}
-use Rattle.line_check.specs.declared.line.TableKind.TheVariants.{Failing}
-use Rattle.line_check.proofs.OverModules.{over-le}
-use Rattle.line_check.proofs.KindWeights.{over_gap, over_some, table_entry, used, used_weighs, weight_at}
-use Rattle.line_check.proofs.PlainTables.{table_weighs, used_covers}
+use Rattle.line_check.{specs.Inequalities.{MeetsLine, entry, module_number, need_of, over_modules}, specs.Laws.surviving_counts, specs.Lines.{AreKinds, IsSpared, IsTableOver, NeverFails, capped, weight_of}, specs.declared.inequality.Inequality.Inequality, specs.declared.line.TableKind.TheVariants.Failing, proofs.OverModules.over-le, proofs.KindWeights.{over_gap, over_some, table_entry, used, used_weighs, weight_at}, proofs.PlainTables.{table_weighs, used_covers}}
 
 -- ---- what is left in a state
 

@@ -3,10 +3,7 @@ use Rattle.std.proofs.Common.{◌≡◌, ℕ, zero, suc, ◌+◌, ◌*◌, ◌<�
 use Rattle.net_core.proofs.Library.{cases_Bool, cases_lt, get_or-map-range_with_len, range_with_len, sum_by-cons, below-le}
 use Rattle.cover_table.specs.CoverWeights.{total_of_kinds}
 use Rattle.plan_terms.specs.Terms.{Link, sum_below}
-use Rattle.line_check.specs.Inequalities.{MeetsLine, entry, module_number, need_of, over_modules, table_of}
-use Rattle.line_check.specs.Lines.{capped, weight_of}
-use Rattle.line_check.specs.declared.inequality.Inequality.{Inequality}
-use Rattle.line_check.proofs.OverModules.{over-plus, over-same, over-times}
+use Rattle.line_check.{specs.Inequalities.{MeetsLine, entry, module_number, need_of, over_modules, table_of}, specs.Lines.{capped, weight_of}, specs.declared.inequality.Inequality.Inequality, proofs.OverModules.{over-plus, over-same, over-times}}
 
 -- ---- tables of modules
 

@@ -1,12 +1,8 @@
 -- kinds found one by one
-use Rattle.std.proofs.Common.{◌≡◌, ℕ, ◌+◌, ◌<◌, ◌≤◌, ◌⊎◌, inl, inr, ⊎_elim, List, [], ◌∷◌, ◌++◌, Contains, get_or, length, length-append, slice_index, subst, sym, ◌∙◌, arith}
+use Rattle.std.{proofs.Common.{◌≡◌, ℕ, ◌+◌, ◌<◌, ◌≤◌, ◌⊎◌, inl, inr, ⊎_elim, List, [], ◌∷◌, ◌++◌, Contains, get_or, length, length-append, slice_index, subst, sym, ◌∙◌, arith}, proofs.lemmas.List.Elements.Contains-push_cases}
 use Rattle.net_core.proofs.Library.{Contains-append_left, Contains-get_or, Contains-push, cases_lt, get_or-map, get_or_append_left, get_or_push, none_within}
-use Rattle.std.proofs.lemmas.List.Elements.{Contains-push_cases}
 use Rattle.plan_terms.specs.Terms.{Link}
-use Rattle.line_check.specs.Inequalities.{module_number, need_of}
-use Rattle.line_check.specs.Lines.{AreKinds, GivesSome, capped}
-use Rattle.line_check.specs.inner.Tables.{AreKindsTo, GivesAmong, GivesOn}
-use Rattle.line_check.specs.declared.inequality.Inequality.{Inequality}
+use Rattle.line_check.{specs.Inequalities.{module_number, need_of}, specs.Lines.{AreKinds, GivesSome, capped}, specs.inner.Tables.{AreKindsTo, GivesAmong, GivesOn}, specs.declared.inequality.Inequality.Inequality}
 
 pub no_kinds : (links : List Link) (over : Inequality) → AreKindsTo links over 0 []
 no_kinds links over = record {

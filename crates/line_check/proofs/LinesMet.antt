@@ -2,18 +2,7 @@
 use Rattle.std.proofs.Common.{ℕ, zero, suc, ◌≤◌, inl, inr, true, false, List, length, refl, subst, sym}
 use Rattle.net_core.proofs.Library.{false≢true}
 use Rattle.plan_terms.specs.Terms.{Case, IsAble}
-use Rattle.line_check.specs.Inequalities.{MeetsLine}
-use Rattle.line_check.specs.Laws.{LinesAreMet, RobustLinesAreMet, surviving_counts}
-use Rattle.line_check.specs.Lines.{IsMadeFrom, Naming, Source, names_among}
-use Rattle.line_check.specs.declared.inequality.Inequality.{Inequality}
-use Rattle.line_check.specs.declared.line.Line.TheVariants.{Divided, Table}
-use Rattle.line_check.specs.declared.line.TableKind.TheVariants.{Plain, Failing}
-use Rattle.line_check.proofs.CutLines.{cut_line_met}
-use Rattle.line_check.proofs.DividedLines.{divided_line_met}
-use Rattle.line_check.proofs.FailingTables.{failing_table_is_met}
-use Rattle.line_check.proofs.PlainTables.{plain_table_is_met}
-use Rattle.line_check.proofs.RobustCuts.{robust_cut_met}
-use Rattle.line_check.proofs.SurvivingCounts.{surviving_shape}
+use Rattle.line_check.{specs.Inequalities.MeetsLine, specs.Laws.{LinesAreMet, RobustLinesAreMet, surviving_counts}, specs.Lines.{IsMadeFrom, Naming, Source, names_among}, specs.declared.inequality.Inequality.Inequality, specs.declared.line.Line.TheVariants.{Divided, Table}, specs.declared.line.TableKind.TheVariants.{Plain, Failing}, proofs.CutLines.cut_line_met, proofs.DividedLines.divided_line_met, proofs.FailingTables.failing_table_is_met, proofs.PlainTables.plain_table_is_met, proofs.RobustCuts.robust_cut_met, proofs.SurvivingCounts.surviving_shape}
 
 module _ (p : Case) (counts : List (List ℕ)) (able : IsAble p counts) where
   -- what a state leaves meets each line of a naming

@@ -2,11 +2,7 @@
 use Rattle.std.proofs.Common.{◌≡◌, ◌≢◌, ◌++◌, ℕ, zero, suc, ◌<◌, inl, inr, ⊎_elim, Bool, true, false, IsTrue, List, Some, length, length-append, slice_get, refl, sym, subst, arith}
 use Rattle.net_core.proofs.Library.{cases_eq, get_or_append_left, slice_get_within}
 use Rattle.plan_terms.specs.Terms.{Case, CutLine, IsCut}
-use Rattle.line_check.specs.Inequalities.{line_of_cut}
-use Rattle.line_check.specs.Lines.{IsMadeAt, IsMadeFrom, Source, names_among}
-use Rattle.line_check.specs.Testing.{AreTested, names_by, no_test, says, test_at}
-use Rattle.line_check.specs.declared.inequality.Inequality.{Inequality}
-use Rattle.line_check.specs.declared.tested_lines.Tested.{Tested}
+use Rattle.line_check.{specs.Inequalities.line_of_cut, specs.Lines.{IsMadeAt, IsMadeFrom, Source, names_among}, specs.Testing.{AreTested, names_by, no_test, says, test_at}, specs.declared.inequality.Inequality.Inequality, specs.declared.tested_lines.Tested.Tested}
 
 -- the index of a source names the line that it makes
 pub source_names : (p : Case) (sources : List Source) (n i : ℕ) (robust : Bool) (source : Source) (made : Inequality) → i < n

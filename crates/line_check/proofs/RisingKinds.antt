@@ -2,9 +2,7 @@
 use Rattle.std.proofs.Common.{◌≡◌, ℕ, zero, suc, ◌<◌, ◌≤◌, ◌⊎◌, inl, inr, ⊎_elim, List, [], ◌∷◌, Contains, length, slice_index_or, refl, ap, subst, sym, ◌∙◌, arith}
 use Rattle.net_core.proofs.Library.{get_or_default, none_within}
 use Rattle.plan_terms.specs.Terms.{Link}
-use Rattle.line_check.specs.Lines.{AreKinds}
-use Rattle.line_check.specs.declared.inequality.Inequality.{Inequality}
-use Rattle.line_check.proofs.KindWeights.{AreRising, rising_head, rising_tail}
+use Rattle.line_check.{specs.Lines.AreKinds, specs.declared.inequality.Inequality.Inequality, proofs.KindWeights.{AreRising, rising_head, rising_tail}}
 
 -- ---- one rising list of these members
 

@@ -2,12 +2,8 @@
 use Rattle.std.proofs.Common.{◌≡◌, ℕ, ◌*◌, ◌≤◌, ⊎_elim, true, false, cond, eqb, eqb-true, List, [], ◌∷◌, length, slice_index, refl, ap, subst, sym, ◌∙◌, arith}
 use Rattle.net_core.proofs.Library.{All-from_recursion, cases_Bool, false≢true, recursion_from_All, sum_by-cons, AllByRecursion}
 use Rattle.module_choice.proofs.Pairs.{capacities_long}
-use Rattle.plan_terms.proofs.Lemmas.{all_weaker, metric_inequality_listed, path_alike}
-use Rattle.plan_terms.specs.Terms.{Carries, Case, CutLine, Flow, Graph, IsAble, IsCut, IsFlow, IsRight, Joins, Leads, LinkId, Routing, capacities, fails, graph_in, load, names_link}
-use Rattle.line_check.specs.Inequalities.{MeetsLine, line_of_cut}
-use Rattle.line_check.specs.Laws.{surviving_counts}
-use Rattle.line_check.proofs.CutLines.{capacities_along}
-use Rattle.line_check.proofs.SurvivingCounts.{capacity_left, surviving_shape}
+use Rattle.plan_terms.{proofs.Lemmas.{all_weaker, metric_inequality_listed, path_alike}, specs.Terms.{Carries, Case, CutLine, Flow, Graph, IsAble, IsCut, IsFlow, IsRight, Joins, Leads, LinkId, Routing, capacities, fails, graph_in, load, names_link}}
+use Rattle.line_check.{specs.Inequalities.{MeetsLine, line_of_cut}, specs.Laws.surviving_counts, proofs.CutLines.capacities_along, proofs.SurvivingCounts.{capacity_left, surviving_shape}}
 
 -- the links of a path survive
 links_unfailed : (g : Graph) (a : ℕ) (es : List LinkId) (cs : List ℕ) (e : ℕ) → Leads (Joins g) a es cs → names_link e es ≡ true → fails g.listed g.state e ≡ false

@@ -3,16 +3,7 @@ use Rattle.std.proofs.Common.{◌≡◌, ℕ, ◌↔◌, inr, Bool, true, false,
 use Rattle.net_core.proofs.Library.{and_parts, false≢true}
 use Rattle.master_bound.specs.declared.answer.Multiplier.{Multiplier}
 use Rattle.plan_terms.specs.Terms.{Case}
-use Rattle.line_check.specs.Lines.{IsDividedLine, IsMadeFrom, IsTableOver, Source}
-use Rattle.line_check.specs.Testing.{IsSoundAt, IsTestedAs, names_by, no_test, test_at, weighed}
-use Rattle.line_check.specs.declared.inequality.Inequality.{Inequality}
-use Rattle.line_check.specs.declared.line.Line.TheVariants.{Divided, Table}
-use Rattle.line_check.specs.declared.line.TableKind.TheVariants.{Plain, Failing}
-use Rattle.line_check.specs.declared.tested_lines.Tested.{Tested}
-use Rattle.line_check.specs.inner.Dividing.{IsRobustAt}
-use Rattle.line_check.proofs.DividedTold.{divided_is, divided_need, divided_prices, named_all, terms_told}
-use Rattle.line_check.proofs.TestedMore.{made_of_robust}
-use Rattle.line_check.proofs.SameTables.{table_same}
+use Rattle.line_check.{specs.Lines.{IsDividedLine, IsMadeFrom, IsTableOver, Source}, specs.Testing.{IsSoundAt, IsTestedAs, names_by, no_test, test_at, weighed}, specs.declared.inequality.Inequality.Inequality, specs.declared.line.Line.TheVariants.{Divided, Table}, specs.declared.line.TableKind.TheVariants.{Plain, Failing}, specs.declared.tested_lines.Tested.Tested, specs.inner.Dividing.IsRobustAt, proofs.DividedTold.{divided_is, divided_need, divided_prices, named_all, terms_told}, proofs.TestedMore.made_of_robust, proofs.SameTables.table_same}
 
 -- the test of a line that holds
 abbrev held : Bool → Inequality → Tested

@@ -3,8 +3,7 @@ use Rattle.std.proofs.Common.{◌≡◌, ℕ, zero, suc, ◌+◌, ◌<◌, ◌�
 use Rattle.net_core.proofs.Library.{cases_lt, get_or-map-range_with_len, get_or_past, length-map-range_with_len, range_with_len}
 use Rattle.module_choice.proofs.Pairs.{counts_long}
 use Rattle.plan_terms.specs.Terms.{AreCounts, Case, Link, capacities, fails}
-use Rattle.line_check.specs.Inequalities.{entry, module_number, table_of}
-use Rattle.line_check.specs.Laws.{surviving_counts}
+use Rattle.line_check.{specs.Inequalities.{entry, module_number, table_of}, specs.Laws.surviving_counts}
 
 -- ---- tables of modules
 

@@ -3,13 +3,7 @@ use Rattle.std.proofs.Common.{◌≡◌, ℕ, zero, suc, ◌+◌, ◌<◌, ◌�
 use Rattle.net_core.proofs.Library.{both_ways, cases_lt}
 use Rattle.cover_table.specs.CoverWeights.{CoversNeed}
 use Rattle.plan_terms.specs.Terms.{Case, Link}
-use Rattle.line_check.specs.Inequalities.{module_number, need_of}
-use Rattle.line_check.specs.Lines.{AreKinds, IsTableOver, IsTableRight, IsWeightWithout, NeverFails, capped, weight_of}
-use Rattle.line_check.specs.declared.inequality.Inequality.{Inequality}
-use Rattle.line_check.specs.declared.line.TableKind.{TableKind}
-use Rattle.line_check.specs.declared.line.TableKind.TheVariants.{Plain, Failing}
-use Rattle.line_check.specs.inner.Tables.{GivesOn}
-use Rattle.line_check.proofs.RisingKinds.{kinds_same}
+use Rattle.line_check.{specs.Inequalities.{module_number, need_of}, specs.Lines.{AreKinds, IsTableOver, IsTableRight, IsWeightWithout, NeverFails, capped, weight_of}, specs.declared.inequality.Inequality.Inequality, specs.declared.line.TableKind.TableKind, specs.declared.line.TableKind.TheVariants.{Plain, Failing}, specs.inner.Tables.GivesOn, proofs.RisingKinds.kinds_same}
 
 -- ---- the weight of a kind
 

@@ -3,14 +3,7 @@ use Rattle.std.proofs.Common.{◌≡◌, ℕ, zero, suc, ◌+◌, ◌<◌, ◌�
 use Rattle.net_core.proofs.Library.{cases_lt, false≢true, map-append, take_more}
 use Rattle.master_bound.specs.declared.answer.Multiplier.{Multiplier}
 use Rattle.plan_terms.specs.Terms.{Case, CutLine, Link}
-use Rattle.line_check.specs.Inequalities.{AreNamedBy, WeightedLine}
-use Rattle.line_check.specs.Lines.{IsDividedLine, IsMadeFrom, Naming, Source, names_among}
-use Rattle.line_check.specs.Testing.{AreTested, IsTestedAs, names_by, says, test_at}
-use Rattle.line_check.specs.declared.inequality.Inequality.{Inequality}
-use Rattle.line_check.specs.declared.line.Line.{Line}
-use Rattle.line_check.specs.declared.line.Line.TheVariants.{Divided, Table}
-use Rattle.line_check.specs.declared.line.TableKind.TheVariants.{Plain, Failing}
-use Rattle.line_check.specs.declared.tested_lines.Tested.{Tested}
+use Rattle.line_check.{specs.Inequalities.{AreNamedBy, WeightedLine}, specs.Lines.{IsDividedLine, IsMadeFrom, Naming, Source, names_among}, specs.Testing.{AreTested, IsTestedAs, names_by, says, test_at}, specs.declared.inequality.Inequality.Inequality, specs.declared.line.Line.Line, specs.declared.line.Line.TheVariants.{Divided, Table}, specs.declared.line.TableKind.TheVariants.{Plain, Failing}, specs.declared.tested_lines.Tested.Tested}
 
 -- ---- what is made of lines is made under each naming that names these lines
 

@@ -2,9 +2,7 @@
 use Rattle.std.proofs.Common.{◌≡◌, ℕ, ◌+◌, ◌*◌, ◌<◌, List, [], ◌∷◌, get_or, length, map, take, refl, sym, ◌∙◌, arith, sum_by}
 use Rattle.net_core.proofs.Library.{sum_by-cons, sum_by_more}
 use Rattle.master_bound.specs.declared.answer.Multiplier.{Multiplier}
-use Rattle.line_check.specs.Inequalities.{WeightedLine, entry, module_price, need_of, summed_need}
-use Rattle.line_check.specs.Testing.{test_at, weighed}
-use Rattle.line_check.specs.declared.tested_lines.Tested.{Tested}
+use Rattle.line_check.{specs.Inequalities.{WeightedLine, entry, module_price, need_of, summed_need}, specs.Testing.{test_at, weighed}, specs.declared.tested_lines.Tested.Tested}
 
 sum_mapped : {X Y : Type 0} (f : Y → ℕ) (g : X → Y) (xs : List X) → sum_by f (map g xs) ≡ sum_by (λ x. f (g x)) xs
 sum_mapped f g [] = refl

@@ -1,6 +1,5 @@
 -- inequalities over counts of modules: of cuts, and sums of them
-use Rattle.std.specs.Prelude.{◌≡◌, ℕ, ◌+◌, ◌-◌, ◌*◌, ◌≤◌, List, [], length, map, sum_by, zip, slice_index, slice_index_or}
-use Rattle.std.specs.List.{AllZip, range_with_len}
+use Rattle.std.{specs.Prelude.{◌≡◌, ℕ, ◌+◌, ◌-◌, ◌*◌, ◌≤◌, List, [], length, map, sum_by, zip, slice_index, slice_index_or}, specs.List.{AllZip, range_with_len}}
 use Rattle.plan_terms.specs.Terms.{CutLine, Link, fixed_along, sum_below}
 use Rattle.master_bound.specs.declared.answer.Multiplier.{Multiplier}
 use Rattle.line_check.specs.declared.inequality.Inequality.{Inequality}

@@ -1,9 +1,7 @@
 -- what lines are good for: able counts meet them
 use Rattle.std.specs.Prelude.{ℕ, ◌≤◌, List, if◌then◌else◌, length}
 use Rattle.plan_terms.specs.Terms.{Case, IsAble, fails}
-use Rattle.line_check.specs.Inequalities.{MeetsLine, entry, table_of}
-use Rattle.line_check.specs.Lines.{NamesLine, NamesRobust, Source}
-use Rattle.line_check.specs.declared.inequality.Inequality.{Inequality}
+use Rattle.line_check.{specs.Inequalities.{MeetsLine, entry, table_of}, specs.Lines.{NamesLine, NamesRobust, Source}, specs.declared.inequality.Inequality.Inequality}
 
 -- Able counts meet each line: that of a cut by weak duality, a sum by its terms, and a divided or a table line because counts are whole.
 abbrev pub LinesAreMet : Type 0

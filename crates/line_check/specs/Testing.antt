@@ -2,10 +2,7 @@
 use Rattle.std.specs.Prelude.{◌≡◌, ◌↔◌, ℕ, ◌<◌, ◌&&◌, Bool, true, false, List, [], IsTrue, length, map, slice_index_or}
 use Rattle.plan_terms.specs.Terms.{Case}
 use Rattle.master_bound.specs.declared.answer.Multiplier.{Multiplier}
-use Rattle.line_check.specs.Inequalities.{WeightedLine}
-use Rattle.line_check.specs.Lines.{IsMadeFrom, Source, names_among}
-use Rattle.line_check.specs.declared.inequality.Inequality.{Inequality}
-use Rattle.line_check.specs.declared.tested_lines.Tested.{Tested}
+use Rattle.line_check.{specs.Inequalities.WeightedLine, specs.Lines.{IsMadeFrom, Source, names_among}, specs.declared.inequality.Inequality.Inequality, specs.declared.tested_lines.Tested.Tested}
 
 -- a test that nothing passed
 abbrev pub no_test : Tested

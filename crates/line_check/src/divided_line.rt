@@ -1,8 +1,5 @@
 ghost use Rattle.std.specs.Prelude.{◌≡◌, ◌≤◌, ◌<◌, ◌^◌, ◌↔◌, ℕ, All, IfOk, IsTrue, MatchOption, false, length, min};
-ghost use Rattle.line_check.specs.Inequalities.{module_number, module_price, summed_need};
-ghost use Rattle.line_check.specs.Lines.{IsDividedLine, divided_up};
-ghost use Rattle.line_check.specs.Testing.{names_by, weighed};
-ghost use Rattle.line_check.specs.inner.Dividing.{AreDividedCoefs, AreLinkCoefs, HasWidePrice, KeepsLimits};
+ghost use Rattle.line_check.{specs.Inequalities.{module_number, module_price, summed_need}, specs.Lines.{IsDividedLine, divided_up}, specs.Testing.{names_by, weighed}, specs.inner.Dividing.{AreDividedCoefs, AreLinkCoefs, HasWidePrice, KeepsLimits}};
 
 use crate::inequality::Inequality;
 use crate::sums::{module_price, summed_need};

@@ -1,7 +1,5 @@
 ghost use Rattle.std.specs.Prelude.{◌≡◌, ◌+◌, ◌<◌, ◌≤◌, ◌⊎◌, ℕ, IfOk};
-ghost use Rattle.line_check.specs.Inequalities.{need_of};
-ghost use Rattle.line_check.specs.Lines.{AreKinds, GivesSome, capped};
-ghost use Rattle.line_check.specs.inner.Tables.{GivesOn};
+ghost use Rattle.line_check.{specs.Inequalities.need_of, specs.Lines.{AreKinds, GivesSome, capped}, specs.inner.Tables.GivesOn};
 
 use crate::inequality::{Inequality, coefficient};
 use net_core::{Link, List, NoMemory};

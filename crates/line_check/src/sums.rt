@@ -1,6 +1,5 @@
 ghost use Rattle.std.specs.Prelude.{◌≡◌, ◌-◌, ◌*◌, ◌<◌, ◌^◌, All, length, min};
-ghost use Rattle.line_check.specs.Inequalities.{module_price, summed_need};
-ghost use Rattle.line_check.specs.Testing.{test_at, weighed};
+ghost use Rattle.line_check.{specs.Inequalities.{module_price, summed_need}, specs.Testing.{test_at, weighed}};
 
 use crate::inequality::{Inequality, coefficient};
 use crate::tested_lines::Tested;

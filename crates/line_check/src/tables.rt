@@ -1,10 +1,6 @@
-ghost use Rattle.std.specs.Prelude.{◌≡◌, ◌↔◌, ℕ, ◌<◌, ◌≤◌, IfOk, IsTrue, MatchOption, false, length, map, zip};
-ghost use Rattle.std.specs.List.{range_with_len};
+ghost use Rattle.std.{specs.Prelude.{◌≡◌, ◌↔◌, ℕ, ◌<◌, ◌≤◌, IfOk, IsTrue, MatchOption, false, length, map, zip}, specs.List.range_with_len};
 ghost use Rattle.plan_terms.specs.Terms.{case_of, fails};
-ghost use Rattle.line_check.specs.Inequalities.{need_of, table_of};
-ghost use Rattle.line_check.specs.Lines.{AreKinds, IsFailedWeight, IsSpared, IsTableOver, IsTableRight, IsWeightWithout, capped, weight_of};
-ghost use Rattle.line_check.specs.inner.Tables.{AreLeast, GivesOn};
-ghost use Rattle.line_check.specs.declared.line.TableKind.TheVariants.{Failing};
+ghost use Rattle.line_check.{specs.Inequalities.{need_of, table_of}, specs.Lines.{AreKinds, IsFailedWeight, IsSpared, IsTableOver, IsTableRight, IsWeightWithout, capped, weight_of}, specs.inner.Tables.{AreLeast, GivesOn}, specs.declared.line.TableKind.TheVariants.Failing};
 
 use crate::inequality::Inequality;
 use crate::kinds::{capped, kinds_of};

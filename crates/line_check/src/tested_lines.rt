@@ -1,12 +1,6 @@
-ghost use Rattle.std.specs.Prelude.{◌≡◌, ◌↔◌, ◌++◌, true, List, [], All, IfOk, IsTrue, MatchOption, OnOk, map};
-ghost use Rattle.std.proofs.Common.{inl, inr};
+ghost use Rattle.std.{specs.Prelude.{◌≡◌, ◌↔◌, ◌++◌, true, List, [], All, IfOk, IsTrue, MatchOption, OnOk, map}, proofs.Common.{inl, inr}};
 ghost use Rattle.plan_terms.specs.Terms.{case_of};
-ghost use Rattle.line_check.specs.Lines.{Source, sources_of};
-ghost use Rattle.line_check.specs.declared.line.Line.TheVariants.{Divided, Table};
-ghost use Rattle.line_check.specs.declared.line.TableKind.TheVariants.{Plain, Failing};
-ghost use Rattle.line_check.specs.declared.tested_lines.Tested.{Tested};
-ghost use Rattle.line_check.specs.Testing.{AreTested, IsSoundAt, IsTestedAs, no_test};
-ghost use Rattle.line_check.specs.inner.Dividing.{IsRobustAt};
+ghost use Rattle.line_check.{specs.Lines.{Source, sources_of}, specs.declared.line.Line.TheVariants.{Divided, Table}, specs.declared.line.TableKind.TheVariants.{Plain, Failing}, specs.declared.tested_lines.Tested.Tested, specs.Testing.{AreTested, IsSoundAt, IsTestedAs, no_test}, specs.inner.Dividing.IsRobustAt};
 
 use crate::cuts::is_cut;
 use crate::divided_line::divided_line;

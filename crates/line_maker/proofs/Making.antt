@@ -2,16 +2,8 @@
 use Rattle.std.proofs.Common.{◌≡◌, ℕ, ◌*◌, ◌<◌, ◌≤◌, ◌^◌, ◌++◌, List, [], ◌∷◌, All, false, refl, ap, subst, sym, ◌∙◌, arith, IsPermutation}
 use Rattle.net_core.proofs.Library.{All-cons, All-nil, All-permutation, All-push, All-weaker, sum_by-cons}
 use Rattle.plan_terms.specs.Terms.{Link}
-use Rattle.line_check.specs.Terms.{WeightedLine, need_of, summed_need, IsDividedLine, divided_line, divided_up, IsSoundAt, names_by, test_at, weighed, Multiplier}
-use Rattle.line_check.specs.declared.line.Line.{Line}
-use Rattle.line_check.specs.declared.line.Line.TheVariants.{Divided}
-use Rattle.line_check.specs.declared.tested_lines.Tested.{Tested}
-use Rattle.line_check.proofs.DividedTold.{IsSaidAt, named_all}
-use Rattle.line_maker.specs.Made.{IsCoarseLine, IsMadeLine}
-use Rattle.line_maker.specs.declared.candidate.Candidate.{Candidate}
-use Rattle.line_maker.specs.declared.numbers.Lowest.{Lowest}
-use Rattle.line_maker.specs.inner.Candidates.{AreFewTerms, HasSmallRight, IsNarrowSum, IsSumCandidate, IsTermOf, once}
-use Rattle.line_maker.specs.inner.Divisors.{IsLineDivisor}
+use Rattle.line_check.{specs.Terms.{WeightedLine, need_of, summed_need, IsDividedLine, divided_line, divided_up, IsSoundAt, names_by, test_at, weighed, Multiplier}, specs.declared.line.Line.Line, specs.declared.line.Line.TheVariants.Divided, specs.declared.tested_lines.Tested.Tested, proofs.DividedTold.{IsSaidAt, named_all}}
+use Rattle.line_maker.{specs.Made.{IsCoarseLine, IsMadeLine}, specs.declared.candidate.Candidate.Candidate, specs.declared.numbers.Lowest.Lowest, specs.inner.Candidates.{AreFewTerms, HasSmallRight, IsNarrowSum, IsSumCandidate, IsTermOf, once}, specs.inner.Divisors.IsLineDivisor}
 
 -- candidates in another order
 pub candidates_permuted : (tested : List Tested) (xs ys : List Candidate) → IsPermutation xs ys → All (IsSumCandidate tested) xs

@@ -2,9 +2,7 @@
 use Rattle.std.proofs.Common.{◌≡◌, ◌≢◌, ℕ, ◌+◌, ◌/◌, ◌%◌, ◌<◌, ◌≤◌, ⊎_elim, List, min, subst, sym, arith}
 use Rattle.net_core.proofs.Library.{cases_eq}
 use Rattle.plan_terms.specs.Terms.{Link}
-use Rattle.line_check.specs.Terms.{module_number, divided_up, Multiplier}
-use Rattle.line_check.specs.declared.tested_lines.Tested.{Tested}
-use Rattle.line_check.proofs.DividedLines.{up_is}
+use Rattle.line_check.{specs.Terms.{module_number, divided_up, Multiplier}, specs.declared.tested_lines.Tested.Tested, proofs.DividedLines.up_is}
 use Rattle.line_maker.specs.inner.Candidates.{IsNarrowLink}
 
 -- a quotient that is rounded up where a rest is left

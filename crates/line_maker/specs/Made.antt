@@ -1,11 +1,7 @@
 -- lines made of earlier ones that were tested
 use Rattle.std.specs.Prelude.{◌≤◌, List, false}
 use Rattle.plan_terms.specs.Terms.{Link}
-use Rattle.line_check.specs.Terms.{IsDividedLine, names_by}
-use Rattle.line_check.specs.declared.inequality.Inequality.{Inequality}
-use Rattle.line_check.specs.declared.line.Line.{Line}
-use Rattle.line_check.specs.declared.line.Line.TheVariants.{Divided, Table}
-use Rattle.line_check.specs.declared.tested_lines.Tested.{Tested}
+use Rattle.line_check.{specs.Terms.{IsDividedLine, names_by}, specs.declared.inequality.Inequality.Inequality, specs.declared.line.Line.Line, specs.declared.line.Line.TheVariants.{Divided, Table}, specs.declared.tested_lines.Tested.Tested}
 
 -- a divided line that holds: of tested lines that hold, with numbers in their limits, and with this inequality
 abbrev pub MakesLine : List Link → List Tested → Line → Inequality → Type 0

@@ -1,5 +1,4 @@
-ghost use Rattle.std.specs.Prelude.{◌<◌, ◌^◌, All, IfOk, OnOk, length};
-ghost use Rattle.std.specs.List.Sorted.{IsPermutation};
+ghost use Rattle.std.{specs.Prelude.{◌<◌, ◌^◌, All, IfOk, OnOk, length}, specs.List.Sorted.IsPermutation};
 ghost use Rattle.line_check.specs.Testing.{IsSoundAt};
 ghost use Rattle.line_maker.specs.inner.Candidates.{AreFewTerms, AreTwoTerms, IsSumCandidate};
 

@@ -1,8 +1,6 @@
 ghost use Rattle.std.specs.Prelude.{◌≡◌, ◌+◌, ◌<◌, ◌≤◌, All, IfOk, IfSome, OnOk, length};
 ghost use Rattle.line_check.specs.Testing.{IsSoundAt, test_at};
-ghost use Rattle.line_maker.specs.Made.{IsCoarseLine};
-ghost use Rattle.line_maker.specs.inner.Candidates.{HasSmallRight, once};
-ghost use Rattle.line_maker.specs.inner.Divisors.{IsLineDivisor};
+ghost use Rattle.line_maker.{specs.Made.IsCoarseLine, specs.inner.Candidates.{HasSmallRight, once}, specs.inner.Divisors.IsLineDivisor};
 
 use crate::divisors::{divisors_of, kinds_of};
 use crate::numbers::{

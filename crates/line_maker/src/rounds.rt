@@ -1,6 +1,5 @@
 ghost use Rattle.std.specs.Prelude.{◌≤◌, All, IfOk, OnOk, length};
-ghost use Rattle.line_maker.specs.Made.{IsMadeLine};
-ghost use Rattle.line_maker.specs.inner.Candidates.{IsSumCandidate};
+ghost use Rattle.line_maker.{specs.Made.IsMadeLine, specs.inner.Candidates.IsSumCandidate};
 
 use crate::candidate::{Candidate, best_first, candidates_of, is_known};
 use crate::known::Known;

@@ -5,15 +5,8 @@ use Rattle.plan_terms.specs.Terms.{Demand, Notes, Routing, Case}
 use Rattle.plan_types.specs.Terms.{IsCarryingPlan}
 use Rattle.plan_report.specs.Terms.{AreRoutingsInForm, IsOutcomeInForm, IsReportInForm, known_to, Plan, Planned, Report}
 use Rattle.plan_checker.specs.Terms.{HoldNone}
-use Rattle.acceptance.specs.Terms.{IsBelowAllAble, case_at, outcome_findings, HasNoFinding, IsTranscript}
-use Rattle.acceptance.specs.Reports.{IsSoundOutcomeOf, IsSoundPlanOf}
-use Rattle.acceptance.proofs.Reports.{outcome_none}
-use Rattle.acceptance.proofs.Sound.{none_prop}
-use Rattle.acceptance.proofs.Transcripts.{transcript_accepted, transcript_sound}
-use Rattle.lone_plan.specs.declared.planned_report.PlannedReport.{PlannedReport}
-use Rattle.lone_plan.specs.Laws.{IsAcceptable, LonePlansAreAccepted, RedesignsAreAccepted}
-use Rattle.lone_plan.specs.LonePlans.{IsSoundDesign, plan_commands, redesigned, redesigned_plan, whole_report}
-use Rattle.lone_plan.proofs.Alone.{unmoved}
+use Rattle.acceptance.{specs.Terms.{IsBelowAllAble, case_at, outcome_findings, HasNoFinding, IsTranscript}, specs.Reports.{IsSoundOutcomeOf, IsSoundPlanOf}, proofs.Reports.outcome_none, proofs.Sound.none_prop, proofs.Transcripts.{transcript_accepted, transcript_sound}}
+use Rattle.lone_plan.{specs.declared.planned_report.PlannedReport.PlannedReport, specs.Laws.{IsAcceptable, LonePlansAreAccepted, RedesignsAreAccepted}, specs.LonePlans.{IsSoundDesign, plan_commands, redesigned, redesigned_plan, whole_report}, proofs.Alone.unmoved}
 
 pub lone_plans_are_accepted : LonePlansAreAccepted
 lone_plans_are_accepted p notes r t =

@@ -4,9 +4,9 @@ use Rattle.net_core.proofs.Library.{cases_eq}
 use Rattle.plan_terms.specs.Terms.{StateId, Entry, Edited, Pooled, Notes, Case}
 use Rattle.plan_report.specs.Terms.{Plan, Outcome, Planned, Unsurvivable, Report}
 use Rattle.cut_pool.specs.Terms.{Dated, demands_left, left_by}
-use Rattle.session_script.specs.declared.script.Act.TheVariants as acts
 use Rattle.acceptance.specs.Terms.{IsOutcomeAfter, IsSeparationOf, IsTranscript, RunsFrom, acts_of, outcome_caller, edit_asked, edit_made, outcomes_of}
 use Rattle.lone_plan.specs.LonePlans.{plan_commands}
+use Rattle.session_script.specs.declared.script.Act.TheVariants as acts
 
 -- ---- callers
 

@@ -1,8 +1,7 @@
 -- that a plan carries the demands follows from what is known to hold without a witness
 use Rattle.net_core.proofs.Library.{∥∥₁_elim, ∥∥₁_map, props}
 use Rattle.plan_terms.specs.Terms.{Case, graph_in, capacities}
-use Rattle.plan_types.specs.Terms.{IsCarryingPlan}
-use Rattle.plan_types.specs.declared.plan.Plan.{Plan}
+use Rattle.plan_types.{specs.Terms.IsCarryingPlan, specs.declared.plan.Plan.Plan}
 use Rattle.acceptance.proofs.Lemmas.{carries_certain}
 
 pub carrying_certain : (p : Case) (plan : Plan) → ∥ IsCarryingPlan p plan ∥₁ → IsCarryingPlan p plan

@@ -6,17 +6,12 @@ use Rattle.module_prices.specs.declared.cheapest.UnitPair.{UnitPair}
 use Rattle.plan_report.specs.Terms.{AreRoutingsInForm, IsPlanInForm, known_to, Plan, Cause, Wide, Cuts, Quality, Tight, Loose, Planned, Report}
 use Rattle.route_law.specs.Terms.{IsLowestRouting}
 use Rattle.plan_law.specs.Terms.{HasQuality, IsLooseBy, IsLooseByWidth, KeepsUp, Round}
-use Rattle.cut_pool.specs.declared.snapshot.Snapshot.{Snapshot}
-use Rattle.cut_pool.specs.Terms.{case_left}
+use Rattle.cut_pool.{specs.declared.snapshot.Snapshot.Snapshot, specs.Terms.case_left}
 use Rattle.acceptance.specs.Terms.{IsSnapshotPlan, IsOutcomeAfter, IsPlanBetween, IsPlanned, IsTranscript, RunsFrom}
 use Rattle.session_script.specs.declared.script.Act.{Act}
-use Rattle.session_script.specs.declared.script.Act.TheVariants as acts
 use Rattle.plan_types.specs.Terms.{outcome_position}
-use Rattle.lone_plan.specs.declared.planned_report.PlannedReport.{PlannedReport}
-use Rattle.lone_plan.specs.Designs.{CheaperRedesignsArePlans}
-use Rattle.lone_plan.specs.LonePlans.{IsSoundDesign, plan_commands, redesigned, redesigned_plan, whole_report}
-use Rattle.lone_plan.proofs.Accepted.{redesigns_are_accepted}
-use Rattle.lone_plan.proofs.Alone.{unmoved}
+use Rattle.lone_plan.{specs.declared.planned_report.PlannedReport.PlannedReport, specs.Designs.CheaperRedesignsArePlans, specs.LonePlans.{IsSoundDesign, plan_commands, redesigned, redesigned_plan, whole_report}, proofs.Accepted.redesigns_are_accepted, proofs.Alone.unmoved}
+use Rattle.session_script.specs.declared.script.Act.TheVariants as acts
 
 -- ---- what a plan is loose or tight by
 

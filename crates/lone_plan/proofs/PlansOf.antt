@@ -5,13 +5,9 @@ use Rattle.plan_terms.specs.Terms.{Demand, Notes, Flow, Routing, Case, graph_in,
 use Rattle.plan_types.specs.Terms.{IsCarryingPlan, IsCostedPlan}
 use Rattle.plan_report.specs.Terms.{IsOutcomeInForm, known_to, Plan, Planned}
 use Rattle.route_law.specs.Terms.{IsLowestRouting}
-use Rattle.session_script.specs.declared.script.Act.TheVariants as acts
 use Rattle.acceptance.specs.Terms.{IsPlanBetween, IsTranscript, RunsFrom}
-use Rattle.lone_plan.specs.declared.planned_report.PlannedReport.{PlannedReport}
-use Rattle.lone_plan.specs.Designs.{IsMadePlan, LonePlansCarry}
-use Rattle.lone_plan.specs.LonePlans.{plan_commands, whole_report}
-use Rattle.lone_plan.proofs.Alone.{unmoved}
-use Rattle.lone_plan.proofs.Certain.{carrying_certain}
+use Rattle.lone_plan.{specs.declared.planned_report.PlannedReport.PlannedReport, specs.Designs.{IsMadePlan, LonePlansCarry}, specs.LonePlans.{plan_commands, whole_report}, proofs.Alone.unmoved, proofs.Certain.carrying_certain}
+use Rattle.session_script.specs.declared.script.Act.TheVariants as acts
 
 -- ---- survivable cases
 

@@ -5,8 +5,7 @@ use Rattle.plan_types.specs.Terms.{IsCarryingPlan, IsCostedPlan}
 use Rattle.plan_report.specs.Terms.{IsPlanInForm, known_to, Plan}
 use Rattle.route_law.specs.Terms.{IsLowestRouting}
 use Rattle.acceptance.specs.Terms.{IsTranscript}
-use Rattle.lone_plan.specs.declared.planned_report.PlannedReport.{PlannedReport}
-use Rattle.lone_plan.specs.LonePlans.{IsSoundDesign, plan_commands, redesigned, redesigned_plan, whole_report}
+use Rattle.lone_plan.{specs.declared.planned_report.PlannedReport.PlannedReport, specs.LonePlans.{IsSoundDesign, plan_commands, redesigned, redesigned_plan, whole_report}}
 
 -- the plan is for the opening demands: it carries them in each state, at the cost of its counts, in form and in lowest terms
 pub record IsMadePlan (p : Case) (plan : Plan) : Type 0 where

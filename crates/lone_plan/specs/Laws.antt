@@ -3,8 +3,7 @@ use Rattle.std.specs.Prelude.{ℕ, List, All}
 use Rattle.plan_terms.specs.Terms.{Notes, Routing, Case}
 use Rattle.plan_report.specs.Terms.{IsReportInForm, known_to, Report}
 use Rattle.acceptance.specs.Terms.{IsBelowAllAble, HasNoFinding, IsTranscript}
-use Rattle.lone_plan.specs.declared.planned_report.PlannedReport.{PlannedReport}
-use Rattle.lone_plan.specs.LonePlans.{IsSoundDesign, plan_commands, redesigned, redesigned_plan, whole_report}
+use Rattle.lone_plan.{specs.declared.planned_report.PlannedReport.PlannedReport, specs.LonePlans.{IsSoundDesign, plan_commands, redesigned, redesigned_plan, whole_report}}
 
 -- the report is in form, no finding holds of it, and no counts that can carry a plan's demands cost less than the plan's bound
 pub record IsAcceptable (p : Case) (notes : Notes) (r : Report) : Type 0 where

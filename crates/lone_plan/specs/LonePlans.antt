@@ -2,14 +2,12 @@
 use Rattle.std.specs.Prelude.{ℕ, ◌<◌, ◌^◌, List, [], ◌∷◌}
 use Rattle.plan_terms.specs.Terms.{Notes, Routing, Case, AreCounts, AreWithinLimits}
 use Rattle.plan_types.specs.Terms.{IsCarryingPlan, IsCostedPlan}
-use Rattle.plan_types.specs.declared.report.Outcome.TheVariants as outcome
 use Rattle.plan_report.specs.Terms.{AreRoutingsInForm, known_to, Plan, Report}
-use Rattle.session_script.specs.declared.script.Act.TheVariants as act
 use Rattle.session_script.specs.declared.script.Command.{Command}
 use Rattle.acceptance.specs.Terms.{IsSeparationOf, IsTranscript}
-use Rattle.lone_plan.specs.declared.lone.LonePlan.{LonePlan}
-use Rattle.lone_plan.specs.declared.lone.LonePlan.TheVariants.{Planned, Separated}
-use Rattle.lone_plan.specs.declared.planned_report.PlannedReport.{PlannedReport}
+use Rattle.lone_plan.{specs.declared.lone.LonePlan.LonePlan, specs.declared.lone.LonePlan.TheVariants.{Planned, Separated}, specs.declared.planned_report.PlannedReport.PlannedReport}
+use Rattle.plan_types.specs.declared.report.Outcome.TheVariants as outcome
+use Rattle.session_script.specs.declared.script.Act.TheVariants as act
 
 -- the script of a plan: one plan command, of caller 1
 abbrev pub plan_commands : List Command

@@ -1,8 +1,7 @@
 -- divisors of amounts
 use Rattle.std.proofs.Common.{◌≡◌, ℕ, ◌+◌, ◌/◌, ◌^◌, ◌<◌, ◌≤◌, ◌++◌, List, [], ◌∷◌, All, Any, length, get_or, take, ⊎_elim, sym, ap, ◌∙◌, subst}
 use Rattle.net_core.proofs.Library.{cases_lt, IsGcd, get_or_default, take_more}
-use Rattle.plan_terms.specs.Terms.{IsGreatestDivisor}
-use Rattle.plan_terms.proofs.Lemmas.{divisor_both, divisor_one}
+use Rattle.plan_terms.{specs.Terms.IsGreatestDivisor, proofs.Lemmas.{divisor_both, divisor_one}}
 
 -- a divisor of one amount more
 pub divisor_more : (den : ℕ) (amounts : List ℕ) (n g h : ℕ) → n < length amounts → IsGreatestDivisor (den ∷ take n amounts) g → IsGcd g (get_or amounts n 0) h → IsGreatestDivisor (den ∷ take (n + 1) amounts) h

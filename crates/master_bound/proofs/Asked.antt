@@ -2,8 +2,7 @@
 use Rattle.std.proofs.Common.{◌≡◌, ℕ, zero, suc, ◌+◌, ◌*◌, ◌<◌, ◌≤◌, List, [], ◌∷◌, length, get_or, take, arith}
 use Rattle.net_core.proofs.Library.{sum_by-cons}
 use Rattle.plan_terms.specs.Terms.{CutLine, CertificateLine, asked}
-use Rattle.master_bound.specs.Answers.{lines_of, cut_at}
-use Rattle.master_bound.specs.declared.answer.Multiplier.{Multiplier}
+use Rattle.master_bound.{specs.Answers.{lines_of, cut_at}, specs.declared.answer.Multiplier.Multiplier}
 
 line_of : List CutLine → Multiplier → CertificateLine
 line_of cuts m = record { cut = cut_at cuts m.cut; num = m.num }

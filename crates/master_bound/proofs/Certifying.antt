@@ -1,26 +1,14 @@
 -- the certificate of an optimum, and the share of its objective row
-use Rattle.std.proofs.Common.{◌≡◌, ◌≢◌, ℕ, zero, suc, ◌-◌, ◌*◌, ◌/◌, ◌^◌, ◌<◌, ◌≤◌, List, [], ◌∷◌, All, AllPairs, Contains, Some, get_or, length, map, mul-pos, refl, slice_get, slice_index, sym, ap, ◌∙◌, subst, ⊎_elim, arith, mul-le-mul_left, pos, ◌<ℤ◌}
+use Rattle.std.{proofs.Common.{◌≡◌, ◌≢◌, ℕ, zero, suc, ◌-◌, ◌*◌, ◌/◌, ◌^◌, ◌<◌, ◌≤◌, List, [], ◌∷◌, All, AllPairs, Contains, Some, get_or, length, map, mul-pos, refl, slice_get, slice_index, sym, ap, ◌∙◌, subst, ⊎_elim, arith, mul-le-mul_left, pos, ◌<ℤ◌}, proofs.lemmas.Nat.Gcd.le_of_dvd}
 use Rattle.net_core.proofs.Library.{◌∣◌, cases_eq, ints, All-contains, All-get_or, All-map, All-nil, All-weaker, dvd-zero, le_of_mul-le-mul_left, positive_divisor}
-use Rattle.std.proofs.lemmas.Nat.Gcd.{le_of_dvd}
 use Rattle.checked_fraction.specs.Terms.{num}
 use Rattle.module_prices.specs.declared.cheapest.UnitPair.{UnitPair}
-use Rattle.plan_terms.specs.Terms.{MasterColumn, Link, CutLine, IsModule, IsBound, IsGreatestDivisor, IsLowest, CertificateLine, IsCut, asked, fixed_along, given, price, raw_value, IsOwnBound}
-use Rattle.plan_terms.proofs.Lemmas.{lowest_positive}
+use Rattle.plan_terms.{specs.Terms.{MasterColumn, Link, CutLine, IsModule, IsBound, IsGreatestDivisor, IsLowest, CertificateLine, IsCut, asked, fixed_along, given, price, raw_value, IsOwnBound}, proofs.Lemmas.lowest_positive}
 use Rattle.plan_types.specs.declared.quality.Share.{Share}
 use Rattle.simplex_law.specs.Terms.{IsPacking, AreNames, IsOptimum}
 use Rattle.simplex_core.specs.declared.optimum.Optimum.{Optimum}
-use Rattle.master_law.specs.Terms.{AreLinesOf, IsLeastShare, IsSameCut, master_bound, IsMasterColumn, AreUnitPairs, share_cost}
-use Rattle.master_law.proofs.Certified.{modules_priced, raw_is_cost, raw_is_gained}
-use Rattle.master_law.proofs.Lines.{asked_times, given_times, line_times, priced_lowest, raw_times}
-use Rattle.master_law.proofs.Own.{bound_rises, own_raw}
-use Rattle.master_law.proofs.Shares.{least_share}
-use Rattle.master_bound.specs.Optima.{IsMasterOptimum}
-use Rattle.master_bound.specs.Answers.{AreMultipliers, IsBestOf, cut_at, lines_of}
-use Rattle.master_bound.specs.declared.answer.Multiplier.{Multiplier}
-use Rattle.master_bound.specs.inner.Lines.{AreAmounts, AreBasisMultipliers, IsMultiplierOf}
-use Rattle.master_bound.specs.inner.Shares.{IsShareOfDuals}
-use Rattle.master_bound.proofs.Lowest.{common_some, in_lowest, part_some, whole_den}
-use Rattle.master_bound.proofs.Optima.{all_named, gains_as_cut, lines_whole, some_lines}
+use Rattle.master_law.{specs.Terms.{AreLinesOf, IsLeastShare, IsSameCut, master_bound, IsMasterColumn, AreUnitPairs, share_cost}, proofs.Certified.{modules_priced, raw_is_cost, raw_is_gained}, proofs.Lines.{asked_times, given_times, line_times, priced_lowest, raw_times}, proofs.Own.{bound_rises, own_raw}, proofs.Shares.least_share}
+use Rattle.master_bound.{specs.Optima.IsMasterOptimum, specs.Answers.{AreMultipliers, IsBestOf, cut_at, lines_of}, specs.declared.answer.Multiplier.Multiplier, specs.inner.Lines.{AreAmounts, AreBasisMultipliers, IsMultiplierOf}, specs.inner.Shares.IsShareOfDuals, proofs.Lowest.{common_some, in_lowest, part_some, whole_den}, proofs.Optima.{all_named, gains_as_cut, lines_whole, some_lines}}
 
 cancel : (k a b : ℕ) → 0 < k → k * a ≡ k * b → a ≡ b
 cancel k a b some e =

@@ -1,12 +1,10 @@
 -- what cuts cost at the prices of the links
 use Rattle.std.proofs.Common.{◌≡◌, ℕ, zero, suc, ◌+◌, ◌*◌, ◌<◌, ◌≤◌, List, ⊎_elim, mul-pos, sym, ap, ◌∙◌, subst, arith, ℤ, pos, ◌+ℤ◌, ◌-ℤ◌, ◌*ℤ◌, ◌<ℤ◌, ◌≤ℤ◌}
 use Rattle.net_core.proofs.Library.{cases_lt, ints, *ℤ_comm, pos-*ℤ-pos}
-use Rattle.checked_fraction.specs.Terms.{num}
-use Rattle.checked_fraction.specs.declared.row.Row.{Row}
+use Rattle.checked_fraction.{specs.Terms.num, specs.declared.row.Row.Row}
 use Rattle.module_prices.specs.declared.cheapest.UnitPair.{UnitPair}
 use Rattle.simplex_law.proofs.Lemmas.{times_nonneg, times_nonpositive}
-use Rattle.master_bound.specs.inner.Gaining.{cost_below}
-use Rattle.master_bound.specs.Narrow.{length_entry}
+use Rattle.master_bound.{specs.inner.Gaining.cost_below, specs.Narrow.length_entry}
 
 next : (n : ℕ) → n + 1 ≡ suc n
 next n = omega arith

@@ -1,21 +1,13 @@
 -- the columns of cuts, and cuts that gain
 use Rattle.std.proofs.Common.{◌≡◌, ◌≢◌, ℕ, ◌+◌, ◌<◌, ◌≤◌, ◌^◌, ◌++◌, List, [], ◌∷◌, All, Bool, true, false, cond, eqb, nat_lt, Option, None, Some, get_or, length, map, refl, slice_get, ◌⊎◌, ⊎_elim, append-nil, sym, ap, ◌∙◌, subst, arith, eq-eqb, le-ltb, lt-ltb, ne_eqb, ℤ, pos, ◌+ℤ◌, ◌-ℤ◌, ◌*ℤ◌, ◌<ℤ◌, ◌≤ℤ◌}
 use Rattle.net_core.proofs.Library.{AllByRecursion, cases_eq, cases_lt, ints, get_or-map, length-map, All-get_or, get_or_from_slice_get, slice_get-get_or, slice_get_within}
-use Rattle.checked_fraction.specs.Terms.{num, IsNarrow}
-use Rattle.checked_fraction.specs.declared.row.Row.{Row}
+use Rattle.checked_fraction.{specs.Terms.{num, IsNarrow}, specs.declared.row.Row.Row}
 use Rattle.module_prices.specs.declared.cheapest.UnitPair.{UnitPair}
 use Rattle.plan_terms.specs.Terms.{MasterColumn, Metric, Link, CutLine}
-use Rattle.simplex_law.specs.Terms.{dot, ColumnOf}
-use Rattle.simplex_law.proofs.Lemmas.{dot-same}
-use Rattle.simplex_core.specs.Terms.{entry_of, IsEntry, HaveApartRows, AreEntries, GainsAt, IsGainingColumn}
-use Rattle.simplex_core.specs.declared.columns.Column.{Column}
-use Rattle.simplex_core.specs.declared.columns.Entry.{Entry}
+use Rattle.simplex_law.{specs.Terms.{dot, ColumnOf}, proofs.Lemmas.dot-same}
+use Rattle.simplex_core.{specs.Terms.{entry_of, IsEntry, HaveApartRows, AreEntries, GainsAt, IsGainingColumn}, specs.declared.columns.Column.Column, specs.declared.columns.Entry.Entry}
 use Rattle.master_law.specs.Terms.{cut_entry, cut_gain, IsCutColumn}
-use Rattle.master_bound.specs.declared.candidate.Candidate.{Candidate}
-use Rattle.master_bound.specs.declared.rating.Rating.{Rating}
-use Rattle.master_bound.specs.inner.Gaining.{CutGains, IsCandidate, IsCandidateAt, cost_below}
-use Rattle.master_bound.specs.Narrow.{length_entry}
-use Rattle.master_bound.specs.inner.Programs.{AreEntriesOf, IsColumnOfCut, entry_in}
+use Rattle.master_bound.{specs.declared.candidate.Candidate.Candidate, specs.declared.rating.Rating.Rating, specs.inner.Gaining.{CutGains, IsCandidate, IsCandidateAt, cost_below}, specs.Narrow.length_entry, specs.inner.Programs.{AreEntriesOf, IsColumnOfCut, entry_in}}
 
 same : (x : ℤ) → x ≡ x
 same x = omega (arith, ints)

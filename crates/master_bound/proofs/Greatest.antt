@@ -2,8 +2,7 @@
 use Rattle.std.proofs.Common.{◌≡◌, ℕ, ◌+◌, ◌<◌, ◌≤◌, List, Some, length, slice_get, ⊎_elim, arith, subst, sym}
 use Rattle.net_core.proofs.Library.{cases_eq, slice_get_within}
 use Rattle.plan_terms.specs.Terms.{Link, CutLine, IsBestOwn, IsOwnBound}
-use Rattle.master_bound.specs.declared.best.GreatestOwn.{GreatestOwn}
-use Rattle.master_bound.specs.inner.Bests.{IsBestBelow, IsBetterOwn}
+use Rattle.master_bound.{specs.declared.best.GreatestOwn.GreatestOwn, specs.inner.Bests.{IsBestBelow, IsBetterOwn}}
 
 same_cut : (cuts : List CutLine) (i : ℕ) (a b : CutLine) → slice_get cuts i ≡ Some a → slice_get cuts i ≡ Some b → a ≡ b
 same_cut cuts i a b first second = cc (first, second)

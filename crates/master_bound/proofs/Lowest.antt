@@ -1,10 +1,8 @@
 -- fractions in lowest terms
-use Rattle.std.proofs.Common.{ℕ, zero, suc, ◌^◌, ◌≡◌, ◌*◌, ◌/◌, ◌<◌, ◌≤◌, List, ◌∷◌, All, get_or, length, refl, sym, ap, subst, arith, mul-le-mul_left}
+use Rattle.std.{proofs.Common.{ℕ, zero, suc, ◌^◌, ◌≡◌, ◌*◌, ◌/◌, ◌<◌, ◌≤◌, List, ◌∷◌, All, get_or, length, refl, sym, ap, subst, arith, mul-le-mul_left}, proofs.lemmas.Nat.Gcd.le_of_dvd}
 use Rattle.net_core.proofs.Library.{◌∣◌, All-cons, All-get_or, All-head, All-tail, All-from_get_or, mul-div_cancel', dvd-mul_left, positive_divisor}
-use Rattle.std.proofs.lemmas.Nat.Gcd.{le_of_dvd}
 use Rattle.plan_terms.specs.Terms.{IsModule, Module, IsGreatestDivisor, IsUnitPair}
-use Rattle.module_prices.proofs.UnitCosts.{cheapest_sound}
-use Rattle.module_prices.proofs.LowestTerms.{lowest_small}
+use Rattle.module_prices.{proofs.UnitCosts.cheapest_sound, proofs.LowestTerms.lowest_small}
 
 -- what a unit costs is no more than what a module may cost
 pub unit_cost_low : (modules : List Module) (capacity cost : ℕ) → All IsModule modules → IsUnitPair modules capacity cost → cost < 2 ^ 40

@@ -3,11 +3,8 @@ use Rattle.std.proofs.Common.{◌≡◌, ◌≢◌, ℕ, suc, ◌+◌, ◌/◌, 
 use Rattle.net_core.proofs.Library.{cases_eq, map-append, All-get_or, All-push, All-weaker, Contains-append_left, Contains-push, all_pairs_push}
 use Rattle.plan_terms.specs.Terms.{MasterColumn, Metric, CutLine}
 use Rattle.simplex_law.specs.Terms.{ColumnOf, AreNames}
-use Rattle.master_law.specs.Terms.{AreLinesOf}
-use Rattle.master_law.proofs.Lines.{lines_pass, lines_push}
-use Rattle.master_bound.specs.Answers.{cut_at, lines_of}
-use Rattle.master_bound.specs.declared.answer.Multiplier.{Multiplier}
-use Rattle.master_bound.specs.inner.Lines.{AreBasisMultipliers, HaveOneName, IsMultiplierOf, IsPlaceOf, PushesMultiplier}
+use Rattle.master_law.{specs.Terms.AreLinesOf, proofs.Lines.{lines_pass, lines_push}}
+use Rattle.master_bound.{specs.Answers.{cut_at, lines_of}, specs.declared.answer.Multiplier.Multiplier, specs.inner.Lines.{AreBasisMultipliers, HaveOneName, IsMultiplierOf, IsPlaceOf, PushesMultiplier}}
 
 next : (n : ℕ) → suc n ≡ n + 1
 next n = omega arith

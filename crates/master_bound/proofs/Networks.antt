@@ -6,11 +6,8 @@ use Rattle.module_prices.specs.declared.cheapest.UnitPair.{UnitPair}
 use Rattle.plan_terms.specs.Terms.{MasterColumn, Metric, Number, Link, Network, CutLine, IsModule}
 use Rattle.metric_cut.specs.Bounded.{HaveBound}
 use Rattle.simplex_law.specs.Terms.{IsPacking, slack_basis, AreNames}
-use Rattle.simplex_core.specs.Terms.{AtEach}
-use Rattle.simplex_core.proofs.Starts.{each_at}
-use Rattle.master_law.specs.Terms.{IsMasterEvidence, IsMasterColumn, IsSameCut, master_bound, master_slack, AreUnitPairs}
-use Rattle.master_law.proofs.Packing.{master_packing}
-use Rattle.master_law.proofs.Slacks.{cut_evidence, right_evidence}
+use Rattle.simplex_core.{specs.Terms.AtEach, proofs.Starts.each_at}
+use Rattle.master_law.{specs.Terms.{IsMasterEvidence, IsMasterColumn, IsSameCut, master_bound, master_slack, AreUnitPairs}, proofs.Packing.master_packing, proofs.Slacks.{cut_evidence, right_evidence}}
 use Rattle.master_bound.specs.Narrow.{HaveWideEntry, IsNarrowCut, IsWideCut}
 
 -- the modules of a network are sound, and its links are few

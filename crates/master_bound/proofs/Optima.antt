@@ -1,22 +1,13 @@
 -- the cuts and the amounts of an optimum of the master program
 use Rattle.std.proofs.Common.{◌≡◌, ℕ, zero, suc, ◌*◌, ◌/◌, ◌^◌, ◌<◌, ◌≤◌, ◌⊎◌, inl, inr, List, [], ◌∷◌, AllPairs, Some, get_or, length, map, slice_get, slice_index, mul-pos, refl, sym, ap, ◌∙◌, subst, ⊎_elim, arith, ℤ, pos, ◌+ℤ◌, ◌*ℤ◌, ◌<ℤ◌}
 use Rattle.net_core.proofs.Library.{ints, Contains-get_or, slice_get_within, *ℤ-zero, pos-*ℤ-pos, below-same, below-times}
-use Rattle.checked_fraction.specs.Terms.{num}
+use Rattle.checked_fraction.{specs.Terms.num, proofs.Products.regroup}
 use Rattle.module_prices.specs.declared.cheapest.UnitPair.{UnitPair}
 use Rattle.plan_terms.specs.Terms.{MasterColumn, Metric, Value, Link, CutLine, IsGreatestDivisor, CertificateLine, asked}
-use Rattle.simplex_law.specs.Terms.{dot, IsPacking, IsSlack}
-use Rattle.simplex_law.proofs.Lemmas.{dot-same, sum-same, sum-times, unit-other, unit-same}
+use Rattle.simplex_law.{specs.Terms.{dot, IsPacking, IsSlack}, proofs.Lemmas.{dot-same, sum-same, sum-times, unit-other, unit-same}}
 use Rattle.simplex_core.specs.declared.optimum.Optimum.{Optimum}
-use Rattle.master_law.specs.Terms.{AreLinesOf, HasWideValue, IsMasterEvidence, IsSameCut, column_given, column_lengths, cut_gain, master_bound, master_slack, IsCutColumn, IsMasterColumn}
-use Rattle.master_law.proofs.Lines.{asked_times, line_times, lines_none, lines_push, lines_slack, price_times}
-use Rattle.master_law.proofs.Packing.{same_once}
-use Rattle.master_law.proofs.WideLines.{wide_lines}
-use Rattle.master_bound.specs.Answers.{cut_at}
-use Rattle.master_bound.specs.inner.Lines.{AreAmounts, GainsAsCut, HaveOneName, IsListedCut, amount_of}
-use Rattle.master_bound.specs.inner.Programs.{IsMasterSolution}
-use Rattle.master_bound.specs.Optima.{IsMasterOptimum, IsWideOptimum}
-use Rattle.master_bound.proofs.Lowest.{common_some, in_lowest, whole_amount, whole_den}
-use Rattle.checked_fraction.proofs.Products.{regroup}
+use Rattle.master_law.{specs.Terms.{AreLinesOf, HasWideValue, IsMasterEvidence, IsSameCut, column_given, column_lengths, cut_gain, master_bound, master_slack, IsCutColumn, IsMasterColumn}, proofs.Lines.{asked_times, line_times, lines_none, lines_push, lines_slack, price_times}, proofs.Packing.same_once, proofs.WideLines.wide_lines}
+use Rattle.master_bound.{specs.Answers.cut_at, specs.inner.Lines.{AreAmounts, GainsAsCut, HaveOneName, IsListedCut, amount_of}, specs.inner.Programs.IsMasterSolution, specs.Optima.{IsMasterOptimum, IsWideOptimum}, proofs.Lowest.{common_some, in_lowest, whole_amount, whole_den}}
 
 no_metric : (cut : CutLine) (k : ℕ) → Metric cut.state cut.lengths ≡ master_slack k → ⊥
 no_metric cut k e = cc e

@@ -1,15 +1,10 @@
 -- what is answered of given cuts: their best certificate with a share that costs as much, or evidence
-use Rattle.std.specs.Prelude.{◌≡◌, ◌≢◌, ℕ, ◌*◌, ◌^◌, ◌≤◌, ◌<◌, List, [], All, AllPairs, Contains, Result, Ok, Err, get_or, length, map}
-use Rattle.std.specs.Int.{◌∣◌}
+use Rattle.std.{specs.Prelude.{◌≡◌, ◌≢◌, ℕ, ◌*◌, ◌^◌, ◌≤◌, ◌<◌, List, [], All, AllPairs, Contains, Result, Ok, Err, get_or, length, map}, specs.Int.◌∣◌}
 use Rattle.module_prices.specs.declared.cheapest.UnitPair.{UnitPair}
 use Rattle.plan_terms.specs.Terms.{Evidence, Route, Master, MasterColumn, Link, CutLine, Case, IsBound, IsLowest, CertificateLine, IsCertificate, IsCut, raw_value, IsOwnBound}
-use Rattle.simplex_core.specs.declared.solver.SimplexFault.{SimplexFault}
-use Rattle.simplex_core.specs.declared.solver.SimplexFault.TheVariants.{Wide as WideBasis, NoMemory as NoRoom}
+use Rattle.simplex_core.{specs.declared.solver.SimplexFault.SimplexFault, specs.declared.solver.SimplexFault.TheVariants.{Wide as WideBasis, NoMemory as NoRoom}}
 use Rattle.master_law.specs.Terms.{IsLeastShare, IsMasterEvidence, AreUnitPairs, share_cost}
-use Rattle.master_bound.specs.declared.answer.Best.{Best}
-use Rattle.master_bound.specs.declared.answer.MasterFault.{MasterFault}
-use Rattle.master_bound.specs.declared.answer.MasterFault.TheVariants.{Wide, NoMemory}
-use Rattle.master_bound.specs.declared.answer.Multiplier.{Multiplier}
+use Rattle.master_bound.{specs.declared.answer.Best.Best, specs.declared.answer.MasterFault.MasterFault, specs.declared.answer.MasterFault.TheVariants.{Wide, NoMemory}, specs.declared.answer.Multiplier.Multiplier}
 
 -- the cut at a place of the list
 abbrev pub cut_at : List CutLine → ℕ → CutLine

@@ -4,11 +4,7 @@ ghost use Rattle.metric_cut.specs.Bounded.{HaveBound};
 ghost use Rattle.simplex_core.specs.Terms.{AtEach};
 ghost use Rattle.simplex_law.specs.Terms.{IsPacking};
 ghost use Rattle.master_law.specs.Terms.{IsMasterEvidence, IsMasterColumn, IsSameCut, cut_gain, master_bound, master_slack, AreUnitPairs, share_cost};
-ghost use Rattle.master_bound.specs.Answers.{IsBestOf, IsMasterAnswer};
-ghost use Rattle.master_bound.specs.Optima.{IsMasterOptimum, IsTooWideForCertificate, IsWideOptimum};
-ghost use Rattle.master_bound.specs.Narrow.{IsNarrowCut, IsWideCut};
-ghost use Rattle.master_bound.specs.inner.Programs.{IsMasterSolution, IsWideAnswer};
-ghost use Rattle.master_bound.specs.inner.Shares.{IsShareOfDuals};
+ghost use Rattle.master_bound.{specs.Answers.{IsBestOf, IsMasterAnswer}, specs.Optima.{IsMasterOptimum, IsTooWideForCertificate, IsWideOptimum}, specs.Narrow.{IsNarrowCut, IsWideCut}, specs.inner.Programs.{IsMasterSolution, IsWideAnswer}, specs.inner.Shares.IsShareOfDuals};
 
 use crate::answer::{Best, MasterFault, Multiplier};
 use crate::lines::{amounts_of, asks_too_much, common_divisor, has_wide, multipliers_of};

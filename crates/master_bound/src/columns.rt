@@ -2,8 +2,7 @@ ghost use Rattle.std.specs.Prelude.{◌≡◌, ◌<◌, ◌≤◌, ◌++◌, ◌
 ghost use Rattle.simplex_core.specs.Terms.{AreEntries, entry_of as entries_at};
 ghost use Rattle.plan_terms.specs.Terms.{Metric, CutLine};
 ghost use Rattle.master_law.specs.Terms.{cut_gain};
-ghost use Rattle.master_bound.specs.Narrow.{length_entry, HaveNarrowEntries};
-ghost use Rattle.master_bound.specs.inner.Programs.{entry_in, AreEntriesOf, IsColumnOfCut};
+ghost use Rattle.master_bound.{specs.Narrow.{length_entry, HaveNarrowEntries}, specs.inner.Programs.{entry_in, AreEntriesOf, IsColumnOfCut}};
 
 use crate::numbers::entry_of;
 use crate::pricing::best_candidate;

@@ -1,8 +1,7 @@
 ghost use Rattle.std.specs.Prelude.{◌≡◌, ◌<◌, ◌≤◌, ◌/◌, ◌^◌, ◌∷◌, ◌↔◌, ℕ, Some, All, Any, Contains, IfOk, OnOk, IsTrue, MatchOption, length, get_or, slice_get, true, false, []};
 ghost use Rattle.plan_terms.specs.Terms.{CutLine, Metric, IsGreatestDivisor, asked};
 ghost use Rattle.master_law.specs.Terms.{IsSameCut};
-ghost use Rattle.master_bound.specs.Answers.{lines_of};
-ghost use Rattle.master_bound.specs.inner.Lines.{AreAmounts, AreBasisMultipliers, IsListedCut, IsPlaceOf, PushesMultiplier, amount_of};
+ghost use Rattle.master_bound.{specs.Answers.lines_of, specs.inner.Lines.{AreAmounts, AreBasisMultipliers, IsListedCut, IsPlaceOf, PushesMultiplier, amount_of}};
 
 use crate::answer::Multiplier;
 use checked_fraction::gcd;

@@ -1,7 +1,6 @@
 ghost use Rattle.std.specs.Prelude.{◌≡◌, ◌<◌, ◌^◌, ◌*ℤ◌, ◌≤ℤ◌, ◌⊎◌, ℕ, None, length, pos};
 ghost use Rattle.checked_fraction.specs.Terms.{num, IsNarrow};
-ghost use Rattle.master_bound.specs.Narrow.{length_entry, HaveNarrowEntries};
-ghost use Rattle.master_bound.specs.inner.Gaining.{IsSurplus, IsCandidate, IsCandidateAt};
+ghost use Rattle.master_bound.{specs.Narrow.{length_entry, HaveNarrowEntries}, specs.inner.Gaining.{IsSurplus, IsCandidate, IsCandidateAt}};
 
 use crate::candidate::Candidate;
 use crate::numbers::entry_of;

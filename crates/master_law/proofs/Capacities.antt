@@ -2,11 +2,9 @@
 use Rattle.std.proofs.Common.{◌≡◌, ℕ, zero, suc, ◌+◌, ◌*◌, List, [], ◌∷◌, length, slice_index, zip, refl, ◌∙◌, arith}
 use Rattle.net_core.proofs.Library.{length-map, length-zip}
 use Rattle.module_prices.specs.declared.cheapest.UnitPair.{UnitPair}
-use Rattle.plan_terms.specs.Terms.{Link}
-use Rattle.plan_terms.proofs.Lemmas.{fixed_of}
+use Rattle.plan_terms.{specs.Terms.Link, proofs.Lemmas.fixed_of}
 use Rattle.plan_types.specs.declared.quality.Share.{Share}
-use Rattle.master_law.specs.MasterPrograms.{unit_capacities}
-use Rattle.master_law.specs.UnitPairs.{share_capacities}
+use Rattle.master_law.{specs.MasterPrograms.unit_capacities, specs.UnitPairs.share_capacities}
 
 -- a share gives each link a capacity
 pub share_count : (links : List Link) (pairs : List UnitPair) (share : Share) → length pairs ≡ length links → length share.units ≡ length links → length (share_capacities links pairs share) ≡ length links

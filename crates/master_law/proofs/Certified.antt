@@ -2,16 +2,11 @@
 use Rattle.std.proofs.Common.{◌≡◌, ℕ, zero, suc, ◌*◌, ◌<◌, ◌≤◌, List, [], ◌∷◌, All, Some, true, false, cond, eqb, length, sum_by, zip, slice_get, slice_index, get_or, refl, sym, ap, ◌∙◌, arith, subst, ⊎_elim, mul-le-mul_left, ℤ, pos, ◌+ℤ◌, ◌*ℤ◌, ◌≤ℤ◌}
 use Rattle.net_core.proofs.Library.{sum_by-cons, All-from_recursion, All-contains, All-from_get_or, All-get_or, slice_get_within, le_of_mul-le-mul_left, *ℤ-zero, pos-*ℤ-pos, ints, below-same, below-first, below-none, below-times}
 use Rattle.module_prices.specs.declared.cheapest.UnitPair.{UnitPair}
-use Rattle.plan_terms.specs.Terms.{MasterColumn, Link, Module, CutLine, IsModule, sum_below, CertificateLine, price, asked, given, raw_value}
-use Rattle.plan_terms.proofs.Lemmas.{along_fixed, fixed_of, given_priced, lowest_positive}
+use Rattle.plan_terms.{specs.Terms.{MasterColumn, Link, Module, CutLine, IsModule, sum_below, CertificateLine, price, asked, given, raw_value}, proofs.Lemmas.{along_fixed, fixed_of, given_priced, lowest_positive}}
 use Rattle.plan_types.specs.declared.quality.Share.{Share}
 use Rattle.route_law.proofs.Lemmas.{sum-pos, below-both}
-use Rattle.simplex_law.specs.Terms.{int_sum, dot, unit_vector, ColumnOf, IsSlack, IsOptimum, FitBounds}
-use Rattle.simplex_law.proofs.Lemmas.{greatest, distribute_left, le_times, sum-same, sum-le, sum-plus}
-use Rattle.master_law.specs.BasisLines.{AreLinesOf}
-use Rattle.master_law.specs.MasterPrograms.{master_bound, master_slack, unit_capacities, unit_costs, column_lengths, column_given, IsCutColumn, IsMasterColumn}
-use Rattle.master_law.specs.UnitPairs.{AreUnitPairs, share_cost}
-use Rattle.master_law.proofs.Columns.{pair_at}
+use Rattle.simplex_law.{specs.Terms.{int_sum, dot, unit_vector, ColumnOf, IsSlack, IsOptimum, FitBounds}, proofs.Lemmas.{greatest, distribute_left, le_times, sum-same, sum-le, sum-plus}}
+use Rattle.master_law.{specs.BasisLines.AreLinesOf, specs.MasterPrograms.{master_bound, master_slack, unit_capacities, unit_costs, column_lengths, column_given, IsCutColumn, IsMasterColumn}, specs.UnitPairs.{AreUnitPairs, share_cost}, proofs.Columns.pair_at}
 
 times_out : (n : ℕ) (v f : ℕ → ℕ) (c : ℕ) → sum_below n (λ j. v j * (f j * c)) ≡ sum_below n (λ j. v j * f j) * c
 times_out zero v f c = omega arith

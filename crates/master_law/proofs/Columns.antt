@@ -4,8 +4,7 @@ use Rattle.net_core.proofs.Library.{get_or-map, All-contains, All-get_or, le_of_
 use Rattle.module_prices.specs.declared.cheapest.UnitPair.{UnitPair}
 use Rattle.plan_terms.specs.Terms.{MasterColumn, Metric, Link, CutLine, IsModule}
 use Rattle.simplex_law.specs.Terms.{ColumnOf}
-use Rattle.master_law.specs.MasterPrograms.{cut_gain, cut_entry, unit_capacities, unit_costs, IsCutColumn}
-use Rattle.master_law.specs.UnitPairs.{AreUnitPairs, IsPairOfLink}
+use Rattle.master_law.{specs.MasterPrograms.{cut_gain, cut_entry, unit_capacities, unit_costs, IsCutColumn}, specs.UnitPairs.{AreUnitPairs, IsPairOfLink}}
 
 -- the column of a cut
 abbrev pub column_of : List Link → List UnitPair → CutLine → ColumnOf MasterColumn

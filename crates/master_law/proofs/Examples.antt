@@ -4,12 +4,8 @@ use Rattle.net_core.proofs.Library.{eq-one_of_dvd-one, ints, Contains-get_or}
 use Rattle.module_prices.specs.declared.cheapest.UnitPair.{UnitPair}
 use Rattle.plan_terms.specs.Terms.{MasterColumn, Link, CutLine, Violates}
 use Rattle.plan_types.specs.declared.quality.Share.{Share}
-use Rattle.simplex_law.specs.Terms.{dot, unit_vector, ColumnOf}
-use Rattle.simplex_law.proofs.Lemmas.{none_gains}
-use Rattle.master_law.specs.LeastShares.{IsLeastShare}
-use Rattle.master_law.specs.MasterPrograms.{master_bound, master_slack, cut_gain, IsCutColumn}
-use Rattle.master_law.specs.UnitPairs.{share_capacities, share_caps, share_cost}
-use Rattle.master_law.proofs.Columns.{column_of, is_column_of}
+use Rattle.simplex_law.{specs.Terms.{dot, unit_vector, ColumnOf}, proofs.Lemmas.none_gains}
+use Rattle.master_law.{specs.LeastShares.IsLeastShare, specs.MasterPrograms.{master_bound, master_slack, cut_gain, IsCutColumn}, specs.UnitPairs.{share_capacities, share_caps, share_cost}, proofs.Columns.{column_of, is_column_of}}
 
 -- a link between two nodes, with 1 unit installed, and a module of capacity 2 at a cost of 6: the unit pair is 1 at 3
 abbrev one_link : List Link

@@ -2,15 +2,9 @@
 use Rattle.std.proofs.Common.{◌≡◌, ℕ, ◌+◌, ◌-◌, ◌*◌, ◌≤◌, List, [], ◌∷◌, All, Contains, length, sum_by, get_or, slice_index, sym, ap, ◌∙◌, arith, ⊎_elim, mul-le-mul_left}
 use Rattle.net_core.proofs.Library.{cases_lt, sum_by-cons, recursion_from_All, mul-sub, AllByRecursion, below-same, below-le, below-times}
 use Rattle.module_prices.specs.declared.cheapest.UnitPair.{UnitPair}
-use Rattle.plan_terms.specs.Terms.{Link, CutLine, Case, IsModule, sum_below, CertificateLine, IsCertificate, price, asked, fixed_along, given, raw_value, Violates}
-use Rattle.plan_terms.proofs.Lemmas.{priced_sum}
+use Rattle.plan_terms.{specs.Terms.{Link, CutLine, Case, IsModule, sum_below, CertificateLine, IsCertificate, price, asked, fixed_along, given, raw_value, Violates}, proofs.Lemmas.priced_sum}
 use Rattle.plan_types.specs.declared.quality.Share.{Share}
-use Rattle.master_law.specs.LeastShares.{IsLeastShare}
-use Rattle.master_law.specs.MasterPrograms.{unit_capacities, unit_costs}
-use Rattle.master_law.specs.UnitPairs.{AreUnitPairs, share_caps, share_cost}
-use Rattle.master_law.proofs.Certified.{cost_sum}
-use Rattle.master_law.proofs.Columns.{unit_at_most}
-use Rattle.master_law.proofs.Shares.{along_share, least_violates_none}
+use Rattle.master_law.{specs.LeastShares.IsLeastShare, specs.MasterPrograms.{unit_capacities, unit_costs}, specs.UnitPairs.{AreUnitPairs, share_caps, share_cost}, proofs.Certified.cost_sum, proofs.Columns.unit_at_most, proofs.Shares.{along_share, least_violates_none}}
 
 module _ (links : List Link) (pairs : List UnitPair) (share : Share) where
   -- what the units give along a cut

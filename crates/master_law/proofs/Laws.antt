@@ -2,11 +2,7 @@
 use Rattle.std.proofs.Common.{ℕ, ◌-◌, ◌*◌, ◌≤◌, ◌<◌, refl, arith, pos, ◌<ℤ◌}
 use Rattle.net_core.proofs.Library.{ints}
 use Rattle.plan_terms.specs.Terms.{fixed_along, raw_value}
-use Rattle.master_law.specs.Laws.{BasisLinesCertify, BoundRises, LeastShareViolatesNone, NoCertificateIsGreater, RawValueIsShareCost}
-use Rattle.master_law.proofs.Certified.{modules_priced, raw_is_cost, raw_is_gained}
-use Rattle.master_law.proofs.Greatest.{greatest_raw}
-use Rattle.master_law.proofs.Own.{own_raw, bound_rises}
-use Rattle.master_law.proofs.Shares.{least_violates_none}
+use Rattle.master_law.{specs.Laws.{BasisLinesCertify, BoundRises, LeastShareViolatesNone, NoCertificateIsGreater, RawValueIsShareCost}, proofs.Certified.{modules_priced, raw_is_cost, raw_is_gained}, proofs.Greatest.greatest_raw, proofs.Own.{own_raw, bound_rises}, proofs.Shares.least_violates_none}
 
 pub least_share_violates_none : LeastShareViolatesNone
 least_share_violates_none = least_violates_none

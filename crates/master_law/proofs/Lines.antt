@@ -3,8 +3,7 @@ use Rattle.std.proofs.Common.{◌≡◌, ℕ, suc, ◌-◌, ◌*◌, ◌<◌, �
 use Rattle.net_core.proofs.Library.{sum_by-cons, sum_by_push, le_of_mul-le-mul_left, mul-sub, zero-*ℤ, pos-*ℤ-pos, ints}
 use Rattle.plan_terms.specs.Terms.{MasterColumn, Metric, Link, CutLine, CertificateLine, price, asked, fixed_along, given, raw_value}
 use Rattle.simplex_law.specs.Terms.{ColumnOf}
-use Rattle.master_law.specs.BasisLines.{AreLinesOf}
-use Rattle.master_law.specs.MasterPrograms.{cut_gain, column_lengths, column_given}
+use Rattle.master_law.{specs.BasisLines.AreLinesOf, specs.MasterPrograms.{cut_gain, column_lengths, column_given}}
 
 module _ (links : List Link) (basis : ℕ → ColumnOf MasterColumn) (amounts : ℕ → ℕ) where
   pub lines_none : AreLinesOf links 0 basis amounts []

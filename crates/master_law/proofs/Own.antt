@@ -1,14 +1,10 @@
 -- the raw value of an optimum is at least that of each of its cuts alone, and so is the bound
-use Rattle.std.proofs.Common.{◌≡◌, ◌≢◌, ℕ, ◌-◌, ◌*◌, ◌<◌, ◌≤◌, ◌⊎◌, List, All, Contains, length, slice_index, ap, ◌∙◌, arith, subst, inl, inr, ⊎_elim, ℤ, pos, ◌-ℤ◌, ◌*ℤ◌, ◌<ℤ◌, ◌≤ℤ◌}
+use Rattle.std.{proofs.Common.{◌≡◌, ◌≢◌, ℕ, ◌-◌, ◌*◌, ◌<◌, ◌≤◌, ◌⊎◌, List, All, Contains, length, slice_index, ap, ◌∙◌, arith, subst, inl, inr, ⊎_elim, ℤ, pos, ◌-ℤ◌, ◌*ℤ◌, ◌<ℤ◌, ◌≤ℤ◌}, proofs.Math.Nat.{mul-le-mul_left, eq-zero_of_zero-dvd}}
 use Rattle.net_core.proofs.Library.{◌∣◌, cases_eq, cases_lt, dvd_trans, le_of_mul-le-mul_left, mul-sub, pos-*ℤ-pos, ints}
-use Rattle.std.proofs.Math.Nat.{mul-le-mul_left, eq-zero_of_zero-dvd}
 use Rattle.module_prices.specs.declared.cheapest.UnitPair.{UnitPair}
 use Rattle.plan_terms.specs.Terms.{MasterColumn, Link, CutLine, IsModule, IsBound, fixed_along, IsValid}
-use Rattle.simplex_law.specs.Terms.{int_sum, ColumnOf, IsOptimum, FitBounds}
-use Rattle.simplex_law.proofs.Lemmas.{minus_left, greatest}
-use Rattle.master_law.specs.MasterPrograms.{master_bound, master_slack, unit_capacities, unit_costs, IsCutColumn, IsMasterColumn}
-use Rattle.master_law.specs.UnitPairs.{AreUnitPairs}
-use Rattle.master_law.proofs.Columns.{column_of, is_column_of, unit_at_most}
+use Rattle.simplex_law.{specs.Terms.{int_sum, ColumnOf, IsOptimum, FitBounds}, proofs.Lemmas.{minus_left, greatest}}
+use Rattle.master_law.{specs.MasterPrograms.{master_bound, master_slack, unit_capacities, unit_costs, IsCutColumn, IsMasterColumn}, specs.UnitPairs.AreUnitPairs, proofs.Columns.{column_of, is_column_of, unit_at_most}}
 
 module _ (links : List Link) (pairs : List UnitPair) (cuts : List CutLine) (sound : All (λ l. All IsModule l.modules) links) (units : AreUnitPairs links pairs) (cut : CutLine) (held : Contains cuts cut) (num over : ℕ) (valid : IsValid links cut.lengths num over) where
   unit_low : (e : ℕ) → e < length links → num * slice_index cut.lengths e * slice_index (unit_capacities pairs) e ≤ over * slice_index (unit_costs pairs) e

@@ -3,13 +3,10 @@ use Rattle.std.proofs.Common.{◌≡◌, ◌≢◌, ℕ, ◌*◌, ◌<◌, ◌�
 use Rattle.net_core.proofs.Library.{cases_eq, cases_lt, get_or_default, All-contains, ints}
 use Rattle.checked_fraction.specs.Terms.{IsNarrow}
 use Rattle.module_prices.specs.declared.cheapest.UnitPair.{UnitPair}
-use Rattle.plan_terms.specs.Terms.{Metric, LinkId, StateId, Link, CutLine, IsModule}
-use Rattle.plan_terms.proofs.Lemmas.{lowest_positive}
+use Rattle.plan_terms.{specs.Terms.{Metric, LinkId, StateId, Link, CutLine, IsModule}, proofs.Lemmas.lowest_positive}
 use Rattle.route_law.proofs.Lemmas.{program_packing}
 use Rattle.simplex_law.specs.Terms.{IsPacking}
-use Rattle.master_law.specs.MasterPrograms.{master_bound, master_slack, cut_gain, cut_entry, unit_capacities, IsSameCut, IsCutColumn, IsMasterColumn}
-use Rattle.master_law.specs.UnitPairs.{AreUnitPairs}
-use Rattle.master_law.proofs.Columns.{pair_below}
+use Rattle.master_law.{specs.MasterPrograms.{master_bound, master_slack, cut_gain, cut_entry, unit_capacities, IsSameCut, IsCutColumn, IsMasterColumn}, specs.UnitPairs.AreUnitPairs, proofs.Columns.pair_below}
 
 abbrev link_id : ℕ → LinkId
 link_id e = record { 0 = e }

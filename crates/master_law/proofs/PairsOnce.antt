@@ -2,10 +2,8 @@
 use Rattle.std.proofs.Common.{◌≡◌, suc, inl, inr, List, [], ◌∷◌, All, length, sym, ap, ◌∙◌, arith, ext_get_or}
 use Rattle.net_core.proofs.Library.{slice_get-get_or, all_at, get_some}
 use Rattle.plan_terms.specs.Terms.{IsModule, Link, Module, IsUnitPair}
-use Rattle.module_prices.specs.declared.cheapest.UnitPair.{UnitPair}
-use Rattle.module_prices.proofs.UnitPairs.{pair_once}
-use Rattle.master_law.specs.Laws.{UnitPairsAreOne}
-use Rattle.master_law.specs.UnitPairs.{AreUnitPairs, IsPairOfLink}
+use Rattle.module_prices.{specs.declared.cheapest.UnitPair.UnitPair, proofs.UnitPairs.pair_once}
+use Rattle.master_law.{specs.Laws.UnitPairsAreOne, specs.UnitPairs.{AreUnitPairs, IsPairOfLink}}
 
 same_pair : (a b : UnitPair) → a.capacity ≡ b.capacity → a.cost ≡ b.cost → a ≡ b
 same_pair a b h k = ap (λ x. record { capacity = x; cost = a.cost }) h ∙ ap (λ x. record { capacity = b.capacity; cost = x }) k

@@ -5,12 +5,8 @@ use Rattle.module_prices.specs.declared.cheapest.UnitPair.{UnitPair}
 use Rattle.plan_terms.specs.Terms.{MasterColumn, Link, CutLine, sum_below, fixed_along, Violates}
 use Rattle.plan_types.specs.declared.quality.Share.{Share}
 use Rattle.route_law.proofs.Lemmas.{sum-pos}
-use Rattle.simplex_law.specs.Terms.{dot, ColumnOf, IsOptimum}
-use Rattle.simplex_law.proofs.Lemmas.{minus_left, sum-same}
-use Rattle.master_law.specs.LeastShares.{IsLeastShare}
-use Rattle.master_law.specs.MasterPrograms.{master_bound, cut_gain, cut_entry, unit_capacities, IsMasterColumn}
-use Rattle.master_law.specs.UnitPairs.{share_caps}
-use Rattle.master_law.proofs.Columns.{column_of, is_column_of}
+use Rattle.simplex_law.{specs.Terms.{dot, ColumnOf, IsOptimum}, proofs.Lemmas.{minus_left, sum-same}}
+use Rattle.master_law.{specs.LeastShares.IsLeastShare, specs.MasterPrograms.{master_bound, cut_gain, cut_entry, unit_capacities, IsMasterColumn}, specs.UnitPairs.share_caps, proofs.Columns.{column_of, is_column_of}}
 
 abbrev capacity_of : ℕ → Link × (UnitPair × ℕ) → ℕ
 capacity_of scale p = p.0.fixed * scale + p.1.0.capacity * p.1.1

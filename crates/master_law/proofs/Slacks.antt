@@ -3,11 +3,8 @@ use Rattle.std.proofs.Common.{ℕ, ◌≤◌, ◌<◌, ◌^◌, ◌⊎◌, List,
 use Rattle.net_core.proofs.Library.{ints}
 use Rattle.module_prices.specs.declared.cheapest.UnitPair.{UnitPair}
 use Rattle.plan_terms.specs.Terms.{MasterColumn, Metric, WideKind, Number, Link, CutLine}
-use Rattle.simplex_law.specs.Terms.{unit_vector, slack_basis, AreNames, IsWide}
-use Rattle.simplex_law.proofs.Lemmas.{start_reached, started}
-use Rattle.master_law.specs.MasterEvidence.{HoldsOfMaster, IsMasterEvidence}
-use Rattle.master_law.specs.MasterPrograms.{master_bound, master_slack, cut_gain, cut_entry, IsCutColumn}
-use Rattle.master_law.proofs.Columns.{column_of, is_column_of}
+use Rattle.simplex_law.{specs.Terms.{unit_vector, slack_basis, AreNames, IsWide}, proofs.Lemmas.{start_reached, started}}
+use Rattle.master_law.{specs.MasterEvidence.{HoldsOfMaster, IsMasterEvidence}, specs.MasterPrograms.{master_bound, master_slack, cut_gain, cut_entry, IsCutColumn}, proofs.Columns.{column_of, is_column_of}}
 
 module _ (links : List Link) (pairs : List UnitPair) (cuts : List CutLine) where
   -- what holds of the slack basis is evidence

@@ -2,11 +2,9 @@
 use Rattle.std.proofs.Common.{◌≡◌, ℕ, ◌<◌, List, length, sym, ap, ◌∙◌, ℤ, pos, ◌*ℤ◌}
 use Rattle.module_prices.specs.declared.cheapest.UnitPair.{UnitPair}
 use Rattle.plan_terms.specs.Terms.{MasterColumn, Link, CutLine}
-use Rattle.simplex_law.specs.Terms.{dot, unit_vector, ColumnOf, IsRow, IsBest}
-use Rattle.simplex_law.proofs.Lemmas.{moved_out, priced, sum-same, sum-times, sum-unit}
-use Rattle.master_law.specs.MasterEvidence.{FillRows}
-use Rattle.master_law.specs.MasterPrograms.{master_bound, IsMasterColumn}
+use Rattle.simplex_law.{specs.Terms.{dot, unit_vector, ColumnOf, IsRow, IsBest}, proofs.Lemmas.{moved_out, priced, sum-same, sum-times, sum-unit}}
 use Rattle.checked_fraction.proofs.Products.{regroup}
+use Rattle.master_law.{specs.MasterEvidence.FillRows, specs.MasterPrograms.{master_bound, IsMasterColumn}}
 
 module _ (links : List Link) (pairs : List UnitPair) (cuts : List CutLine) (basis : ℕ → ColumnOf MasterColumn) (duals : ℕ → ℤ) (duals_den : ℤ) (best : IsBest (length links) (master_bound pairs) (IsMasterColumn links pairs cuts) basis duals duals_den) where
   -- the amounts that fill the rows are those of the inverse

@@ -3,15 +3,9 @@ use Rattle.std.proofs.Common.{◌≡◌, ℕ, zero, suc, ◌*◌, ◌/◌, ◌<�
 use Rattle.net_core.proofs.Library.{◌∣◌, dvd-zero, mul-div_cancel', dvd-mul_left, *ℤ_comm, *ℤ-zero, pos-*ℤ-pos, ints, unsigned_abs-mul, positive_factors}
 use Rattle.module_prices.specs.declared.cheapest.UnitPair.{UnitPair}
 use Rattle.plan_terms.specs.Terms.{MasterColumn, Link, CutLine, CertificateLine, asked, fixed_along, given}
-use Rattle.simplex_law.specs.Terms.{int_sum, dot, ColumnOf, IsSlack, IsOptimum}
-use Rattle.simplex_law.proofs.Lemmas.{moved_out, swap_last, times_nonneg, sum-same, sum-times, sum_grows}
-use Rattle.master_law.specs.BasisLines.{AreLinesOf}
-use Rattle.master_law.specs.MasterEvidence.{FillRows, HasWideValue}
-use Rattle.master_law.specs.MasterPrograms.{master_bound, master_slack, column_given, IsCutColumn, IsMasterColumn}
-use Rattle.master_law.proofs.Certified.{given_is}
-use Rattle.master_law.proofs.Shared.{divides_common}
-use Rattle.master_law.proofs.Valued.{amount_is}
+use Rattle.simplex_law.{specs.Terms.{int_sum, dot, ColumnOf, IsSlack, IsOptimum}, proofs.Lemmas.{moved_out, swap_last, times_nonneg, sum-same, sum-times, sum_grows}}
 use Rattle.checked_fraction.proofs.Products.{regroup, cancelled, size_times}
+use Rattle.master_law.{specs.BasisLines.AreLinesOf, specs.MasterEvidence.{FillRows, HasWideValue}, specs.MasterPrograms.{master_bound, master_slack, column_given, IsCutColumn, IsMasterColumn}, proofs.Certified.given_is, proofs.Shared.divides_common, proofs.Valued.amount_is}
 
 over_zero : (n : ℕ) → pos 0 <ℤ pos n → 0 < n
 over_zero zero h = absurd (omega (arith, ints, h))

@@ -4,10 +4,7 @@ use Rattle.module_prices.specs.declared.cheapest.UnitPair.{UnitPair}
 use Rattle.plan_terms.specs.Terms.{MasterColumn, Link, CutLine, Case, IsModule, IsNetwork, IsBound, CertificateLine, IsCertificate, IsCut, asked, given, raw_value, IsOwnBound, Violates}
 use Rattle.plan_types.specs.declared.quality.Share.{Share}
 use Rattle.simplex_law.specs.Terms.{ColumnOf, IsOptimum}
-use Rattle.master_law.specs.BasisLines.{AreLinesOf}
-use Rattle.master_law.specs.LeastShares.{IsLeastShare}
-use Rattle.master_law.specs.MasterPrograms.{master_bound, IsMasterColumn}
-use Rattle.master_law.specs.UnitPairs.{AreUnitPairs, share_caps, share_cost}
+use Rattle.master_law.{specs.BasisLines.AreLinesOf, specs.LeastShares.IsLeastShare, specs.MasterPrograms.{master_bound, IsMasterColumn}, specs.UnitPairs.{AreUnitPairs, share_caps, share_cost}}
 
 -- there is one list of the unit pairs of a network's links
 abbrev pub UnitPairsAreOne : Type 0

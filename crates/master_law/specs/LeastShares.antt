@@ -1,6 +1,5 @@
 -- least shares of cuts: the cheapest shares that violate none of them
-use Rattle.std.specs.Prelude.{◌≡◌, ℕ, ℤ, ◌<◌, List, All, pos, length, slice_index}
-use Rattle.std.specs.Int.{◌∣◌}
+use Rattle.std.{specs.Prelude.{◌≡◌, ℕ, ℤ, ◌<◌, List, All, pos, length, slice_index}, specs.Int.◌∣◌}
 use Rattle.module_prices.specs.declared.cheapest.UnitPair.{UnitPair}
 use Rattle.plan_terms.specs.Terms.{MasterColumn, Link, CutLine}
 use Rattle.plan_types.specs.declared.quality.Share.{Share}

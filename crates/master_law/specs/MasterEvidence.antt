@@ -1,6 +1,5 @@
 -- evidence that a number of a master program is too wide
-use Rattle.std.specs.Prelude.{◌≡◌, ℕ, ℤ, ◌^◌, ◌≤◌, ◌<◌, ◌+ℤ◌, ◌*ℤ◌, ◌⊎◌, List, Contains, pos, length, unsigned_abs}
-use Rattle.std.specs.Int.{◌∣◌}
+use Rattle.std.{specs.Prelude.{◌≡◌, ℕ, ℤ, ◌^◌, ◌≤◌, ◌<◌, ◌+ℤ◌, ◌*ℤ◌, ◌⊎◌, List, Contains, pos, length, unsigned_abs}, specs.Int.◌∣◌}
 use Rattle.module_prices.specs.declared.cheapest.UnitPair.{UnitPair}
 use Rattle.plan_terms.specs.Terms.{MasterColumn, Metric, WideKind, Number, Value, Link, CutLine}
 use Rattle.simplex_law.specs.Terms.{int_sum, ColumnOf, slack_basis, IsBest, IsWide, IsRowOf, HoldsKind, IsReachedEvidence}

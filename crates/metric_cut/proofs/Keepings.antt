@@ -1,12 +1,8 @@
 -- lengths masked, divided and kept
-use Rattle.std.proofs.Common.{◌≡◌, ◌≢◌, ℕ, zero, suc, ◌+◌, ◌*◌, ◌/◌, ◌≤◌, ◌<◌, ◌⊎◌, List, [], ◌∷◌, All, Any, length, get_or, take, ◌++◌, slice_index, slice_get, Some, ⊎_elim, inl, inr, refl, sym, ap, ◌∙◌, subst, arith, add-one, take-suc}
-use Rattle.std.proofs.Math.ListN.{get_or-eq_default}
+use Rattle.std.{proofs.Common.{◌≡◌, ◌≢◌, ℕ, zero, suc, ◌+◌, ◌*◌, ◌/◌, ◌≤◌, ◌<◌, ◌⊎◌, List, [], ◌∷◌, All, Any, length, get_or, take, ◌++◌, slice_index, slice_get, Some, ⊎_elim, inl, inr, refl, sym, ap, ◌∙◌, subst, arith, add-one, take-suc}, proofs.Math.ListN.get_or-eq_default, proofs.lemmas.Nat.Gcd.le_of_dvd}
 use Rattle.net_core.proofs.Library.{mul-dvd-mul_right, dvd_of_mul-dvd-mul_right, eq-one_of_dvd-one, div-mul_cancel, zero-dvd, cases_eq, cases_lt, dvd-zero, get_or_default_zero, slice_get_within, IsGcd, ◌∣◌}
-use Rattle.std.proofs.lemmas.Nat.Gcd.{le_of_dvd}
-use Rattle.plan_terms.specs.Terms.{Link, Graph, Survives, IsGreatestDivisor, AreKept, AreZero, Keeps}
-use Rattle.plan_terms.proofs.Lemmas.{divisor_both, divisor_one}
-use Rattle.metric_cut.specs.Bounded.{HaveBound}
-use Rattle.metric_cut.specs.inner.Masks.{AreDivided, AreMasked}
+use Rattle.plan_terms.{specs.Terms.{Link, Graph, Survives, IsGreatestDivisor, AreKept, AreZero, Keeps}, proofs.Lemmas.{divisor_both, divisor_one}}
+use Rattle.metric_cut.{specs.Bounded.HaveBound, specs.inner.Masks.{AreDivided, AreMasked}}
 
 -- the first n lengths are masked, and the others are as they were
 pub record AreMaskedBelow (g : Graph) (n : ℕ) (lengths masked : List ℕ) : Type 0 where

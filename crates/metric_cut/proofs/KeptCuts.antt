@@ -2,9 +2,7 @@
 use Rattle.std.proofs.Common.{◌≡◌, ℕ, Bool, true, false, List, [], ◌∷◌, Option, None, Some, All, cond, length, map, refl, replicate, ◌==◌}
 use Rattle.net_core.proofs.Library.{All-cons, All-nil, pointwise}
 use Rattle.plan_terms.specs.Terms.{Graph, AreOpening, MayKeep, each_once, ArePriceLengths}
-use Rattle.metric_cut.specs.Cuts.{IsCutOf, MayKeepCut}
-use Rattle.metric_cut.specs.declared.cut.Cut.{Cut}
-use Rattle.metric_cut.specs.inner.KeptCuts.{each_cut_once}
+use Rattle.metric_cut.{specs.Cuts.{IsCutOf, MayKeepCut}, specs.declared.cut.Cut.Cut, specs.inner.KeptCuts.each_cut_once}
 
 -- the lengths of a cut
 lengths_of : Option Cut → Option (List ℕ)

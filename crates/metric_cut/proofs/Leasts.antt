@@ -2,9 +2,7 @@
 use Rattle.std.proofs.Common.{◌≡◌, ◌≢◌, ◌⊎◌, ℕ, ◌*◌, ◌≤◌, ◌<◌, List, [], ◌∷◌, All, Any, Some, get_or, length, slice_get, slice_index, ⊎_elim, refl, ◌∙◌, subst, arith, mul-pos}
 use Rattle.net_core.proofs.Library.{slice_get-get_or, slice_get_within, get_or_default}
 use Rattle.plan_terms.specs.Terms.{Link, Module, IsModule, IsLeastRatio}
-use Rattle.metric_cut.specs.declared.ratio.Ratio.{Ratio}
-use Rattle.metric_cut.specs.Bounded.{HaveBound}
-use Rattle.metric_cut.specs.inner.Ratios.{IsLeastOf, IsRatioOf, IsSmall}
+use Rattle.metric_cut.{specs.declared.ratio.Ratio.Ratio, specs.Bounded.HaveBound, specs.inner.Ratios.{IsLeastOf, IsRatioOf, IsSmall}}
 
 -- the ratio is that of a module of some link
 pub record IsRatioAmong (links : List Link) (lengths : List ℕ) (r : Ratio) : Type 0 where

@@ -1,8 +1,7 @@
 -- the lines of cuts
 use Rattle.std.proofs.Common.{◌≡◌, ◌∙◌, ℕ, ◌≤◌, length, sym, ap, subst}
 use Rattle.plan_terms.specs.Terms.{CutLine, Case, graph_in, Joins, AreKept, IsCut, IsRight}
-use Rattle.metric_cut.specs.Cuts.{IsCutOf, IsLineAt}
-use Rattle.metric_cut.specs.declared.cut.Cut.{Cut}
+use Rattle.metric_cut.{specs.Cuts.{IsCutOf, IsLineAt}, specs.declared.cut.Cut.Cut}
 
 -- the line of a cut of the case's network is a cut of the case
 pub line_is_cut : (p : Case) (s : ℕ) (cut : Cut) (line : CutLine) → IsCutOf (graph_in p s) cut → IsLineAt p.demands cut line → IsCut p line

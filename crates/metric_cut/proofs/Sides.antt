@@ -2,8 +2,7 @@
 use Rattle.std.proofs.Common.{◌≡◌, ℕ, ◌*◌, ◌<◌, List, [], ◌∷◌, Option, None, All, length, map, sum_by, zip, unwrap_or, get_or, slice_index_or, refl, sym, ap, ◌∙◌, subst, arith}
 use Rattle.net_core.proofs.Library.{get_or-map, length-map, sum_by-cons, get_or_from_slice_get, slice_get_within}
 use Rattle.plan_terms.specs.Terms.{IsDemand, Demand, IsRight, IsDistance}
-use Rattle.short_paths.specs.DistanceTables.{AreAllDistances, distance_at}
-use Rattle.short_paths.specs.declared.distance_table.DistanceTable.{DistanceTable}
+use Rattle.short_paths.{specs.DistanceTables.{AreAllDistances, distance_at}, specs.declared.distance_table.DistanceTable.DistanceTable}
 use Rattle.metric_cut.specs.inner.Rights.{part_of}
 
 -- the distance of a demand's ends

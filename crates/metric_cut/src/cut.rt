@@ -1,8 +1,6 @@
 ghost use Rattle.std.specs.Prelude.{◌≡◌, ◌+◌, ◌*◌, ◌≤◌, ◌<◌, ◌^◌, ◌↔◌, None, Ok, IfOk, IsErrOf, length, sum_by};
 ghost use Rattle.plan_terms.specs.Terms.{AreDemands, Graph, Joins, graph, graph_of, IsRight, AreZero, Keeps, IsDistance};
-ghost use Rattle.metric_cut.specs.Bounded.{HaveBound};
-ghost use Rattle.metric_cut.specs.Cuts.{IsCutOf, IsLineAt, MayKeepCut};
-ghost use Rattle.metric_cut.specs.inner.Rights.{part_of};
+ghost use Rattle.metric_cut.{specs.Bounded.HaveBound, specs.Cuts.{IsCutOf, IsLineAt, MayKeepCut}, specs.inner.Rights.part_of};
 
 use crate::kept_lengths::keep;
 use net_core::{

@@ -1,8 +1,6 @@
-ghost use Rattle.std.specs.Prelude.{◌≡◌, ◌+◌, ◌<◌, ◌==◌, All, IfOk, [], ◌∷◌, cond, length, map, replicate};
-ghost use Rattle.std.specs.Cmp.Lexicographic.{pointwise};
+ghost use Rattle.std.{specs.Prelude.{◌≡◌, ◌+◌, ◌<◌, ◌==◌, All, IfOk, [], ◌∷◌, cond, length, map, replicate}, specs.Cmp.Lexicographic.pointwise};
 ghost use Rattle.plan_terms.specs.Terms.{graph, graph_of, AreOpening};
-ghost use Rattle.metric_cut.specs.Cuts.{IsCutOf, MayKeepCut};
-ghost use Rattle.metric_cut.specs.inner.KeptCuts.{MayKeepPrices, each_cut_once};
+ghost use Rattle.metric_cut.{specs.Cuts.{IsCutOf, MayKeepCut}, specs.inner.KeptCuts.{MayKeepPrices, each_cut_once}};
 
 use crate::cut::Cut;
 use module_prices::price_lengths;

@@ -1,7 +1,6 @@
 ghost use Rattle.std.specs.Prelude.{◌≡◌, ℕ, ◌*◌, ◌≤◌, ◌<◌, ◌^◌, ◌⊎◌, All, Any};
 ghost use Rattle.plan_terms.specs.Terms.{IsModule, IsLeastRatio};
-ghost use Rattle.metric_cut.specs.Bounded.{HaveBound};
-ghost use Rattle.metric_cut.specs.inner.Ratios.{IsLeastOf, IsNoGreater, IsRatioOf, IsSmall};
+ghost use Rattle.metric_cut.{specs.Bounded.HaveBound, specs.inner.Ratios.{IsLeastOf, IsNoGreater, IsRatioOf, IsSmall}};
 
 use net_core::{Link, Module};
 

@@ -1,22 +1,9 @@
 -- The reading of a failure list takes exactly the texts of failure lists.
 use Rattle.std.proofs.Common.{◌≡◌, ◌≢◌, ℕ, ◌<◌, ◌≤◌, Bool, true, false, cond, List, [], ◌∷◌, ◌++◌, length, get_or, All, AllPairs, Result, Ok, Err, IfOk, IfErr, refl, sym, ap, subst, ◌∙◌, append-nil, flat_map, codes}
-use Rattle.net_core.proofs.Library.{slice_get-get_or, same_is}
-use Rattle.net_core.specs.Terms.{IsNetwork, AreStates, are_same, link_name}
-use Rattle.net_core.specs.declared.ids.LinkId.{LinkId}
-use Rattle.net_core.specs.declared.network.Link.{Link}
-use Rattle.net_core.specs.declared.states.Listed.{Listed}
-use Rattle.net_core.specs.declared.states.States.{States}
+use Rattle.net_core.{proofs.Library.{slice_get-get_or, same_is}, specs.Terms.{IsNetwork, AreStates, are_same, link_name}, specs.declared.ids.LinkId.LinkId, specs.declared.network.Link.Link, specs.declared.states.Listed.Listed, specs.declared.states.States.States}
 use Rattle.snd_tokens.specs.Terms.{first_line, trimmed, Text, EndAt}
-use Rattle.text_kit.specs.Terms.{AnswersAs, ReadsAllAs, IsNotTooEarly, body, ComeAfter, Item, Verbatim, Opening, Closing, word_at, Parenthesis, list_at, no_fault, not_empty}
-use Rattle.text_kit.specs.declared.refusal.Refusal.{Refusal}
-use Rattle.text_kit.proofs.Lemmas.{all_after, after_all, after_as, after_both, IsNew, are_new, lawful_new_name, lawful_place, new_are, answer_found, answer_only, answer_first, file_read, AnyText, IsEnd, Lawful, lawful_as, lawful_give, lawful_list, lawful_open, lawful_some, lawful_then, lawful_whole, lawful_word, IsOnline, TakesSome, online_give, online_list, online_open, online_then, online_whole, online_word, takes_some}
-use Rattle.model_reader.specs.declared.failures.FailureList.{FailureList}
-use Rattle.model_reader.specs.declared.failures.FailureList.TheVariants.{OneByOne, EverySingleLink}
-use Rattle.model_reader.specs.declared.failures.FailuresKind.{FailuresKind}
-use Rattle.model_reader.specs.declared.failures.FailuresKind.TheVariants.{Header, Section, Token, Ended, LimitName, UnknownLink, DoubleState, LimitStates}
-use Rattle.model_reader.specs.Failures.{IsListInForm, IsShort, SpellsFailures, failures_header, list_items, state_items, states_of}
-use Rattle.model_reader.specs.FailuresReading.{after_word, failure_list_at, failures_at, failures_of, failing_link_at, is_list, links_at, state_at}
-use Rattle.model_reader.proofs.FailureSingles.{network_differs}
+use Rattle.text_kit.{specs.Terms.{AnswersAs, ReadsAllAs, IsNotTooEarly, body, ComeAfter, Item, Verbatim, Opening, Closing, word_at, Parenthesis, list_at, no_fault, not_empty}, specs.declared.refusal.Refusal.Refusal, proofs.Lemmas.{all_after, after_all, after_as, after_both, IsNew, are_new, lawful_new_name, lawful_place, new_are, answer_found, answer_only, answer_first, file_read, AnyText, IsEnd, Lawful, lawful_as, lawful_give, lawful_list, lawful_open, lawful_some, lawful_then, lawful_whole, lawful_word, IsOnline, TakesSome, online_give, online_list, online_open, online_then, online_whole, online_word, takes_some}}
+use Rattle.model_reader.{specs.declared.failures.FailureList.FailureList, specs.declared.failures.FailureList.TheVariants.{OneByOne, EverySingleLink}, specs.declared.failures.FailuresKind.FailuresKind, specs.declared.failures.FailuresKind.TheVariants.{Header, Section, Token, Ended, LimitName, UnknownLink, DoubleState, LimitStates}, specs.Failures.{IsListInForm, IsShort, SpellsFailures, failures_header, list_items, state_items, states_of}, specs.FailuresReading.{after_word, failure_list_at, failures_at, failures_of, failing_link_at, is_list, links_at, state_at}, proofs.FailureSingles.network_differs}
 
 -- ---- links by name
 

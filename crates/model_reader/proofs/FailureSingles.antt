@@ -1,11 +1,6 @@
 -- Each link alone as a state.
 use Rattle.std.proofs.Common.{◌≡◌, ◌≢◌, ℕ, zero, suc, ◌+◌, ◌<◌, ◌≤◌, List, [], ◌∷◌, ◌++◌, length, get_or, take, All, AllPairs, Option, None, Some, refl, sym, ap, subst, ◌∙◌, arith, add-one, take-suc, length-take}
-use Rattle.net_core.proofs.Library.{∥∥₁_elim, All-cons, All-nil, states_accepted, few_links}
-use Rattle.net_core.specs.declared.ids.LinkId.{LinkId}
-use Rattle.net_core.specs.declared.network.Link.{Link}
-use Rattle.net_core.specs.declared.states.Listed.{Listed}
-use Rattle.net_core.specs.declared.states.StatesFault.{StatesFault}
-use Rattle.net_core.specs.Terms.{IsNetwork, AreStates, single_state, states_fault}
+use Rattle.net_core.{proofs.Library.{∥∥₁_elim, All-cons, All-nil, states_accepted, few_links}, specs.declared.ids.LinkId.LinkId, specs.declared.network.Link.Link, specs.declared.states.Listed.Listed, specs.declared.states.StatesFault.StatesFault, specs.Terms.{IsNetwork, AreStates, single_state, states_fault}}
 use Rattle.model_reader.specs.Failures.{single_states, singles_from}
 
 singles_push : (at : ℕ) (ls : List Link) (l : Link) → singles_from at (ls ++ l ∷ []) ≡ singles_from at ls ++ single_state (at + length ls) l.name ∷ []

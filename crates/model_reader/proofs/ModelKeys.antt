@@ -1,18 +1,9 @@
 -- Keys and their words.
-use Rattle.std.proofs.Common.{◌≡◌, ℕ, ◌<◌, Bool, true, false, cond, not, List, [], ◌∷◌, get_or, Option, None, Some, Result, Ok, Err, refl, sym, ap, subst, ◌∙◌, arith, ⊎_elim, option_map}
-use Rattle.net_core.proofs.Library.{list_any, and_parts, cases_Bool, none_passes, not_true, same_is}
-use Rattle.std.proofs.lemmas.List.Folds.{Any-from_list_any, list_any-from_Any}
-use Rattle.net_core.specs.Terms.{are_same}
-use Rattle.text_kit.specs.Terms.{ComeAfter}
-use Rattle.text_kit.proofs.Lemmas.{after_differ, differ_after, is_same}
-use Rattle.model_reader.specs.declared.model.ModelKey.{ModelKey}
-use Rattle.model_reader.specs.declared.model.ModelKey.TheVariants.{Demand, Link, LinkCapacity, FixedCharge, Routing, AdmissiblePath, HopLimit, Survivability}
-use Rattle.model_reader.specs.declared.model.ModelKind.{ModelKind}
+use Rattle.std.{proofs.Common.{◌≡◌, ℕ, ◌<◌, Bool, true, false, cond, not, List, [], ◌∷◌, get_or, Option, None, Some, Result, Ok, Err, refl, sym, ap, subst, ◌∙◌, arith, ⊎_elim, option_map}, proofs.lemmas.List.Folds.{Any-from_list_any, list_any-from_Any}}
+use Rattle.net_core.{proofs.Library.{list_any, and_parts, cases_Bool, none_passes, not_true, same_is}, specs.Terms.are_same}
+use Rattle.text_kit.{specs.Terms.ComeAfter, proofs.Lemmas.{after_differ, differ_after, is_same}}
+use Rattle.model_reader.{specs.declared.model.ModelKey.ModelKey, specs.declared.model.ModelKey.TheVariants.{Demand, Link, LinkCapacity, FixedCharge, Routing, AdmissiblePath, HopLimit, Survivability}, specs.declared.model.ModelKind.ModelKind, specs.declared.model.Setting.Setting, specs.declared.model.Setting.TheVariants.{Charge, Plain, Reconfiguration}, specs.Models.{IsEachOnce, key_of, key_word, plain_word, value_word}, specs.ModelReading.{all_keys, first_key, has_key, is_setting, key_after, missing, new_key, value_of}}
 use Rattle.model_reader.specs.declared.model.ModelKind.TheVariants as kinds
-use Rattle.model_reader.specs.declared.model.Setting.{Setting}
-use Rattle.model_reader.specs.declared.model.Setting.TheVariants.{Charge, Plain, Reconfiguration}
-use Rattle.model_reader.specs.Models.{IsEachOnce, key_of, key_word, plain_word, value_word}
-use Rattle.model_reader.specs.ModelReading.{all_keys, first_key, has_key, is_setting, key_after, missing, new_key, value_of}
 
 abbrev key_of_word : List ℕ → Option ModelKey
 key_of_word w = first_key (λ k. are_same (key_word k) w) all_keys

@@ -2,17 +2,8 @@
 use Rattle.std.proofs.Common.{◌≡◌, ℕ, true, false, List, [], ◌∷◌, Result, Ok, IfOk, IfErr, refl, append-nil, codes, flat_map}
 use Rattle.net_core.specs.Terms.{are_same}
 use Rattle.snd_tokens.specs.Terms.{first_line, trimmed, Text, EndAt}
-use Rattle.text_kit.specs.Terms.{AnswersAs, ReadsAllAs, IsNotTooEarly, body, Verbatim, word_at, expected, TheEnd, list_at}
-use Rattle.text_kit.specs.declared.refusal.Refusal.{Refusal}
-use Rattle.text_kit.proofs.Lemmas.{answer_found, answer_only, answer_first, file_read, AnyText, IsEnd, Lawful, lawful_as, lawful_key, lawful_list, lawful_then, lawful_word, IsOnline, TakesSome, online_list, online_then, online_word, takes_some}
-use Rattle.model_reader.specs.declared.model.Model.{Model}
-use Rattle.model_reader.specs.declared.model.ModelKey.{ModelKey}
-use Rattle.model_reader.specs.declared.model.ModelKind.{ModelKind}
-use Rattle.model_reader.specs.declared.model.ModelKind.TheVariants.{Header, Token, Ended}
-use Rattle.model_reader.specs.declared.model.Setting.{Setting}
-use Rattle.model_reader.specs.Models.{IsEachOnce, SpellsModel, model_header, key_of, key_word, model_of_settings, setting_items, value_word}
-use Rattle.model_reader.specs.ModelReading.{has_key, key_after, missing, model_of, setting_at, value_of}
-use Rattle.model_reader.proofs.ModelKeys.{complete, each_once, key_after_again, key_takes, value_again, value_takes}
+use Rattle.text_kit.{specs.Terms.{AnswersAs, ReadsAllAs, IsNotTooEarly, body, Verbatim, word_at, expected, TheEnd, list_at}, specs.declared.refusal.Refusal.Refusal, proofs.Lemmas.{answer_found, answer_only, answer_first, file_read, AnyText, IsEnd, Lawful, lawful_as, lawful_key, lawful_list, lawful_then, lawful_word, IsOnline, TakesSome, online_list, online_then, online_word, takes_some}}
+use Rattle.model_reader.{specs.declared.model.Model.Model, specs.declared.model.ModelKey.ModelKey, specs.declared.model.ModelKind.ModelKind, specs.declared.model.ModelKind.TheVariants.{Header, Token, Ended}, specs.declared.model.Setting.Setting, specs.Models.{IsEachOnce, SpellsModel, model_header, key_of, key_word, model_of_settings, setting_items, value_word}, specs.ModelReading.{has_key, key_after, missing, model_of, setting_at, value_of}, proofs.ModelKeys.{complete, each_once, key_after_again, key_takes, value_again, value_takes}}
 
 key_lawful : (sofar : List Setting) → Lawful (word_at Token Ended (key_after sofar)) (λ k. Verbatim (key_word k) ∷ []) (λ k. has_key sofar k ≡ false) AnyText
 key_lawful sofar = lawful_word Token Ended (key_after sofar) (λ k. Verbatim (key_word k)) (λ k. has_key sofar k ≡ false) (λ k. tt) (key_takes sofar) (λ w k new is. key_after_again sofar w k new is)

@@ -1,11 +1,8 @@
 -- the grammar of a failure list: named states, each with the links that fail; or the word for every single-link failure
 use Rattle.std.specs.Prelude.{ℕ, ◌+◌, ◌≤◌, List, [], ◌∷◌, ◌++◌, length, All, flat_map, codes}
-use Rattle.net_core.specs.declared.network.Link.{Link}
-use Rattle.net_core.specs.declared.states.Listed.{Listed}
-use Rattle.net_core.specs.Terms.{AreStates, link_name, single_state}
-use Rattle.model_reader.specs.declared.failures.FailureList.{FailureList}
-use Rattle.model_reader.specs.declared.failures.FailureList.TheVariants.{OneByOne, EverySingleLink}
+use Rattle.net_core.{specs.declared.network.Link.Link, specs.declared.states.Listed.Listed, specs.Terms.{AreStates, link_name, single_state}}
 use Rattle.text_kit.specs.Terms.{SpellsAs, Item, Verbatim, Opening, Closing}
+use Rattle.model_reader.{specs.declared.failures.FailureList.FailureList, specs.declared.failures.FailureList.TheVariants.{OneByOne, EverySingleLink}}
 
 -- the first line of a failure list
 abbrev pub failures_header : List ℕ

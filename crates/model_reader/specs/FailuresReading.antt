@@ -1,15 +1,8 @@
 -- Reading a failure list from left to right: the tests of its words, and their order.
 use Rattle.std.specs.Prelude.{ℕ, Bool, true, false, if◌then◌else◌, List, [], Result, Ok, Err, codes}
-use Rattle.net_core.specs.Terms.{are_same}
-use Rattle.net_core.specs.declared.ids.LinkId.{LinkId}
-use Rattle.net_core.specs.declared.network.Link.{Link}
-use Rattle.net_core.specs.declared.states.Listed.{Listed}
+use Rattle.net_core.{specs.Terms.are_same, specs.declared.ids.LinkId.LinkId, specs.declared.network.Link.Link, specs.declared.states.Listed.Listed}
 use Rattle.text_kit.specs.Terms.{file_at, named_place, new_name, Read, Reading, ◌>>=◌, give, word_at, open_at, Parenthesis, list_at, mapped, no_fault, not_empty, whole_at}
-use Rattle.model_reader.specs.declared.failures.FailuresKind.{FailuresKind}
-use Rattle.model_reader.specs.declared.failures.FailuresKind.TheVariants.{Header, Section, Token, Ended, LimitName, UnknownLink, DoubleState, LimitStates}
-use Rattle.model_reader.specs.declared.failures.FailureList.{FailureList}
-use Rattle.model_reader.specs.declared.failures.FailureList.TheVariants.{OneByOne, EverySingleLink}
-use Rattle.model_reader.specs.Failures.{failures_header, states_of}
+use Rattle.model_reader.{specs.declared.failures.FailuresKind.FailuresKind, specs.declared.failures.FailuresKind.TheVariants.{Header, Section, Token, Ended, LimitName, UnknownLink, DoubleState, LimitStates}, specs.declared.failures.FailureList.FailureList, specs.declared.failures.FailureList.TheVariants.{OneByOne, EverySingleLink}, specs.Failures.{failures_header, states_of}}
 
 -- a link by its name
 abbrev pub failing_link_at : List Link → Reading FailuresKind LinkId

@@ -1,10 +1,8 @@
 -- how the kinds of faults are written
 use Rattle.std.specs.Prelude.{ℕ, List, ◌++◌, codes}
-use Rattle.model_reader.specs.declared.failures.FailuresKind.{FailuresKind}
+use Rattle.model_reader.{specs.declared.failures.FailuresKind.FailuresKind, specs.declared.model.ModelKind.ModelKind, specs.Models.key_word}
 use Rattle.model_reader.specs.declared.failures.FailuresKind.TheVariants as failures
-use Rattle.model_reader.specs.declared.model.ModelKind.{ModelKind}
 use Rattle.model_reader.specs.declared.model.ModelKind.TheVariants as models
-use Rattle.model_reader.specs.Models.{key_word}
 
 -- the word of each fault of a model file
 abbrev pub model_word : ModelKind → List ℕ

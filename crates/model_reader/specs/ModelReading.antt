@@ -2,14 +2,9 @@
 use Rattle.std.specs.Prelude.{ℕ, Bool, cond, not, ◌&&◌, if◌then◌else◌, List, [], ◌∷◌, Option, Some, None, option_map, Result, Ok, Err, codes}
 use Rattle.net_core.specs.Terms.{are_same, is_named}
 use Rattle.text_kit.specs.Terms.{file_at, Read, Reading, ◌>>=◌, word_at, expected, TheEnd, list_at, mapped}
-use Rattle.model_reader.specs.declared.model.Model.{Model}
-use Rattle.model_reader.specs.declared.model.ModelKey.{ModelKey}
+use Rattle.model_reader.{specs.declared.model.Model.Model, specs.declared.model.ModelKey.ModelKey, specs.declared.model.ModelKind.ModelKind, specs.declared.model.Setting.Setting, specs.declared.model.Setting.TheVariants.{Charge, Plain, Reconfiguration}, specs.Models.{model_header, key_of, key_word, model_of_settings, plain_word, value_word}}
 use Rattle.model_reader.specs.declared.model.ModelKey.TheVariants as aspects
-use Rattle.model_reader.specs.declared.model.ModelKind.{ModelKind}
 use Rattle.model_reader.specs.declared.model.ModelKind.TheVariants as kinds
-use Rattle.model_reader.specs.declared.model.Setting.{Setting}
-use Rattle.model_reader.specs.declared.model.Setting.TheVariants.{Charge, Plain, Reconfiguration}
-use Rattle.model_reader.specs.Models.{model_header, key_of, key_word, model_of_settings, plain_word, value_word}
 
 -- the keys in the order in which the first missing one is told
 abbrev pub all_keys : List ModelKey

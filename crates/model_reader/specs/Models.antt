@@ -1,12 +1,7 @@
 -- the grammar of a model file: eight keys, each with a value
-use Rattle.std.specs.Prelude.{◌≡◌, ◌≢◌, ℕ, Bool, true, false, List, [], ◌∷◌, AllPairs, Any, flat_map, codes}
-use Rattle.std.specs.List.{list_any}
+use Rattle.std.{specs.Prelude.{◌≡◌, ◌≢◌, ℕ, Bool, true, false, List, [], ◌∷◌, AllPairs, Any, flat_map, codes}, specs.List.list_any}
 use Rattle.text_kit.specs.Terms.{SpellsAs, Item, Verbatim}
-use Rattle.model_reader.specs.declared.model.Model.{Model}
-use Rattle.model_reader.specs.declared.model.ModelKey.{ModelKey}
-use Rattle.model_reader.specs.declared.model.ModelKey.TheVariants.{Demand, Link, LinkCapacity, FixedCharge, Routing, AdmissiblePath, HopLimit, Survivability}
-use Rattle.model_reader.specs.declared.model.Setting.{Setting}
-use Rattle.model_reader.specs.declared.model.Setting.TheVariants.{Charge, Plain, Reconfiguration}
+use Rattle.model_reader.{specs.declared.model.Model.Model, specs.declared.model.ModelKey.ModelKey, specs.declared.model.ModelKey.TheVariants.{Demand, Link, LinkCapacity, FixedCharge, Routing, AdmissiblePath, HopLimit, Survivability}, specs.declared.model.Setting.Setting, specs.declared.model.Setting.TheVariants.{Charge, Plain, Reconfiguration}}
 
 -- the first line of a model file
 abbrev pub model_header : List ℕ

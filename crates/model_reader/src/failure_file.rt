@@ -2,8 +2,7 @@ ghost use Rattle.std.specs.Prelude.{◌≡◌, ◌≤◌, length, List, IfOk, If
 ghost use Rattle.net_core.specs.declared.states.Listed.{Listed as State};
 ghost use Rattle.snd_tokens.specs.Terms.{left};
 ghost use Rattle.text_kit.specs.Terms.{AnswersAs, ReadsAllAs, ReadsAs, IsNotTooEarly, word_at};
-ghost use Rattle.model_reader.specs.Failures.{IsListInForm, SpellsFailures, states_of};
-ghost use Rattle.model_reader.specs.FailuresReading.{failure_list_at, failures_at, failures_of, is_list};
+ghost use Rattle.model_reader.{specs.Failures.{IsListInForm, SpellsFailures, states_of}, specs.FailuresReading.{failure_list_at, failures_at, failures_of, is_list}};
 
 use crate::failure_list::states;
 use crate::failure_singles::single_links;

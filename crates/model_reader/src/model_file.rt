@@ -1,11 +1,8 @@
-ghost use Rattle.std.specs.Prelude.{◌≡◌, ◌<◌, [], IsTrue, IfOk, IfErr, Ok, not};
-ghost use Rattle.std.specs.List.{list_any};
+ghost use Rattle.std.{specs.Prelude.{◌≡◌, ◌<◌, [], IsTrue, IfOk, IfErr, Ok, not}, specs.List.list_any};
 ghost use Rattle.net_core.specs.Terms.{are_same};
 ghost use Rattle.snd_tokens.specs.Terms.{left, size};
 ghost use Rattle.text_kit.specs.Terms.{AnswersAs, ReadsAllAs, ReadsAs, TakesElement, IsNotTooEarly, TheEnd, list_at, word_at};
-ghost use Rattle.model_reader.specs.declared.model.Model.{Model as Mod};
-ghost use Rattle.model_reader.specs.Models.{SpellsModel, asks_to_charge, asks_to_reconfigure, key_of, key_word, model_of_settings, plain_word, value_word};
-ghost use Rattle.model_reader.specs.ModelReading.{all_keys, first_key, has_key, is_setting, key_after, missing, model_of, setting_at, value_of};
+ghost use Rattle.model_reader.{specs.declared.model.Model.{Model as Mod}, specs.Models.{SpellsModel, asks_to_charge, asks_to_reconfigure, key_of, key_word, model_of_settings, plain_word, value_word}, specs.ModelReading.{all_keys, first_key, has_key, is_setting, key_after, missing, model_of, setting_at, value_of}};
 
 use crate::model::{Model, ModelKey, ModelKind, ModelRefusal, Setting};
 use net_core::List;

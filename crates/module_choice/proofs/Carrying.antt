@@ -1,10 +1,8 @@
 -- from the routings of states to what the links carry
 use Rattle.std.proofs.Common.{◌≡◌, ℕ, zero, suc, ◌+◌, ◌-◌, ◌*◌, ◌^◌, ◌<◌, ◌≤◌, ◌==◌, ◌||◌, ◌⊎◌, Bool, true, false, cond, if◌then◌else◌, List, [], ◌∷◌, ◌++◌, All, AllPairs, Some, get_or, inl, inr, length, length-append, max, refl, sym, ◌∙◌, ap, subst, arith, slice_get, sum_by, ⊎_elim, eqb, eqb-true}
 use Rattle.net_core.proofs.Library.{sum_by-cons, cases_Bool, cases_lt, false≢true, get_or_from_slice_get, slice_get_within, ∥∥₁_elim, props}
-use Rattle.plan_terms.specs.Terms.{AreDemands, IsDemand, IsLink, IsNetwork, names_link, Demand, LinkId, Link, Flow, Routing, Case, graph_in, Graph, Joins, Survives, IsLeastFlow, IsLeastRouting, peak, IsFlow, load, Leads}
-use Rattle.plan_terms.proofs.Lemmas.{DistinctLinks, path_links_differ, path_links_known, path_few, joins_within}
-use Rattle.module_choice.specs.inner.Routes.{AreRouted, times, weight}
-use Rattle.module_choice.proofs.Numbers.{one_if}
+use Rattle.plan_terms.{specs.Terms.{AreDemands, IsDemand, IsLink, IsNetwork, names_link, Demand, LinkId, Link, Flow, Routing, Case, graph_in, Graph, Joins, Survives, IsLeastFlow, IsLeastRouting, peak, IsFlow, load, Leads}, proofs.Lemmas.{DistinctLinks, path_links_differ, path_links_known, path_few, joins_within}}
+use Rattle.module_choice.{specs.inner.Routes.{AreRouted, times, weight}, proofs.Numbers.one_if}
 
 -- a flow along a least path is a flow
 least_flow : (joins : ℕ → ℕ → ℕ → Type 0) (lengths : List ℕ) (demands : List Demand) (f : Flow) → IsLeastFlow joins lengths demands f → IsFlow joins demands f

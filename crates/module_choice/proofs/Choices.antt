@@ -2,10 +2,7 @@
 use Rattle.std.proofs.Common.{◌≡◌, ℕ, zero, suc, ◌+◌, ◌*◌, ◌^◌, ◌<◌, ◌≤◌, true, false, cond, nat_lt, List, [], ◌∷◌, All, Err, IfOk, Ok, Result, Some, get_or, set, replicate, length, refl, sym, ◌∙◌, ap, subst, arith, sum_by, count_by, zip, slice_get, ⊎_elim, inr, get_or-set_same, get_or-set_other, length-set, lt-ltb, mul-le-mul_left}
 use Rattle.net_core.proofs.Library.{sum_by-cons, get_or-replicate, length-replicate, cases_eq, cases_lt, slice_get_within, all_at}
 use Rattle.plan_terms.specs.Terms.{Module, IsModule, modules_cost, AreOfOneKind, IsFewSteps, Reaches}
-use Rattle.module_choice.specs.inner.Cheapest.{AreCheapest}
-use Rattle.module_choice.specs.inner.Kinds.{IsBestKind}
-use Rattle.module_choice.specs.declared.covers.Kind.{Kind}
-use Rattle.module_choice.proofs.Numbers.{one_if}
+use Rattle.module_choice.{specs.inner.Cheapest.AreCheapest, specs.inner.Kinds.IsBestKind, specs.declared.covers.Kind.Kind, proofs.Numbers.one_if}
 
 -- what follows from an answer
 pub answers_also : {A E : Type 0} {P Q : A → Type 0} (answer : Result A E) → ((x : A) → P x → Q x) → IfOk answer P → IfOk answer Q

@@ -2,8 +2,7 @@
 use Rattle.std.proofs.Common.{◌≡◌, ◌≢◌, ℕ, zero, suc, ◌+◌, ◌-◌, ◌*◌, ◌^◌, ◌<◌, ◌≤◌, ◌==◌, cond, if◌then◌else◌, List, [], ◌∷◌, All, AllPairs, Any, Some, get_or, length, refl, sym, ◌∙◌, ap, subst, arith, slice_get, slice_index, ⊎_elim, eq-eqb, ne_eqb}
 use Rattle.net_core.proofs.Library.{sum_by-cons, All-cons, All-nil, cases_eq, cases_lt, slice_get_within, all_at, get_some}
 use Rattle.plan_terms.specs.Terms.{IsLink, IsModule, IsNetwork, Demand, Link, Flow, Routing, Case, graph_in, Joins, AreCounts, AreWithinLimits, capacities, modules_capacity, total_cost, IsFallback, IsLeastRouting, peak, raised, Carries, load, sent, CoverLoads, Covers, ArePriceLengths}
-use Rattle.module_choice.specs.inner.Routes.{AreCovered, AreRouted}
-use Rattle.module_choice.proofs.Carrying.{least_flows, load_none, network_links, peak_above}
+use Rattle.module_choice.{specs.inner.Routes.{AreCovered, AreRouted}, proofs.Carrying.{least_flows, load_none, network_links, peak_above}}
 
 -- price lengths plus 1 are positive
 pub raised_positive : (prices : List ℕ) (e : ℕ) → e < length prices → 0 < get_or (raised prices) e 0

@@ -2,10 +2,7 @@
 use Rattle.std.proofs.Common.{◌≡◌, ℕ, zero, suc, ◌+◌, ◌-◌, ◌*◌, ◌^◌, ◌<◌, ◌≤◌, ◌⊎◌, List, [], ◌∷◌, ◌++◌, All, Some, get_or, set, replicate, length, length-append, refl, sym, ◌∙◌, ap, subst, arith, slice_get, ⊎_elim, get_or-set_same, get_or-set_other, length-set}
 use Rattle.net_core.proofs.Library.{get_or-replicate, length-replicate, cases_eq, slice_get_within, slice_get-get_or, all_at, get_front}
 use Rattle.plan_terms.specs.Terms.{Module, IsModule, modules_capacity, modules_cost, Reaches}
-use Rattle.module_choice.specs.declared.tables.Entry.{Entry}
-use Rattle.module_choice.specs.inner.Tables.{AreLeastCosts, AreTaken, IsLeastCost, IsNextEntry, IsOneMore}
-use Rattle.module_choice.proofs.Carrying.{get_cases}
-use Rattle.module_choice.proofs.Choices.{value, value-cons, value-zeros}
+use Rattle.module_choice.{specs.declared.tables.Entry.Entry, specs.inner.Tables.{AreLeastCosts, AreTaken, IsLeastCost, IsNextEntry, IsOneMore}, proofs.Carrying.get_cases, proofs.Choices.{value, value-cons, value-zeros}}
 
 -- the sum with another count of one kind
 value-set : (f : Module → ℕ) (ms : List Module) (cs : List ℕ) (i v : ℕ) (m : Module) → slice_get ms i ≡ Some m → i < length cs → value f ms (set cs i v) + f m * get_or cs i 0 ≡ value f ms cs + f m * v

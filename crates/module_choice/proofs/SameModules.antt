@@ -1,12 +1,8 @@
 -- links with the same modules, covered from one table
-use Rattle.std.proofs.Common.{◌≡◌, ◌≢◌, ℕ, zero, suc, ◌+◌, ◌-◌, ◌<◌, ◌==◌, ◌&&◌, ◌⊎◌, ◌^◌, List, [], ◌∷◌, All, Err, IfOk, Ok, Result, Some, ap, arith, get_or, inl, inr, length, refl, set, slice_get, slice_index, subst, sym, ◌∙◌, ⊎_elim, Decides}
+use Rattle.std.{proofs.Common.{◌≡◌, ◌≢◌, ℕ, zero, suc, ◌+◌, ◌-◌, ◌<◌, ◌==◌, ◌&&◌, ◌⊎◌, ◌^◌, List, [], ◌∷◌, All, Err, IfOk, Ok, Result, Some, ap, arith, get_or, inl, inr, length, refl, set, slice_get, slice_index, subst, sym, ◌∙◌, ⊎_elim, Decides}, proofs.lemmas.Bool.Decides.Decides-like}
 use Rattle.net_core.proofs.Library.{cases_eq, get_or_default_zero, slice_get-get_or, Decides-and, Decides-eqb}
-use Rattle.std.proofs.lemmas.Bool.Decides.{Decides-like}
 use Rattle.plan_terms.specs.Terms.{Link, Module}
-use Rattle.module_choice.specs.Coverings.{CoverNeeds, IsCovered}
-use Rattle.module_choice.specs.inner.Cheapest.{AreCheapest}
-use Rattle.module_choice.specs.inner.Routes.{AlikeAreCovered, AreCovered, HasEarlier}
-use Rattle.module_choice.proofs.Setups.{cheapest_covered}
+use Rattle.module_choice.{specs.Coverings.{CoverNeeds, IsCovered}, specs.inner.Cheapest.AreCheapest, specs.inner.Routes.{AlikeAreCovered, AreCovered, HasEarlier}, proofs.Setups.cheapest_covered}
 
 -- two modules are one where their numbers are
 pub module_decides : (a b : Module) → Decides ((a.capacity == b.capacity) && (a.cost == b.cost)) (a ≡ b)

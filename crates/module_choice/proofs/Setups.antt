@@ -2,9 +2,7 @@
 use Rattle.std.proofs.Common.{◌≡◌, ℕ, zero, suc, ◌+◌, ◌<◌, ◌≤◌, ◌||◌, Bool, true, false, if◌then◌else◌, List, [], ◌∷◌, All, refl, ap, arith, ⊎_elim, lt-ltb}
 use Rattle.net_core.proofs.Library.{cases_lt, All-head, All-tail}
 use Rattle.plan_terms.specs.Terms.{Link, Module, installs, link_cost, modules_capacity, modules_cost, Covers, MayCover, Reaches}
-use Rattle.module_choice.specs.Coverings.{IsCovered, IsCovering}
-use Rattle.module_choice.specs.inner.Cheapest.{AreCheapest}
-use Rattle.module_choice.proofs.Choices.{value-cons}
+use Rattle.module_choice.{specs.Coverings.{IsCovered, IsCovering}, specs.inner.Cheapest.AreCheapest, proofs.Choices.value-cons}
 
 -- without a positive count nothing is installed
 installs_none : (cs : List ℕ) → All (λ n. n ≡ 0) cs → installs cs ≡ false

@@ -1,14 +1,8 @@
 -- capacities in steps of their greatest common divisor, and covers by a table
-use Rattle.std.proofs.Common.{◌≡◌, ◌≢◌, ℕ, zero, suc, ◌+◌, ◌*◌, ◌^◌, ◌/◌, ◌<◌, ◌≤◌, List, [], ◌∷◌, All, Some, ap, arith, inl, length, map, refl, slice_get, subst, sym, ◌∙◌, ⊎_elim}
+use Rattle.std.{proofs.Common.{◌≡◌, ◌≢◌, ℕ, zero, suc, ◌+◌, ◌*◌, ◌^◌, ◌/◌, ◌<◌, ◌≤◌, List, [], ◌∷◌, All, Some, ap, arith, inl, length, map, refl, slice_get, subst, sym, ◌∙◌, ⊎_elim}, proofs.Math.Nat.{mul-div-le, mul-le-mul_left}}
 use Rattle.net_core.proofs.Library.{◌∣◌, AllByRecursion, le_of_dvd, mul-div_cancel', cases_eq, cases_lt, All-cons, All-from_recursion, All-nil, recursion_from_All, le-div, positive_divisor}
-use Rattle.std.proofs.Math.Nat.{mul-div-le, mul-le-mul_left}
-use Rattle.plan_terms.specs.Terms.{Module, IsModule, IsGreatestDivisor, modules_capacity, modules_cost, IsFewSteps, Reaches}
-use Rattle.plan_terms.proofs.Lemmas.{divisor_limit, divisor_unique}
-use Rattle.module_choice.specs.declared.tables.Entry.{Entry}
-use Rattle.module_choice.specs.declared.tables.Table.{Table}
-use Rattle.module_choice.specs.inner.Cheapest.{AreCheapest}
-use Rattle.module_choice.specs.inner.Tables.{AreTaken, IsTable, in_units}
-use Rattle.module_choice.proofs.Choices.{fewest-capacity, value-cons}
+use Rattle.plan_terms.{specs.Terms.{Module, IsModule, IsGreatestDivisor, modules_capacity, modules_cost, IsFewSteps, Reaches}, proofs.Lemmas.{divisor_limit, divisor_unique}}
+use Rattle.module_choice.{specs.declared.tables.Entry.Entry, specs.declared.tables.Table.Table, specs.inner.Cheapest.AreCheapest, specs.inner.Tables.{AreTaken, IsTable, in_units}, proofs.Choices.{fewest-capacity, value-cons}}
 
 capacities_small : (ms : List Module) → All IsModule ms → AllByRecursion (λ x. x < 2 ^ 40) (map (λ m. m.capacity) ms)
 capacities_small [] sound = tt

@@ -2,8 +2,7 @@
 use Rattle.std.proofs.Common.{◌≡◌, ◌≢◌, ℕ, ◌+◌, ◌*◌, ◌<◌, ◌==◌, cond, List, get_or, set, length, sym, ◌∙◌, ap, subst, arith, take, ⊎_elim, get_or-set_same, get_or-set_other, eq-eqb, ne_eqb}
 use Rattle.net_core.proofs.Library.{sum_by_more, cases_eq}
 use Rattle.plan_terms.specs.Terms.{LinkId}
-use Rattle.module_choice.specs.inner.Routes.{times}
-use Rattle.module_choice.proofs.Numbers.{one_if}
+use Rattle.module_choice.{specs.inner.Routes.times, proofs.Numbers.one_if}
 
 -- one link more has been counted where it is this one
 pub times_here : (path : List LinkId) (i e : ℕ) (d : LinkId) → i < length path → (get_or path i d).0 ≡ e → times e (take (i + 1) path) ≡ times e (take i path) + 1

@@ -1,8 +1,6 @@
 ghost use Rattle.std.specs.Prelude.{◌≡◌, ℕ, ◌-◌, ◌*◌, ◌^◌, ◌<◌, ◌≤◌, ◌↔◌, [], All, IfOk, OnOk, IsTrue, List as Seq, Some, length, slice_get, slice_index};
 ghost use Rattle.plan_terms.specs.Terms.{IsModule, Link as L, Module as M};
-ghost use Rattle.module_choice.specs.Coverings.{CoverNeeds};
-ghost use Rattle.module_choice.specs.inner.Routes.{AlikeAreCovered, AreCovered, HasEarlier};
-ghost use Rattle.module_choice.specs.inner.Tables.{Answers, IsTable};
+ghost use Rattle.module_choice.{specs.Coverings.CoverNeeds, specs.inner.Routes.{AlikeAreCovered, AreCovered, HasEarlier}, specs.inner.Tables.{Answers, IsTable}};
 
 use crate::covers::cover_by;
 use crate::tables::{MOST_STEPS, Table, capacity_divisor, table_for};

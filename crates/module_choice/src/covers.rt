@@ -1,9 +1,6 @@
 ghost use Rattle.std.specs.Prelude.{◌≡◌, ℕ, ◌*◌, ◌^◌, ◌<◌, ◌≤◌, All, IfOk, [], length, replicate, slice_set};
 ghost use Rattle.plan_terms.specs.Terms.{IsModule, IsFewSteps};
-ghost use Rattle.module_choice.specs.Coverings.{IsCovering};
-ghost use Rattle.module_choice.specs.inner.Cheapest.{AreCheapest};
-ghost use Rattle.module_choice.specs.inner.Kinds.{IsBestKind};
-ghost use Rattle.module_choice.specs.inner.Tables.{Answers, IsTable};
+ghost use Rattle.module_choice.{specs.Coverings.IsCovering, specs.inner.Cheapest.AreCheapest, specs.inner.Kinds.IsBestKind, specs.inner.Tables.{Answers, IsTable}};
 
 use crate::tables::{MOST_STEPS, Table, capacity_divisor, counts_for, few_steps, table_for};
 use crate::totals::link_cost;

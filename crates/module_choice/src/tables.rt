@@ -1,8 +1,6 @@
-ghost use Rattle.std.specs.Prelude.{◌≡◌, ℕ, ◌+◌, ◌-◌, ◌*◌, ◌^◌, ◌<◌, ◌≤◌, ◌⊎◌, All, IfOk, Some, length, map, replicate, slice_get};
-ghost use Rattle.std.specs.Int.{◌∣◌};
+ghost use Rattle.std.{specs.Prelude.{◌≡◌, ℕ, ◌+◌, ◌-◌, ◌*◌, ◌^◌, ◌<◌, ◌≤◌, ◌⊎◌, All, IfOk, Some, length, map, replicate, slice_get}, specs.Int.◌∣◌};
 ghost use Rattle.plan_terms.specs.Terms.{IsModule, IsGreatestDivisor};
-ghost use Rattle.module_choice.specs.declared.tables.Entry.{Entry as E};
-ghost use Rattle.module_choice.specs.inner.Tables.{Answers, AreLeastCosts, AreTaken, IsNextEntry, IsTable, in_units};
+ghost use Rattle.module_choice.{specs.declared.tables.Entry.{Entry as E}, specs.inner.Tables.{Answers, AreLeastCosts, AreTaken, IsNextEntry, IsTable, in_units}};
 
 use checked_fraction::gcd;
 use net_core::{List, Module, NoMemory};

@@ -1,10 +1,7 @@
 -- common divisors of costs and setups, module by module and link by link, and quotients that are rounded up
-use Rattle.std.proofs.Common.{◌≡◌, ℕ, ◌+◌, ◌*◌, ◌≤◌, ◌<◌, List, [], ◌∷◌, ◌++◌, length, get_or, map, take, sym, ap, ◌∙◌, subst, arith, append-nil, add-one, take-suc, mul-le-mul_right}
+use Rattle.std.{proofs.Common.{◌≡◌, ℕ, ◌+◌, ◌*◌, ◌≤◌, ◌<◌, List, [], ◌∷◌, ◌++◌, length, get_or, map, take, sym, ap, ◌∙◌, subst, arith, append-nil, add-one, take-suc, mul-le-mul_right}, proofs.lemmas.Grind.div_ceil_times, specs.Int.div_ceil}
 use Rattle.net_core.proofs.Library.{map-append, flat_map-append, IsGcd}
-use Rattle.std.proofs.lemmas.Grind.{div_ceil_times}
-use Rattle.std.specs.Int.{div_ceil}
-use Rattle.plan_terms.specs.Terms.{Link, Module, IsGreatestDivisor, with_setup, link_charges, charges}
-use Rattle.plan_terms.proofs.Lemmas.{divisor_none, divisor_both, divisor_one, divisor_limit, quotient_least}
+use Rattle.plan_terms.{specs.Terms.{Link, Module, IsGreatestDivisor, with_setup, link_charges, charges}, proofs.Lemmas.{divisor_none, divisor_both, divisor_one, divisor_limit, quotient_least}}
 
 -- a number of one module more
 pub module_divisor_step : (f : Module → ℕ) (n : ℕ) (modules : List Module) (d : Module) (g h : ℕ) → n < length modules → IsGreatestDivisor (map f (take n modules)) g → IsGcd g (f (get_or modules n d)) h → IsGreatestDivisor (map f (take (n + 1) modules)) h

@@ -1,10 +1,8 @@
 -- fractions in lowest terms, as rows of one number
 use Rattle.std.proofs.Common.{ℕ, zero, suc, pos, ◌≡◌, ◌*◌, ◌<◌, ◌≤◌, unsigned_abs, sym, ap, ◌∙◌, arith, mul-le-mul_left}
 use Rattle.net_core.proofs.Library.{ints, unsigned_abs-mul}
-use Rattle.checked_fraction.specs.Terms.{IsReduced}
-use Rattle.checked_fraction.proofs.Once.{times_reduced}
-use Rattle.plan_terms.specs.Terms.{IsLowest}
-use Rattle.plan_terms.proofs.Lemmas.{lowest_positive}
+use Rattle.checked_fraction.{specs.Terms.IsReduced, proofs.Once.times_reduced}
+use Rattle.plan_terms.{specs.Terms.IsLowest, proofs.Lemmas.lowest_positive}
 
 pub as_row : (a b c d : ℕ) → 0 < b → IsLowest a b c d → IsReduced 1 (λ k. pos a) (pos b) (λ k. pos c) (pos d)
 as_row a b c d some low = record {

@@ -1,9 +1,7 @@
 -- the cheapest module of a link, and the most expensive of these
-use Rattle.std.proofs.Common.{◌≡◌, ℕ, ◌+◌, ◌*◌, ◌/◌, ◌≤◌, ◌<◌, ◌⊎◌, List, [], ◌∷◌, ◌++◌, All, Any, Contains, Some, get_or, length, slice_get, inl, inr, ⊎_elim, refl, sym, ◌∙◌, ap, subst, arith}
-use Rattle.std.proofs.Math.Nat.{div-le_of_le-mul, mul-le-mul_left}
+use Rattle.std.{proofs.Common.{◌≡◌, ℕ, ◌+◌, ◌*◌, ◌/◌, ◌≤◌, ◌<◌, ◌⊎◌, List, [], ◌∷◌, ◌++◌, All, Any, Contains, Some, get_or, length, slice_get, inl, inr, ⊎_elim, refl, sym, ◌∙◌, ap, subst, arith}, proofs.Math.Nat.{div-le_of_le-mul, mul-le-mul_left}}
 use Rattle.net_core.proofs.Library.{le_of_mul-le-mul_left, cases_eq, get_or_append_left, get_or_default, get_or_push, get_or_from_slice_get, slice_get-get_or, slice_get_within, positive_factors}
-use Rattle.plan_terms.specs.Terms.{IsModule, Link, Module, ArePriceLengths, HasLeastUnitCost, IsPriceLength}
-use Rattle.plan_terms.proofs.Lemmas.{smaller_ratio}
+use Rattle.plan_terms.{specs.Terms.{IsModule, Link, Module, ArePriceLengths, HasLeastUnitCost, IsPriceLength}, proofs.Lemmas.smaller_ratio}
 use Rattle.module_prices.specs.inner.Dearest.{ArePriced, IsDearer, IsDearestSoFar, IsGreatest, IsNoDearer}
 
 -- what is no dearer than a module that is no dearer than a third, is no dearer than that one

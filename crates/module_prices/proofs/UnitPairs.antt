@@ -3,8 +3,7 @@ use Rattle.std.proofs.Common.{ℕ, pos, ◌^◌, ◌≡◌, ◌*◌, ◌<◌, �
 use Rattle.net_core.proofs.Library.{ints, le_of_mul-le-mul_left}
 use Rattle.plan_terms.specs.Terms.{IsModule, Module, IsLowest, HasLeastUnitCost, IsUnitPair}
 use Rattle.checked_fraction.proofs.Once.{reduced_once}
-use Rattle.module_prices.proofs.UnitCosts.{cheapest_sound}
-use Rattle.module_prices.proofs.LowestTerms.{as_row, lowest_small}
+use Rattle.module_prices.{proofs.UnitCosts.cheapest_sound, proofs.LowestTerms.{as_row, lowest_small}}
 
 -- a fraction has one form in lowest terms
 pub lowest_once : (a b c d e f : ℕ) → 0 < b → IsLowest a b c d → IsLowest a b e f → (c ≡ e) × (d ≡ f)

@@ -1,5 +1,4 @@
-ghost use Rattle.std.specs.Prelude.{◌<◌, ◌^◌, map};
-ghost use Rattle.std.specs.Int.{IsGcd};
+ghost use Rattle.std.{specs.Prelude.{◌<◌, ◌^◌, map}, specs.Int.IsGcd};
 ghost use Rattle.plan_terms.specs.Terms.{IsBound, IsGreatestDivisor, charges, link_charges};
 
 use checked_fraction::gcd;

@@ -1,21 +1,6 @@
 -- what is sound has no fault
-use Rattle.std.proofs.Common.{◌≡◌, ◌≢◌, ℕ, ◌+◌, ◌<◌, ◌≤◌, ◌^◌, Bool, false, cond, not, ◌||◌, ◌&&◌, ◌==◌, nat_lt, List, [], ◌∷◌, ◌++◌, All, AllPairs, Option, None, Some, get_or, length, refl, sym, ◌∙◌, ap, subst, arith, ⊎_elim, append_assoc}
-use Rattle.std.specs.Option.{option_or}
-use Rattle.std.specs.List.{list_any, AllByRecursion}
-use Rattle.std.proofs.lemmas.List.{length-append, get_or_append_left, nil_from_length}
-use Rattle.std.proofs.Math.Seq.{get_or-append_seam}
-use Rattle.std.proofs.lemmas.List.Elements.{recursion_from_All}
-use Rattle.std.proofs.lemmas.List.Folds.{list_any_none}
-use Rattle.std.proofs.lemmas.Bool.{le-ltb, lt-ltb, lt-leb, ne_eqb, cases_eq, or_from, and_from, and_left, and_right, not_from_true, false_from_ne_true}
-use Rattle.std.proofs.lemmas.Bool.Decides.{Decides-eqb}
-use Rattle.std.proofs.lemmas.Slice.Eq.{slice_eq-Decides}
-use Rattle.net_core.specs.declared.network.Module.{Module}
-use Rattle.net_core.specs.declared.network.Link.{Link}
-use Rattle.net_core.specs.declared.states.Listed.{Listed}
-use Rattle.net_core.specs.Tests.{first_fault, are_same, is_named, is_large}
-use Rattle.net_core.specs.Network.{IsModule, IsLink, IsNetwork, link_tests, links_tests, nodes_tests, network_fault}
-use Rattle.net_core.specs.States.{AreStates, listed_tests, all_listed_tests, states_fault}
-use Rattle.net_core.proofs.Checks.{first_fault-append}
+use Rattle.std.{proofs.Common.{◌≡◌, ◌≢◌, ℕ, ◌+◌, ◌<◌, ◌≤◌, ◌^◌, Bool, false, cond, not, ◌||◌, ◌&&◌, ◌==◌, nat_lt, List, [], ◌∷◌, ◌++◌, All, AllPairs, Option, None, Some, get_or, length, refl, sym, ◌∙◌, ap, subst, arith, ⊎_elim, append_assoc}, specs.Option.option_or, specs.List.{list_any, AllByRecursion}, proofs.lemmas.List.{length-append, get_or_append_left, nil_from_length}, proofs.Math.Seq.get_or-append_seam, proofs.lemmas.List.Elements.recursion_from_All, proofs.lemmas.List.Folds.list_any_none, proofs.lemmas.Bool.{le-ltb, lt-ltb, lt-leb, ne_eqb, cases_eq, or_from, and_from, and_left, and_right, not_from_true, false_from_ne_true}, proofs.lemmas.Bool.Decides.Decides-eqb, proofs.lemmas.Slice.Eq.slice_eq-Decides}
+use Rattle.net_core.{specs.declared.network.Module.Module, specs.declared.network.Link.Link, specs.declared.states.Listed.Listed, specs.Tests.{first_fault, are_same, is_named, is_large}, specs.Network.{IsModule, IsLink, IsNetwork, link_tests, links_tests, nodes_tests, network_fault}, specs.States.{AreStates, listed_tests, all_listed_tests, states_fault}, proofs.Checks.first_fault-append}
 
 -- a test that finds nothing, before others that find nothing
 next_none : {F : Type 0} (b : Bool) (f : F) (rest : Option F) → b ≡ false → rest ≡ None → cond b (Some f) rest ≡ None

@@ -1,12 +1,6 @@
 -- tests that are made in order
-use Rattle.std.proofs.Common.{◌≡◌, ◌≢◌, ℕ, ◌<◌, Bool, true, false, cond, not, List, [], ◌∷◌, ◌++◌, All, AllPairs, Option, None, Some, is_some, get_or, length, refl, arith}
-use Rattle.std.specs.Option.{option_or}
-use Rattle.std.specs.List.{list_any}
-use Rattle.std.proofs.lemmas.List.Elements.{All-cons, All-nil}
-use Rattle.std.proofs.lemmas.Bool.Decides.{Decides-eqb}
-use Rattle.std.proofs.lemmas.Slice.Eq.{slice_eq-Decides}
+use Rattle.std.{proofs.Common.{◌≡◌, ◌≢◌, ℕ, ◌<◌, Bool, true, false, cond, not, List, [], ◌∷◌, ◌++◌, All, AllPairs, Option, None, Some, is_some, get_or, length, refl, arith}, specs.Option.option_or, specs.List.list_any, proofs.lemmas.List.Elements.{All-cons, All-nil}, proofs.lemmas.Bool.Decides.Decides-eqb, proofs.lemmas.Slice.Eq.slice_eq-Decides, proofs.lemmas.Bool.or_parts}
 use Rattle.net_core.specs.Tests.{first_fault, are_same, is_named}
-use Rattle.std.proofs.lemmas.Bool.{or_parts}
 
 -- no test before finds anything, so the later ones tell
 pub first_fault-append : {F : Type 0} → (a b : List (Bool × F)) → first_fault (a ++ b) ≡ option_or (first_fault a) (first_fault b)

@@ -1,8 +1,5 @@
 -- lists and their elements
-use Rattle.std.proofs.Common.{◌≡◌, ℕ, zero, suc, ◌<◌, List, [], ◌∷◌, ◌++◌, All, Any, Contains, None, Some, ◌⊎◌, inl, inr, ⊎_elim, length, take, drop, slice_get, refl, sym, ap, subst, ◌∙◌, arith}
-use Rattle.std.proofs.Math.Seq.{take-append_seam}
-use Rattle.std.proofs.lemmas.List.Elements.{All-cons, All-nil, All-head, All-tail}
-use Rattle.std.proofs.lemmas.Option.{get_or_from_slice_get, slice_get_within}
+use Rattle.std.{proofs.Common.{◌≡◌, ℕ, zero, suc, ◌<◌, List, [], ◌∷◌, ◌++◌, All, Any, Contains, None, Some, ◌⊎◌, inl, inr, ⊎_elim, length, take, drop, slice_get, refl, sym, ap, subst, ◌∙◌, arith}, proofs.Math.Seq.take-append_seam, proofs.lemmas.List.Elements.{All-cons, All-nil, All-head, All-tail}, proofs.lemmas.Option.{get_or_from_slice_get, slice_get_within}}
 
 -- what holds of the one item of a list
 pub all_one : {X : Type 0} (P : X → Type 0) (x : X) → P x → All P (x ∷ [])

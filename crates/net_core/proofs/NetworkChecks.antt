@@ -1,17 +1,6 @@
 -- what the tests of a network tell
-use Rattle.std.proofs.Common.{◌≡◌, ◌≢◌, ℕ, ◌+◌, ◌<◌, ◌≤◌, ◌^◌, true, false, cond, not, ◌||◌, ◌&&◌, ◌==◌, nat_lt, List, [], ◌∷◌, ◌++◌, All, AllPairs, Option, None, Some, is_some, get_or, length, sym, ◌∙◌, ap, subst, arith, take, drop, add-one, append_assoc, append-nil, drop-cons, take-suc}
-use Rattle.std.specs.Option.{option_or}
-use Rattle.std.specs.List.{list_any}
-use Rattle.std.proofs.lemmas.List.Elements.{All-cons, All-nil, All-append}
-use Rattle.std.proofs.lemmas.List.Quantifiers.{all_pairs_push}
-use Rattle.std.proofs.lemmas.Bool.{leb-false, ltb-false, ltb-true, eqb-false, le-ltb, or_parts, and_parts}
-use Rattle.net_core.specs.declared.network.Module.{Module}
-use Rattle.net_core.specs.declared.network.Link.{Link}
-use Rattle.net_core.specs.declared.network.NetFault.{NetFault}
-use Rattle.net_core.specs.declared.network.NetFault.TheVariants.{Nodes, Links, DoubleNode, DoubleLink, UnknownEnd, SelfLink, Amount, Modules, ZeroModule, FixedLink}
-use Rattle.net_core.specs.Tests.{first_fault, is_named, is_large}
-use Rattle.net_core.specs.Network.{IsModule, IsLink, IsNetwork, has_large_amount, link_tests, links_tests, nodes_tests, network_fault}
-use Rattle.net_core.proofs.Checks.{first_fault-append, none_head, none_or, none_passes, none_named, not_true, no_pairs, or_some, or_none}
+use Rattle.std.{proofs.Common.{◌≡◌, ◌≢◌, ℕ, ◌+◌, ◌<◌, ◌≤◌, ◌^◌, true, false, cond, not, ◌||◌, ◌&&◌, ◌==◌, nat_lt, List, [], ◌∷◌, ◌++◌, All, AllPairs, Option, None, Some, is_some, get_or, length, sym, ◌∙◌, ap, subst, arith, take, drop, add-one, append_assoc, append-nil, drop-cons, take-suc}, specs.Option.option_or, specs.List.list_any, proofs.lemmas.List.Elements.{All-cons, All-nil, All-append}, proofs.lemmas.List.Quantifiers.all_pairs_push, proofs.lemmas.Bool.{leb-false, ltb-false, ltb-true, eqb-false, le-ltb, or_parts, and_parts}}
+use Rattle.net_core.{specs.declared.network.Module.Module, specs.declared.network.Link.Link, specs.declared.network.NetFault.NetFault, specs.declared.network.NetFault.TheVariants.{Nodes, Links, DoubleNode, DoubleLink, UnknownEnd, SelfLink, Amount, Modules, ZeroModule, FixedLink}, specs.Tests.{first_fault, is_named, is_large}, specs.Network.{IsModule, IsLink, IsNetwork, has_large_amount, link_tests, links_tests, nodes_tests, network_fault}, proofs.Checks.{first_fault-append, none_head, none_or, none_passes, none_named, not_true, no_pairs, or_some, or_none}}
 
 -- the tests of the links from i on begin with those of i
 pub links_step : (n : ℕ) (links : List Link) (i : ℕ) (d : Link) → i < length links → first_fault (links_tests n (take i links) (drop i links)) ≡ option_or (first_fault (link_tests n (take i links) (get_or links i d))) (first_fault (links_tests n (take (i + 1) links) (drop (i + 1) links)))

@@ -1,12 +1,6 @@
 -- what a network keeps
-use Rattle.std.proofs.Common.{◌≡◌, ◌≢◌, Bool, true, false, ℕ, ◌≤◌, ◌<◌, List, All, AllPairs, get_or, length, sym, ◌∙◌, ap, subst, arith}
-use Rattle.std.proofs.lemmas.List.{get_or-map, length-map}
-use Rattle.std.proofs.lemmas.List.Elements.{All-map}
-use Rattle.std.proofs.Math.Logic.{∥∥₁_elim}
-use Rattle.std.proofs.Props.{props}
-use Rattle.net_core.specs.declared.network.Link.{Link}
-use Rattle.net_core.specs.Network.{IsLink, IsModule, IsNetwork}
-use Rattle.net_core.specs.Settled.{settled_links, without_setup, without_setups}
+use Rattle.std.{proofs.Common.{◌≡◌, ◌≢◌, Bool, true, false, ℕ, ◌≤◌, ◌<◌, List, All, AllPairs, get_or, length, sym, ◌∙◌, ap, subst, arith}, proofs.lemmas.List.{get_or-map, length-map}, proofs.lemmas.List.Elements.All-map, proofs.Math.Logic.∥∥₁_elim, proofs.Props.props}
+use Rattle.net_core.{specs.declared.network.Link.Link, specs.Network.{IsLink, IsModule, IsNetwork}, specs.Settled.{settled_links, without_setup, without_setups}}
 
 -- a network has few nodes
 pub few_nodes : (nodes : List (List ℕ)) (links : List Link) → ∥ IsNetwork nodes links ∥₁ → length nodes ≤ 128

@@ -1,7 +1,5 @@
 -- products and divisors of numbers
-use Rattle.std.proofs.Common.{◌≡◌, ℕ, zero, suc, ◌*◌, ◌<◌, arith}
-use Rattle.std.specs.Int.{◌∣◌}
-use Rattle.std.proofs.Math.Nat.{zero-dvd}
+use Rattle.std.{proofs.Common.{◌≡◌, ℕ, zero, suc, ◌*◌, ◌<◌, arith}, specs.Int.◌∣◌, proofs.Math.Nat.zero-dvd}
 
 pub positive_divisor : (g n : ℕ) → 0 < n → g ∣ n → 0 < g
 positive_divisor zero n p h = let e : n ≡ 0 = zero-dvd.0 h in absurd (omega arith)

@@ -1,14 +1,6 @@
 -- what the tests of a list of failure states tell
-use Rattle.std.proofs.Common.{◌≡◌, ◌≢◌, ℕ, ◌<◌, ◌≤◌, false, not, ◌==◌, nat_lt, List, [], ◌∷◌, ◌++◌, All, AllPairs, None, get_or, length, sym, ◌∙◌, subst, arith, append_assoc, append-nil}
-use Rattle.std.specs.List.{list_any}
-use Rattle.std.proofs.lemmas.List.Elements.{All-cons, All-nil, All-append}
-use Rattle.std.proofs.lemmas.List.Quantifiers.{all_pairs_push}
-use Rattle.std.proofs.lemmas.Bool.{ltb-false, ltb-true, eqb-false}
-use Rattle.net_core.specs.declared.states.Listed.{Listed}
-use Rattle.net_core.specs.declared.states.StatesFault.TheVariants.{TooMany, Empty, UnknownLink, DoubleState}
-use Rattle.net_core.specs.Tests.{first_fault, is_named}
-use Rattle.net_core.specs.States.{AreStates, listed_tests, all_listed_tests, states_fault}
-use Rattle.net_core.proofs.Checks.{first_fault-append, none_head, none_or, none_passes, none_named, not_true, no_pairs}
+use Rattle.std.{proofs.Common.{◌≡◌, ◌≢◌, ℕ, ◌<◌, ◌≤◌, false, not, ◌==◌, nat_lt, List, [], ◌∷◌, ◌++◌, All, AllPairs, None, get_or, length, sym, ◌∙◌, subst, arith, append_assoc, append-nil}, specs.List.list_any, proofs.lemmas.List.Elements.{All-cons, All-nil, All-append}, proofs.lemmas.List.Quantifiers.all_pairs_push, proofs.lemmas.Bool.{ltb-false, ltb-true, eqb-false}}
+use Rattle.net_core.{specs.declared.states.Listed.Listed, specs.declared.states.StatesFault.TheVariants.{TooMany, Empty, UnknownLink, DoubleState}, specs.Tests.{first_fault, is_named}, specs.States.{AreStates, listed_tests, all_listed_tests, states_fault}, proofs.Checks.{first_fault-append, none_head, none_or, none_passes, none_named, not_true, no_pairs}}
 
 -- a listed state fails some links, all known ones
 pub record IsListed (n : ℕ) (l : Listed) : Type 0 where

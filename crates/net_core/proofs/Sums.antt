@@ -1,8 +1,5 @@
 -- sums below a number, and how they go with sums over lists
-use Rattle.std.proofs.Common.{◌≡◌, ℕ, zero, suc, ◌+◌, ◌*◌, ◌≤◌, ◌<◌, List, [], ◌∷◌, length, cond, eqb, ⊎_elim, refl, sym, ap, ◌∙◌, arith, sum_by, zip, Some, slice_get}
-use Rattle.std.proofs.lemmas.List.Sums.{sum_by-cons}
-use Rattle.std.proofs.lemmas.Bool.{cases_lt, eq-eqb, ne_eqb}
-use Rattle.std.specs.List.{AllByRecursion}
+use Rattle.std.{proofs.Common.{◌≡◌, ℕ, zero, suc, ◌+◌, ◌*◌, ◌≤◌, ◌<◌, List, [], ◌∷◌, length, cond, eqb, ⊎_elim, refl, sym, ap, ◌∙◌, arith, sum_by, zip, Some, slice_get}, proofs.lemmas.List.Sums.sum_by-cons, proofs.lemmas.Bool.{cases_lt, eq-eqb, ne_eqb}, specs.List.AllByRecursion}
 use Rattle.net_core.specs.Sums.{sum_below}
 
 pub below-same : (n : ℕ) (f g : ℕ → ℕ) → ((k : ℕ) → k < n → f k ≡ g k) → sum_below n f ≡ sum_below n g

@@ -1,10 +1,6 @@
 -- what a plan is made for: a network, its failure states and its demands (the problem instance of SNDlib)
 use Rattle.std.specs.Prelude.{ℕ, List}
-use Rattle.net_core.specs.declared.demand.Demand.{Demand}
-use Rattle.net_core.specs.declared.network.Link.{Link}
-use Rattle.net_core.specs.declared.places.Places.{Places}
-use Rattle.net_core.specs.declared.states.Listed.{Listed}
-use Rattle.net_core.specs.Graphs.{Graph}
+use Rattle.net_core.{specs.declared.demand.Demand.Demand, specs.declared.network.Link.Link, specs.declared.places.Places.Places, specs.declared.states.Listed.Listed, specs.Graphs.Graph}
 
 -- nodes, links, listed states and demands; the places say what a unit of their amounts is
 pub record Case : Type 0 where

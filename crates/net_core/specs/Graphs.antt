@@ -1,8 +1,6 @@
 -- the network in one of its states, and the links that survive there (the surviving graph of SNDlib)
 use Rattle.std.specs.Prelude.{◌≡◌, ◌≢◌, ℕ, List, [], false, ◌⊎◌, Some, slice_get}
-use Rattle.net_core.specs.declared.network.Link.{Link}
-use Rattle.net_core.specs.declared.states.Listed.{Listed}
-use Rattle.net_core.specs.States.{fails}
+use Rattle.net_core.{specs.declared.network.Link.Link, specs.declared.states.Listed.Listed, specs.States.fails}
 
 -- a network in one of its states; its links are all those of the network, and `Survives` says which are left
 pub record Graph : Type 0 where

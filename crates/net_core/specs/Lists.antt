@@ -1,6 +1,5 @@
 -- what a list ends as, where its items are lent for writing
-use Rattle.std.specs.Prelude.{List, take, drop, length, ◌++◌}
-use Rattle.std.specs.Borrow.{Lends, Fml, RattleType, MutBor, Array}
+use Rattle.std.{specs.Prelude.{List, take, drop, length, ◌++◌}, specs.Borrow.{Lends, Fml, RattleType, MutBor, Array}}
 use Rattle.net_core.specs.contracts.list.List.{the_row}
 
 -- the list with these items written over its first ones: the items themselves where they are as many

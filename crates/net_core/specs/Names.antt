@@ -1,6 +1,5 @@
 -- the bytes that a word of a file, and so a name, may have
-use Rattle.std.specs.Prelude.{ℕ, ◌≤◌, List, [], ◌∷◌, length, IsTrue, Bool, false, ◌||◌, ◌&&◌, not, ◌==◌}
-use Rattle.std.specs.List.{list_all}
+use Rattle.std.{specs.Prelude.{ℕ, ◌≤◌, List, [], ◌∷◌, length, IsTrue, Bool, false, ◌||◌, ◌&&◌, not, ◌==◌}, specs.List.list_all}
 
 -- white space is tab, line feed, carriage return and space
 abbrev pub is_space : ℕ → Bool

@@ -1,13 +1,6 @@
 -- what a network meets, and the faults that keep a list of nodes and links from being one
-use Rattle.std.specs.Prelude.{◌≡◌, ◌≢◌, ℕ, ◌≤◌, ◌<◌, ◌^◌, ◌||◌, ◌&&◌, ◌==◌, ◌++◌, List, [], ◌∷◌, Bool, not, nat_lt, length, All, AllPairs, Option, slice_get}
-use Rattle.std.specs.List.{list_any}
-use Rattle.std.specs.Option.{option_map_or}
-use Rattle.net_core.specs.declared.ids.LinkId.{LinkId}
-use Rattle.net_core.specs.declared.network.Module.{Module}
-use Rattle.net_core.specs.declared.network.Link.{Link}
-use Rattle.net_core.specs.declared.network.NetFault.{NetFault}
-use Rattle.net_core.specs.declared.network.NetFault.TheVariants.{Nodes, Links, DoubleNode, DoubleLink, UnknownEnd, SelfLink, Amount, Modules, ZeroModule, FixedLink}
-use Rattle.net_core.specs.Tests.{first_fault, is_named, is_large}
+use Rattle.std.{specs.Prelude.{◌≡◌, ◌≢◌, ℕ, ◌≤◌, ◌<◌, ◌^◌, ◌||◌, ◌&&◌, ◌==◌, ◌++◌, List, [], ◌∷◌, Bool, not, nat_lt, length, All, AllPairs, Option, slice_get}, specs.List.list_any, specs.Option.option_map_or}
+use Rattle.net_core.{specs.declared.ids.LinkId.LinkId, specs.declared.network.Module.Module, specs.declared.network.Link.Link, specs.declared.network.NetFault.NetFault, specs.declared.network.NetFault.TheVariants.{Nodes, Links, DoubleNode, DoubleLink, UnknownEnd, SelfLink, Amount, Modules, ZeroModule, FixedLink}, specs.Tests.{first_fault, is_named, is_large}}
 
 -- a module carries something, and its numbers are below 2^40 units
 pub record IsModule (m : Module) : Type 0 where

@@ -1,7 +1,6 @@
 -- setup costs that are kept or dropped: SNDlib's fixed charge, or none
 use Rattle.std.specs.Prelude.{Bool, true, false, List, map}
-use Rattle.net_core.specs.declared.network.Link.{Link}
-use Rattle.net_core.specs.declared.network.Notes.{Notes}
+use Rattle.net_core.{specs.declared.network.Link.Link, specs.declared.network.Notes.Notes}
 
 -- the link without its setup cost
 abbrev pub without_setup : Link → Link

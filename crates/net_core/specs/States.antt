@@ -1,12 +1,6 @@
 -- failure states: state 0 fails nothing, and state i + 1 fails the links of the listed state i
-use Rattle.std.specs.Prelude.{◌≢◌, ℕ, zero, suc, ◌≤◌, ◌<◌, ◌==◌, ◌++◌, List, [], ◌∷◌, Bool, false, not, nat_lt, length, All, AllPairs, Option, slice_get}
-use Rattle.std.specs.List.{list_any}
-use Rattle.std.specs.Option.{option_map_or}
-use Rattle.net_core.specs.declared.ids.LinkId.{LinkId}
-use Rattle.net_core.specs.declared.states.Listed.{Listed}
-use Rattle.net_core.specs.declared.states.StatesFault.{StatesFault}
-use Rattle.net_core.specs.declared.states.StatesFault.TheVariants.{TooMany, Empty, UnknownLink, DoubleState}
-use Rattle.net_core.specs.Tests.{first_fault, is_named}
+use Rattle.std.{specs.Prelude.{◌≢◌, ℕ, zero, suc, ◌≤◌, ◌<◌, ◌==◌, ◌++◌, List, [], ◌∷◌, Bool, false, not, nat_lt, length, All, AllPairs, Option, slice_get}, specs.List.list_any, specs.Option.option_map_or}
+use Rattle.net_core.{specs.declared.ids.LinkId.LinkId, specs.declared.states.Listed.Listed, specs.declared.states.StatesFault.StatesFault, specs.declared.states.StatesFault.TheVariants.{TooMany, Empty, UnknownLink, DoubleState}, specs.Tests.{first_fault, is_named}}
 
 -- the link is in the list
 abbrev pub names_link : ℕ → List LinkId → Bool

@@ -1,7 +1,5 @@
 -- tests that are made in order, each with the fault that it finds
-use Rattle.std.specs.Prelude.{ℕ, List, [], ◌∷◌, Bool, Option, None, Some, cond, ◌==◌, nat_le, ◌^◌}
-use Rattle.std.specs.List.{list_any}
-use Rattle.std.specs.Cmp.Lexicographic.{pointwise}
+use Rattle.std.{specs.Prelude.{ℕ, List, [], ◌∷◌, Bool, Option, None, Some, cond, ◌==◌, nat_le, ◌^◌}, specs.List.list_any, specs.Cmp.Lexicographic.pointwise}
 
 -- the fault of the first test that finds one
 abbrev pub first_fault : {F : Type 0} → List (Bool × F) → Option F

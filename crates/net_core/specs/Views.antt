@@ -1,12 +1,6 @@
 -- the graph and the case of values of the program
 use Rattle.std.specs.Prelude.{ℕ, List}
-use Rattle.net_core.specs.declared.demand.Demand.{Demand}
-use Rattle.net_core.specs.declared.graph.Surviving.{Surviving}
-use Rattle.net_core.specs.declared.instance.Instance.{Instance}
-use Rattle.net_core.specs.declared.network.Network.{Network}
-use Rattle.net_core.specs.declared.states.States.{States}
-use Rattle.net_core.specs.Cases.{Case}
-use Rattle.net_core.specs.Graphs.{Graph}
+use Rattle.net_core.{specs.declared.demand.Demand.Demand, specs.declared.graph.Surviving.Surviving, specs.declared.instance.Instance.Instance, specs.declared.network.Network.Network, specs.declared.states.States.States, specs.Cases.Case, specs.Graphs.Graph}
 
 -- the network in state s
 abbrev pub graph : Network → States → ℕ → Graph

@@ -1,5 +1,4 @@
-ghost use Rattle.std.specs.Prelude.{◌≡◌, ◌+◌, ◌<◌, ◌++◌, [], ◌∷◌, length, OnOk, OnErr, IfErr, IfOk, IsSome, ◌↔◌, slice_get, slice_set, replicate, remove, Some};
-ghost use Rattle.std.specs.Option.{option_to_list};
+ghost use Rattle.std.{specs.Prelude.{◌≡◌, ◌+◌, ◌<◌, ◌++◌, [], ◌∷◌, length, OnOk, OnErr, IfErr, IfOk, IsSome, ◌↔◌, slice_get, slice_set, replicate, remove, Some}, specs.Option.option_to_list};
 
 use std::alloc::{AllocError, AllocFailed, Global};
 use std::hash::{Hash, Hasher};

@@ -1,5 +1,4 @@
-ghost use Rattle.std.specs.Prelude.{◌≡◌, ◌≤◌, ◌<◌, ◌↔◌, IsTrue, IfOk, IsErrOf, false, length, []};
-ghost use Rattle.std.specs.List.{list_all};
+ghost use Rattle.std.{specs.Prelude.{◌≡◌, ◌≤◌, ◌<◌, ◌↔◌, IsTrue, IfOk, IsErrOf, false, length, []}, specs.List.list_all};
 ghost use Rattle.net_core.specs.Names.{IsName, is_word_byte, begins_comment, is_plain};
 
 use crate::list::{Copied, List, NoMemory};

@@ -1,8 +1,5 @@
-ghost use Rattle.std.specs.Prelude.{◌≡◌, ◌≢◌, ℕ, ◌≤◌, ◌<◌, ◌^◌, ◌↔◌, ◌==◌, IsTrue, All, AllPairs, IfNone, IsOk, MatchResult, None, Some, List, [], length, nat_lt, not, ◌||◌, ◌&&◌};
-ghost use Rattle.std.specs.List.{list_any};
-ghost use Rattle.net_core.specs.Tests.{first_fault, is_named, is_large, are_same};
-ghost use Rattle.net_core.specs.Network.{IsLink, IsNetwork, has_large_amount, link_tests, links_tests, nodes_tests, network_fault};
-ghost use Rattle.net_core.specs.Settled.{settled_links, settled_notes, without_setups};
+ghost use Rattle.std.{specs.Prelude.{◌≡◌, ◌≢◌, ℕ, ◌≤◌, ◌<◌, ◌^◌, ◌↔◌, ◌==◌, IsTrue, All, AllPairs, IfNone, IsOk, MatchResult, None, Some, List, [], length, nat_lt, not, ◌||◌, ◌&&◌}, specs.List.list_any};
+ghost use Rattle.net_core.{specs.Tests.{first_fault, is_named, is_large, are_same}, specs.Network.{IsLink, IsNetwork, has_large_amount, link_tests, links_tests, nodes_tests, network_fault}, specs.Settled.{settled_links, settled_notes, without_setups}};
 
 use crate::ids::NodeId;
 use crate::list::{Copied, List, NoMemory};

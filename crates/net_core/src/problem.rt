@@ -1,6 +1,5 @@
 ghost use Rattle.std.specs.Prelude.{◌≡◌, ◌<◌, ◌+◌, length};
-ghost use Rattle.net_core.specs.Cases.{graph_in};
-ghost use Rattle.net_core.specs.Views.{case, case_of, graph_of};
+ghost use Rattle.net_core.{specs.Cases.graph_in, specs.Views.{case, case_of, graph_of}};
 
 use crate::graph::Surviving;
 use crate::ids::StateId;

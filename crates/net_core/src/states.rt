@@ -1,7 +1,5 @@
-ghost use Rattle.std.specs.Prelude.{◌≡◌, ◌<◌, ◌^◌, ◌+◌, ◌==◌, None, Some, MatchResult, IsOk, [], length, nat_lt, not};
-ghost use Rattle.std.specs.List.{list_any};
-ghost use Rattle.net_core.specs.Tests.{first_fault, is_named};
-ghost use Rattle.net_core.specs.States.{AreStates, IsStateList, all_listed_tests, fails, listed_tests, names_link, states_fault};
+ghost use Rattle.std.{specs.Prelude.{◌≡◌, ◌<◌, ◌^◌, ◌+◌, ◌==◌, None, Some, MatchResult, IsOk, [], length, nat_lt, not}, specs.List.list_any};
+ghost use Rattle.net_core.{specs.Tests.{first_fault, is_named}, specs.States.{AreStates, IsStateList, all_listed_tests, fails, listed_tests, names_link, states_fault}};
 
 use crate::ids::{LinkId, StateId};
 use crate::list::{Copied, List, NoMemory};

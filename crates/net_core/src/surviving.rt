@@ -1,6 +1,5 @@
 ghost use Rattle.std.specs.Prelude.{◌≡◌, ◌<◌, ◌↔◌, IsTrue, List, [], length};
-ghost use Rattle.net_core.specs.Graphs.{Survives};
-ghost use Rattle.net_core.specs.Views.{graph_of};
+ghost use Rattle.net_core.{specs.Graphs.Survives, specs.Views.graph_of};
 
 use crate::graph::Surviving;
 use crate::ids::LinkId;

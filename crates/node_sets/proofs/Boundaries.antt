@@ -1,12 +1,9 @@
 -- what the state keeps of a boundary is kept of priced lengths, and one violated right side is each
 use Rattle.std.proofs.Common.{◌≡◌, ◌≢◌, ℕ, zero, suc, ◌*◌, ◌<◌, ◌≤◌, List, [], ◌∷◌, Bool, true, false, cond, length, get_or, slice_index, refl, sym, subst, ◌∙◌, arith}
 use Rattle.net_core.proofs.Library.{get_or_default, length-map}
-use Rattle.plan_terms.specs.Terms.{Demand, Link, Caps, Graph, Joins, IsRight, Keeps, Violates}
-use Rattle.plan_terms.proofs.Lemmas.{right_once}
-use Rattle.metric_cut.specs.Bounded.{HaveBound}
-use Rattle.metric_cut.specs.declared.cut.Cut.{Cut}
-use Rattle.route_law.specs.Terms.{ArePricedSomewhere}
-use Rattle.route_law.proofs.Lemmas.{zeros_and_ones_are_priced}
+use Rattle.plan_terms.{specs.Terms.{Demand, Link, Caps, Graph, Joins, IsRight, Keeps, Violates}, proofs.Lemmas.right_once}
+use Rattle.metric_cut.{specs.Bounded.HaveBound, specs.declared.cut.Cut.Cut}
+use Rattle.route_law.{specs.Terms.ArePricedSomewhere, proofs.Lemmas.zeros_and_ones_are_priced}
 use Rattle.node_sets.specs.Boundaries.{IsViolatedAt, crosses_boundary, boundary_lengths}
 
 pub violated_at : (g : Graph) (demands : List Demand) (caps : Caps) (cut : Cut) (right : ℕ) → IsRight (Joins g) cut.lengths demands right

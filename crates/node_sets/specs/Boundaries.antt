@@ -1,8 +1,7 @@
 -- cuts of sets of nodes (the cut inequalities, which are metric inequalities of lengths 0 and 1)
 use Rattle.std.specs.Prelude.{ℕ, List, Bool, not, cond, map}
 use Rattle.plan_terms.specs.Terms.{Demand, Link, Caps, Graph, Joins, IsRight, Keeps, Violates}
-use Rattle.metric_cut.specs.Cuts.{IsCutOf}
-use Rattle.metric_cut.specs.declared.cut.Cut.{Cut}
+use Rattle.metric_cut.{specs.Cuts.IsCutOf, specs.declared.cut.Cut.Cut}
 use Rattle.route_law.specs.Terms.{ArePricedSomewhere}
 
 -- a link crosses the boundary of a set of nodes: one of its ends is in the set, and the other isn't

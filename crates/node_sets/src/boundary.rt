@@ -1,9 +1,7 @@
 ghost use Rattle.std.specs.Prelude.{◌≡◌, ◌<◌, ◌^◌, All, IfOk, IfSome, cond, true};
 ghost use Rattle.plan_terms.specs.Terms.{graph_of, Keeps};
 ghost use Rattle.metric_cut.specs.Cuts.{IsCutOf};
-ghost use Rattle.node_sets.specs.Boundaries.{IsBoundaryCut, IsViolatedAt, boundary_lengths, crosses_boundary};
-ghost use Rattle.node_sets.specs.inner.Members.{is_in};
-ghost use Rattle.node_sets.specs.inner.NarrowCaps.{AreNarrow};
+ghost use Rattle.node_sets.{specs.Boundaries.{IsBoundaryCut, IsViolatedAt, boundary_lengths, crosses_boundary}, specs.inner.Members.is_in, specs.inner.NarrowCaps.AreNarrow};
 
 use crate::deepest::Deepest;
 use crate::node_set::NodeSet;

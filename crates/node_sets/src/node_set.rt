@@ -1,6 +1,5 @@
 ghost use Rattle.std.specs.Prelude.{◌≡◌, ◌≤◌, ◌<◌};
-ghost use Rattle.node_sets.specs.Boundaries.{crosses_boundary};
-ghost use Rattle.node_sets.specs.inner.Members.{is_in};
+ghost use Rattle.node_sets.{specs.Boundaries.crosses_boundary, specs.inner.Members.is_in};
 
 use net_core::{Link, NodeId};
 

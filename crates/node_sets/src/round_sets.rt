@@ -1,7 +1,6 @@
 ghost use Rattle.std.specs.Prelude.{◌≡◌, ◌<◌, IfOk, IfSome, length};
 ghost use Rattle.plan_terms.specs.Terms.{graph_of};
-ghost use Rattle.node_sets.specs.Boundaries.{IsBoundaryCut};
-ghost use Rattle.node_sets.specs.inner.NarrowCaps.{AreNarrow};
+ghost use Rattle.node_sets.{specs.Boundaries.IsBoundaryCut, specs.inner.NarrowCaps.AreNarrow};
 
 use crate::boundary::cut_of_chosen;
 use crate::crossing::Crossing;

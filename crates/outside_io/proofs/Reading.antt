@@ -1,10 +1,7 @@
 -- how much of a file is read
-use Rattle.std.proofs.Common.{◌≡◌, ℕ, ◌+◌, List, [], ◌++◌, length, Option, Some, arith, length-append}
+use Rattle.std.{proofs.Common.{◌≡◌, ℕ, ◌+◌, List, [], ◌++◌, length, Option, Some, arith, length-append}, proofs.KnownBytes.Consumes-trans}
 use Rattle.net_core.proofs.Library.{Consumes}
-use Rattle.std.proofs.KnownBytes.{Consumes-trans}
-use Rattle.outside_io.specs.declared.shelf.Fetch.{Fetch}
-use Rattle.outside_io.specs.declared.shelf.Fetch.TheVariants.{Found, Missing, TooLong, Failed, NoMemory}
-use Rattle.outside_io.specs.inner.Steps.{ReadsOnce, ConsumesUpTo}
+use Rattle.outside_io.{specs.declared.shelf.Fetch.Fetch, specs.declared.shelf.Fetch.TheVariants.{Found, Missing, TooLong, Failed, NoMemory}, specs.inner.Steps.{ReadsOnce, ConsumesUpTo}}
 
 -- one read more, of at most one byte past the limit
 pub ConsumesUpTo-once : (a b c : Option (List ℕ)) (limit left : ℕ) (answer : Fetch) (before after : List ℕ) → length before + left ≡ limit

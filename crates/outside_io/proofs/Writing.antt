@@ -1,7 +1,6 @@
 -- how much of a piece is written
-use Rattle.std.proofs.Common.{◌≡◌, ℕ, ◌+◌, ◌-◌, ◌≤◌, List, length, take, drop, Option, arith, length-drop, sym, subst, take-add}
+use Rattle.std.{proofs.Common.{◌≡◌, ℕ, ◌+◌, ◌-◌, ◌≤◌, List, length, take, drop, Option, arith, length-drop, sym, subst, take-add}, proofs.KnownBytes.Appends-trans}
 use Rattle.net_core.proofs.Library.{take_rest, Appends}
-use Rattle.std.proofs.KnownBytes.{Appends-trans}
 
 -- one write more, of a prefix of what is left of the piece
 pub Appends-once : (a b c : Option (List ℕ)) (piece : List ℕ) (done n : ℕ) → done ≤ length piece → Appends a b (take done piece)

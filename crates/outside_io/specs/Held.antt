@@ -1,9 +1,6 @@
 -- shelves and sinks in memory
 use Rattle.std.specs.Prelude.{◌≡◌, ◌≢◌, ℕ, ◌+◌, ◌/◌, ◌≤◌, ◌⊎◌, List, ◌++◌, length, take, map, AllPairs, Contains, Result, MatchResult}
-use Rattle.outside_io.specs.declared.memory.MemFile.{MemFile}
-use Rattle.outside_io.specs.declared.shelf.Fetch.{Fetch}
-use Rattle.outside_io.specs.declared.shelf.Fetch.TheVariants.{Failed}
-use Rattle.outside_io.specs.Outside.{Files, one_more}
+use Rattle.outside_io.{specs.declared.memory.MemFile.MemFile, specs.declared.shelf.Fetch.Fetch, specs.declared.shelf.Fetch.TheVariants.Failed, specs.Outside.{Files, one_more}}
 
 -- all names are different
 abbrev pub HaveDifferentNames : List MemFile → Type 0

@@ -1,8 +1,6 @@
 -- the counts of the machine's shelf and sink, and what a stream takes
-use Rattle.std.specs.Prelude.{ℕ, ◌≤◌, List, length, take, Option, Result, MatchResult}
-use Rattle.std.specs.Io.KnownBytes.{Appends}
-use Rattle.outside_io.specs.declared.files.FileShelf.{FileShelf}
-use Rattle.outside_io.specs.declared.stream.StreamSink.{StreamSink}
+use Rattle.std.{specs.Prelude.{ℕ, ◌≤◌, List, length, take, Option, Result, MatchResult}, specs.Io.KnownBytes.Appends}
+use Rattle.outside_io.{specs.declared.files.FileShelf.FileShelf, specs.declared.stream.StreamSink.StreamSink}
 
 -- how often a shelf of the machine's files has failed
 abbrev pub shelf_faults : {F : Type 0} → FileShelf F → ℕ

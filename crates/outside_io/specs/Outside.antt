@@ -1,8 +1,6 @@
 -- what shelves and sinks answer
-use Rattle.std.specs.Prelude.{◌≡◌, ℕ, ◌+◌, ◌-◌, ◌^◌, ◌≤◌, ◌<◌, min, List, [], ◌∷◌, ◌++◌, length, take, Option, None, Some, IfSome, IsSomeAnd, Result, MatchResult, ⊤, cond, ◌==◌}
-use Rattle.std.specs.Cmp.Lexicographic.{pointwise}
-use Rattle.outside_io.specs.declared.shelf.Fetch.{Fetch}
-use Rattle.outside_io.specs.declared.shelf.Fetch.TheVariants.{Found, Missing, TooLong, Failed, NoMemory}
+use Rattle.std.{specs.Prelude.{◌≡◌, ℕ, ◌+◌, ◌-◌, ◌^◌, ◌≤◌, ◌<◌, min, List, [], ◌∷◌, ◌++◌, length, take, Option, None, Some, IfSome, IsSomeAnd, Result, MatchResult, ⊤, cond, ◌==◌}, specs.Cmp.Lexicographic.pointwise}
+use Rattle.outside_io.{specs.declared.shelf.Fetch.Fetch, specs.declared.shelf.Fetch.TheVariants.{Found, Missing, TooLong, Failed, NoMemory}}
 
 -- one more, in a count of 64 bits that stays at its end
 abbrev pub one_more : ℕ → ℕ

@@ -1,8 +1,5 @@
 ghost use Rattle.std.specs.Prelude.{◌≡◌, ◌≤◌, ◌+◌, ◌<◌, [], None, MatchResult, length};
-ghost use Rattle.outside_io.specs.Outside.{Fetches, HasFailed, Rose};
-ghost use Rattle.outside_io.specs.Machine.{shelf_faults};
-ghost use Rattle.outside_io.specs.inner.Steps.{AnswersUnopened, IsFaultOf, Reads, ReadsOnce, ConsumesUpTo};
-ghost use Rattle.outside_io.specs.Held.{faults_after};
+ghost use Rattle.outside_io.{specs.Outside.{Fetches, HasFailed, Rose}, specs.Machine.shelf_faults, specs.inner.Steps.{AnswersUnopened, IsFaultOf, Reads, ReadsOnce, ConsumesUpTo}, specs.Held.faults_after};
 
 use crate::shelf::{Fetch, ReadFault, Shelf};
 use net_core::Bytes;

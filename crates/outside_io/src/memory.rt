@@ -1,6 +1,5 @@
 ghost use Rattle.std.specs.Prelude.{◌≡◌, ◌≤◌, ◌<◌, ◌+◌, ◌++◌, [], ℕ, List, IfOk, MatchOption, None, Some, Contains, ◌↔◌, IsTrue, OnErr, length, vec_len, vec_capacity};
-ghost use Rattle.outside_io.specs.Outside.{Fetches, HasFailed, content, Rose};
-ghost use Rattle.outside_io.specs.Held.{HaveDifferentNames, files_of, after_fetch, PutsHeld};
+ghost use Rattle.outside_io.{specs.Outside.{Fetches, HasFailed, content, Rose}, specs.Held.{HaveDifferentNames, files_of, after_fetch, PutsHeld}};
 
 use crate::shelf::{Fetch, ReadFault, Shelf};
 use crate::sink::{Failed, Sink};

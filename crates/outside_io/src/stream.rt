@@ -1,7 +1,5 @@
 ghost use Rattle.std.specs.Prelude.{◌≡◌, ◌≤◌, ◌↔◌, None, OnErr, OnOk};
-ghost use Rattle.outside_io.specs.Outside.{Rose, one_more};
-ghost use Rattle.outside_io.specs.Machine.{Writes, sink_faults, stream_of};
-ghost use Rattle.outside_io.specs.inner.Steps.{IsFullDisk, WritesOnce};
+ghost use Rattle.outside_io.{specs.Outside.{Rose, one_more}, specs.Machine.{Writes, sink_faults, stream_of}, specs.inner.Steps.{IsFullDisk, WritesOnce}};
 
 use crate::sink::{Failed, Sink};
 use std::io::{ErrorKind, Write};

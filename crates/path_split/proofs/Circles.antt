@@ -2,11 +2,7 @@
 use Rattle.std.proofs.Common.{◌≡◌, ℕ, zero, suc, ◌-◌, ◌<◌, ◌≤◌, ◌⊎◌, List, [], ◌∷◌, length, get_or, drop, take, ⊎_elim, refl, sym, ap, subst, arith, All, Any}
 use Rattle.net_core.proofs.Library.{AllByRecursion}
 use Rattle.plan_terms.specs.Terms.{AreDifferent}
-use Rattle.path_split.specs.declared.leg.Leg.{Leg}
-use Rattle.path_split.specs.inner.Legs.{leg_at}
-use Rattle.path_split.specs.inner.Trails.{AreEnough, IsLive, froms, less}
-use Rattle.path_split.specs.inner.Remains.{TakesCircle}
-use Rattle.path_split.proofs.Trailing.{all_drop, any_positive, are_enough}
+use Rattle.path_split.{specs.declared.leg.Leg.Leg, specs.inner.Legs.leg_at, specs.inner.Trails.{AreEnough, IsLive, froms, less}, specs.inner.Remains.TakesCircle, proofs.Trailing.{all_drop, any_positive, are_enough}}
 
 different_rest : (legs : List Leg) (ks : List ℕ) (i : ℕ) → AreDifferent (froms legs ks) → AreDifferent (froms legs (drop i ks))
 different_rest legs [] zero different = different

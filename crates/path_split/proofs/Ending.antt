@@ -1,17 +1,8 @@
 -- from arcs to legs, and back to arcs
-use Rattle.std.proofs.Common.{◌≡◌, ℕ, ◌<◌, ◌⊎◌, inl, inr, Bool, false, cond, eqb, eqb-true, List, [], ◌∷◌, Option, None, Some, MatchOption, length, get_or, map, sum_by, ⊎_elim, refl, sym, ap, subst, ◌∙◌, arith, All, eq-eqb, ne_eqb, IsPermutation}
+use Rattle.std.{proofs.Common.{◌≡◌, ℕ, ◌<◌, ◌⊎◌, inl, inr, Bool, false, cond, eqb, eqb-true, List, [], ◌∷◌, Option, None, Some, MatchOption, length, get_or, map, sum_by, ⊎_elim, refl, sym, ap, subst, ◌∙◌, arith, All, eq-eqb, ne_eqb, IsPermutation}, proofs.lemmas.List.Sorted.{length_permutation, sum_by-IsPermutation}}
 use Rattle.net_core.proofs.Library.{cases_Bool, cases_lt, false≢true, length-map, All-head, All-map, All-nil, All-tail, All-weaker, All-permutation, sum_by-cons, get_or_from_slice_get, slice_get_within, ∥∥₁_elim, props, AllByRecursion, option_map_or, sums-same}
-use Rattle.std.proofs.lemmas.List.Sorted.{length_permutation, sum_by-IsPermutation}
 use Rattle.plan_terms.specs.Terms.{LinkId, Link, HasEnds, IsLink, IsNetwork, IsPath, Leads}
-use Rattle.path_split.specs.declared.arc.Arc.{Arc}
-use Rattle.path_split.specs.declared.arc.PathFlow.{PathFlow}
-use Rattle.path_split.specs.declared.leg.Leg.{Leg}
-use Rattle.path_split.specs.Balances.{IsArc, IsBalanced, IsFirstUnbalanced, entering, enters, leaving, other_end}
-use Rattle.path_split.specs.Splits.{AreEnds, IsFlowSplit}
-use Rattle.path_split.specs.inner.Legs.{IsEven, IsFirstUneven, arrives, far_node, is_on, leaves, leg_at, leg_of, leg_sum, no_leg, nums}
-use Rattle.path_split.specs.inner.Remains.{HasLeg, Remains}
-use Rattle.path_split.proofs.Picking.{due_elsewhere, picked_none, picked_whole}
-use Rattle.path_split.proofs.Lessening.{live_few}
+use Rattle.path_split.{specs.declared.arc.Arc.Arc, specs.declared.arc.PathFlow.PathFlow, specs.declared.leg.Leg.Leg, specs.Balances.{IsArc, IsBalanced, IsFirstUnbalanced, entering, enters, leaving, other_end}, specs.Splits.{AreEnds, IsFlowSplit}, specs.inner.Legs.{IsEven, IsFirstUneven, arrives, far_node, is_on, leaves, leg_at, leg_of, leg_sum, no_leg, nums}, specs.inner.Remains.{HasLeg, Remains}, proofs.Picking.{due_elsewhere, picked_none, picked_whole}, proofs.Lessening.live_few}
 
 -- whole legs that are balanced are what remains at first
 pub remains_first : (legs : List Leg) (n from to need : ℕ) → from < n → to < n → All (λ g. (g.from.0 < n) × (g.to.0 < n)) legs → ((x : ℕ) → x < n → IsEven legs from to need x) → Remains legs from to (nums legs) need []

@@ -2,11 +2,7 @@
 use Rattle.std.proofs.Common.{◌≡◌, ◌≢◌, ℕ, zero, suc, ◌+◌, ◌-◌, ◌<◌, ◌≤◌, ◌⊎◌, inl, inr, Bool, cond, List, [], ◌∷◌, length, get_or, set, ⊎_elim, refl, sym, subst, ◌∙◌, arith, length-set, get_or-set_same, get_or-set_other}
 use Rattle.net_core.proofs.Library.{cases_eq, AllByRecursion}
 use Rattle.plan_terms.specs.Terms.{AreDifferent}
-use Rattle.path_split.specs.declared.leg.Leg.{Leg}
-use Rattle.path_split.specs.inner.Legs.{leg_at, picked}
-use Rattle.path_split.specs.inner.Trails.{AreEnough, less}
-use Rattle.path_split.specs.inner.Remains.{live}
-use Rattle.path_split.proofs.Picking.{picked_set}
+use Rattle.path_split.{specs.declared.leg.Leg.Leg, specs.inner.Legs.{leg_at, picked}, specs.inner.Trails.{AreEnough, less}, specs.inner.Remains.live, proofs.Picking.picked_set}
 
 -- each of these places has the amount left
 abbrev pub EachHas : List ℕ → ℕ → List ℕ → Type 0

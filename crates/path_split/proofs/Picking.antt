@@ -1,8 +1,7 @@
 -- what is left of the legs with a test
 use Rattle.std.proofs.Common.{◌≡◌, ◌≢◌, ℕ, zero, suc, ◌+◌, ◌-◌, ◌<◌, ◌≤◌, Bool, true, false, cond, List, [], ◌∷◌, length, get_or, set, eqb, eqb-true, ⊎_elim, refl, ap, subst, arith, ne_eqb, eq-eqb}
 use Rattle.net_core.proofs.Library.{cases_Bool, cases_eq, sum_by-cons}
-use Rattle.path_split.specs.declared.leg.Leg.{Leg}
-use Rattle.path_split.specs.inner.Legs.{due, leaves, leg_at, leg_sum, nums, picked}
+use Rattle.path_split.{specs.declared.leg.Leg.Leg, specs.inner.Legs.{due, leaves, leg_at, leg_sum, nums, picked}}
 
 pub cond_most : (b : Bool) (n : ℕ) → cond b n 0 ≤ n
 cond_most true n = omega arith

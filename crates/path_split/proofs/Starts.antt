@@ -1,8 +1,7 @@
 -- where the legs of each node start, one node after another
 use Rattle.std.proofs.Common.{◌≡◌, ℕ, ◌+◌, ◌<◌, List, [], ◌∷◌, ◌++◌, length, get_or, ⊎_elim, sym, ap, subst, ◌∙◌, arith, length-append}
 use Rattle.net_core.proofs.Library.{cases_lt, get_or_append_left, get_or_push}
-use Rattle.path_split.specs.declared.leg.Leg.{Leg}
-use Rattle.path_split.specs.inner.Legs.{IsStartPlace}
+use Rattle.path_split.{specs.declared.leg.Leg.Leg, specs.inner.Legs.IsStartPlace}
 
 pub starts_push : (legs : List Leg) (starts : List ℕ) (x s : ℕ) → length starts ≡ x → ((y : ℕ) → y < x → IsStartPlace legs y (get_or starts y 0)) → IsStartPlace legs x s
     → (length (starts ++ s ∷ []) ≡ x + 1) × ((y : ℕ) → y < x + 1 → IsStartPlace legs y (get_or (starts ++ s ∷ []) y 0))

@@ -2,15 +2,7 @@
 use Rattle.std.proofs.Common.{◌≡◌, ◌≢◌, ℕ, ◌+◌, ◌<◌, ◌≤◌, inl, inr, Bool, cond, List, [], ◌∷◌, ◌++◌, length, get_or, drop, sum_by, ⊎_elim, refl, sym, ap, subst, ◌∙◌, arith, length-append, All, Any, eq-eqb}
 use Rattle.net_core.proofs.Library.{All-push, sum_by_push}
 use Rattle.plan_terms.specs.Terms.{names_link, IsPath}
-use Rattle.path_split.specs.declared.arc.PathFlow.{PathFlow}
-use Rattle.path_split.specs.declared.leg.Leg.{Leg}
-use Rattle.path_split.specs.Splits.{path_load}
-use Rattle.path_split.specs.inner.Legs.{IsStar, arrives, due, is_on, leaves, leg_at, picked}
-use Rattle.path_split.specs.inner.Trails.{AreSteady, Chain, IsWalk, trail_links}
-use Rattle.path_split.specs.inner.Remains.{HasLeg, Moves, Remains, TakesOff, TakesCircle, TakesPath, live}
-use Rattle.path_split.proofs.Picking.{due_elsewhere, due_here, due_sum, picked_positive}
-use Rattle.path_split.proofs.Lessening.{less_length, less_lower, live_falls, live_less, live_positive, one_has, picked_less, weight}
-use Rattle.path_split.proofs.Trailing.{chain_drop, chain_even, named_weight, walk_path}
+use Rattle.path_split.{specs.declared.arc.PathFlow.PathFlow, specs.declared.leg.Leg.Leg, specs.Splits.path_load, specs.inner.Legs.{IsStar, arrives, due, is_on, leaves, leg_at, picked}, specs.inner.Trails.{AreSteady, Chain, IsWalk, trail_links}, specs.inner.Remains.{HasLeg, Moves, Remains, TakesOff, TakesCircle, TakesPath, live}, proofs.Picking.{due_elsewhere, due_here, due_sum, picked_positive}, proofs.Lessening.{less_length, less_lower, live_falls, live_less, live_positive, one_has, picked_less, weight}, proofs.Trailing.{chain_drop, chain_even, named_weight, walk_path}}
 
 taken_long : (old ks new : List ℕ) (num : ℕ) → TakesOff old ks num new → length new ≡ length old
 taken_long old ks new num t = ap length t.taken ∙ less_length old num ks

@@ -2,12 +2,7 @@
 use Rattle.std.proofs.Common.{◌≡◌, ◌≢◌, ℕ, zero, suc, ◌+◌, ◌<◌, ◌≤◌, ◌⊎◌, inl, inr, ◌||◌, Bool, true, false, cond, eqb, List, [], ◌∷◌, ◌++◌, length, get_or, set, drop, ◌↔◌, get_or-set_same, get_or-set_other, ⊎_elim, refl, sym, ap, subst, ◌∙◌, arith, All, Any}
 use Rattle.net_core.proofs.Library.{cases_Bool, cases_eq, AllByRecursion, All-from_recursion, All-head, All-tail}
 use Rattle.plan_terms.specs.Terms.{names_link, AreDifferent, IsPath, Leads, last_node}
-use Rattle.path_split.specs.declared.leg.Leg.{Leg}
-use Rattle.path_split.specs.inner.Legs.{arrives, due, is_on, leaves, leg_at, picked}
-use Rattle.path_split.specs.inner.Trails.{AreEnough, AreSteady, Chain, Has, IsLive, IsWalk, froms, trail_links}
-use Rattle.path_split.specs.inner.Remains.{HasLeg}
-use Rattle.path_split.proofs.Picking.{cond_most}
-use Rattle.path_split.proofs.Lessening.{EachHas, weight}
+use Rattle.path_split.{specs.declared.leg.Leg.Leg, specs.inner.Legs.{arrives, due, is_on, leaves, leg_at, picked}, specs.inner.Trails.{AreEnough, AreSteady, Chain, Has, IsLive, IsWalk, froms, trail_links}, specs.inner.Remains.HasLeg, proofs.Picking.cond_most, proofs.Lessening.{EachHas, weight}}
 
 -- as much is taken from what leaves a node as from what arrives there, but at the ends
 pub chain_even : (legs : List Leg) (num x a : ℕ) (ks : List ℕ) (b : ℕ) → Chain legs a ks b → weight (leaves x) legs num ks + due b num x ≡ weight (arrives x) legs num ks + due a num x

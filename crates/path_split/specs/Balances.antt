@@ -1,6 +1,5 @@
 -- flows on arcs, and what they leave and bring at each node
-use Rattle.std.specs.Prelude.{◌≡◌, ℕ, ◌+◌, ◌<◌, ◌==◌, ◌⊎◌, Bool, false, if◌then◌else◌, List, Some, slice_get, sum_by}
-use Rattle.std.specs.Option.{option_map_or}
+use Rattle.std.{specs.Prelude.{◌≡◌, ℕ, ◌+◌, ◌<◌, ◌==◌, ◌⊎◌, Bool, false, if◌then◌else◌, List, Some, slice_get, sum_by}, specs.Option.option_map_or}
 use Rattle.plan_terms.specs.Terms.{Link}
 use Rattle.path_split.specs.declared.arc.Arc.{Arc}
 

@@ -1,8 +1,7 @@
 -- the split of flows on arcs into flows along paths (flow decomposition: Ahuja, Magnanti and Orlin, Network Flows, 1993)
 use Rattle.std.specs.Prelude.{◌≡◌, ℕ, ◌≤◌, ◌<◌, ◌==◌, if◌then◌else◌, List, Some, All, length, slice_get, sum_by}
 use Rattle.plan_terms.specs.Terms.{Link, HasEnds, names_link, IsPath}
-use Rattle.path_split.specs.declared.arc.Arc.{Arc}
-use Rattle.path_split.specs.declared.arc.PathFlow.{PathFlow}
+use Rattle.path_split.{specs.declared.arc.Arc.Arc, specs.declared.arc.PathFlow.PathFlow}
 
 -- nodes x and y are the ends of link e, in either order
 pub record AreEnds (links : List Link) (e x y : ℕ) : Type 0 where

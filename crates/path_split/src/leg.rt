@@ -1,7 +1,5 @@
-ghost use Rattle.std.specs.Prelude.{◌≡◌, ◌<◌, All, IfOk, length, map};
-ghost use Rattle.std.specs.List.Sorted.{IsPermutation, IsNonDecreasingBy};
-ghost use Rattle.path_split.specs.Balances.{IsArc, other_end};
-ghost use Rattle.path_split.specs.inner.Legs.{leg_of};
+ghost use Rattle.std.{specs.Prelude.{◌≡◌, ◌<◌, All, IfOk, length, map}, specs.List.Sorted.{IsPermutation, IsNonDecreasingBy}};
+ghost use Rattle.path_split.{specs.Balances.{IsArc, other_end}, specs.inner.Legs.leg_of};
 
 use crate::arc::Arc;
 use net_core::{Link, LinkId, List, NoMemory, NodeId};

@@ -1,13 +1,6 @@
-ghost use Rattle.std.specs.Prelude.{◌≡◌, ◌≢◌, ℕ, ◌+◌, ◌<◌, ◌≤◌, ◌⊎◌, [], All, IfErr, IfOk, length, slice_index, sum_by};
-ghost use Rattle.std.specs.List.{AllByRecursion};
+ghost use Rattle.std.{specs.Prelude.{◌≡◌, ◌≢◌, ℕ, ◌+◌, ◌<◌, ◌≤◌, ◌⊎◌, [], All, IfErr, IfOk, length, slice_index, sum_by}, specs.List.AllByRecursion, specs.List.Sorted.IsNonDecreasingBy};
 ghost use Rattle.plan_terms.specs.Terms.{AreDifferent};
-ghost use Rattle.path_split.specs.Balances.{AreNodesBalanced, IsArc, IsFirstUnbalanced};
-ghost use Rattle.path_split.specs.Splits.{IsFlowSplit};
-ghost use Rattle.path_split.specs.declared.arc.SplitFault.TheVariants.{Unbalanced};
-ghost use Rattle.path_split.specs.inner.Legs.{IsEven, IsStar, leg_at, nums};
-ghost use Rattle.path_split.specs.inner.Trails.{Has, IsLive, froms};
-ghost use Rattle.path_split.specs.inner.Remains.{Moves, Remains, TakesCircle, TakesPath};
-ghost use Rattle.std.specs.List.Sorted.{IsNonDecreasingBy};
+ghost use Rattle.path_split.{specs.Balances.{AreNodesBalanced, IsArc, IsFirstUnbalanced}, specs.Splits.IsFlowSplit, specs.declared.arc.SplitFault.TheVariants.Unbalanced, specs.inner.Legs.{IsEven, IsStar, leg_at, nums}, specs.inner.Trails.{Has, IsLive, froms}, specs.inner.Remains.{Moves, Remains, TakesCircle, TakesPath}};
 
 use crate::arc::{Arc, PathFlow, SplitFault};
 use crate::balance::first_uneven;

@@ -1,5 +1,4 @@
-ghost use Rattle.std.specs.Prelude.{◌≡◌, ℕ, ◌+◌, ◌<◌, ◌≤◌, IfOk, length, slice_index};
-ghost use Rattle.std.specs.List.Sorted.{IsNonDecreasingBy};
+ghost use Rattle.std.{specs.Prelude.{◌≡◌, ℕ, ◌+◌, ◌<◌, ◌≤◌, IfOk, length, slice_index}, specs.List.Sorted.IsNonDecreasingBy};
 ghost use Rattle.path_split.specs.inner.Legs.{IsStartPlace, IsStar, leaves, leg_at, nums, picked};
 
 use crate::leg::Leg;

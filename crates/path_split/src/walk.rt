@@ -1,6 +1,5 @@
 ghost use Rattle.std.specs.Prelude.{◌≡◌, ℕ, ◌+◌, ◌<◌, ◌≤◌, ◌⊎◌, All, IfOk, length, slice_index};
-ghost use Rattle.path_split.specs.inner.Legs.{IsStar, leg_at};
-ghost use Rattle.path_split.specs.inner.Trails.{AreSteady, Has, IsWalk, froms};
+ghost use Rattle.path_split.{specs.inner.Legs.{IsStar, leg_at}, specs.inner.Trails.{AreSteady, Has, IsWalk, froms}};
 
 use crate::leg::Leg;
 use crate::star::next_leg;

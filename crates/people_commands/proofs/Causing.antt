@@ -1,18 +1,12 @@
 -- how the result of one step becomes the result of the run
 use Rattle.std.proofs.Common.{◌≡◌, ◌∙◌, ℕ, List, [], Option, Result, Ok, Err, String, inr, subst, sym, ◌≢◌, MatchResult, Global}
 use Rattle.outside_io.specs.Outside.{Files}
-use Rattle.check_answers.specs.declared.status.Status.{Status}
-use Rattle.check_answers.specs.declared.status.Status.TheVariants.{Done, ReadFault}
+use Rattle.check_answers.{specs.declared.status.Status.Status, specs.declared.status.Status.TheVariants.{Done, ReadFault}}
 use Rattle.people_plans.specs.declared.answer.PlanAnswer.{PlanAnswer}
-use Rattle.people_commands.specs.Endings.{EndsFront, EndsFrontCommand}
-use Rattle.people_commands.specs.inner.Printing.{GivesAnswer, HasPrintedCause}
-use Rattle.people_commands.specs.declared.output.Printed.{Printed}
-use Rattle.people_words.specs.Fronts.{FrontCommand, IsFrontCommand}
-use Rattle.people_files.specs.Endings.{FailsReading, HasFrontCause}
-use Rattle.people_files.specs.declared.stop.Halt.{Halt}
+use Rattle.people_words.specs.PeopleCommands.{PeopleCommand, IsPeopleCommand}
+use Rattle.people_files.{specs.Endings.{FailsReading, HasCauseForPeople}, specs.declared.stop.Halt.Halt, specs.declared.stop.Told.Told, proofs.Causing.halt_map}
+use Rattle.people_commands.{specs.Endings.{EndsForPeople, EndsPeopleCommand}, specs.inner.Printing.{GivesAnswer, HasPrintedCause}, specs.declared.output.Printed.Printed}
 use Rattle.people_files.specs.declared.stop.Halt.TheVariants as halt
-use Rattle.people_files.specs.declared.stop.Told.{Told}
-use Rattle.people_files.proofs.Causing.{halt_map}
 
 -- a further cause of what is printed and said
 pub printed_map : (P Q : Status → List ℕ → List ℕ → Type 0) (r : Result Printed Halt)
@@ -23,13 +17,13 @@ printed_map P Q (Err h) f held =
     halt_map (λ status message. P status [] message) (λ status message. Q status [] message) h (λ status message. f status [] message) held
 
 -- a run with the words of a command ends as the command does
-pub front_ends : (words : List (String Global)) (files : Option Files) (c : FrontCommand) (r : Result Printed Halt) → IsFrontCommand words c
-    → HasPrintedCause (EndsFrontCommand files c) r → HasPrintedCause (EndsFront words files) r
-front_ends words files c r is held = printed_map (EndsFrontCommand files c) (EndsFront words files) r (λ status text message ends. inr (inr (c, is, ends))) held
+pub people_ends : (words : List (String Global)) (files : Option Files) (c : PeopleCommand) (r : Result Printed Halt) → IsPeopleCommand words c
+    → HasPrintedCause (EndsPeopleCommand files c) r → HasPrintedCause (EndsForPeople words files) r
+people_ends words files c r is held = printed_map (EndsPeopleCommand files c) (EndsForPeople words files) r (λ status text message ends. inr (inr (c, is, ends))) held
 
 -- a text with nothing beside it
 pub alone_has : (Ends : Status → List ℕ → List ℕ → Type 0) (r : Result (List ℕ) Halt) (p : Result Printed Halt)
-    → MatchResult r (λ t. p ≡ Ok (record { text = t; message = [] })) (λ h. p ≡ Err h) → HasFrontCause Ends r → HasPrintedCause Ends p
+    → MatchResult r (λ t. p ≡ Ok (record { text = t; message = [] })) (λ h. p ≡ Err h) → HasCauseForPeople Ends r → HasPrintedCause Ends p
 alone_has Ends (Ok text) p is held = subst (HasPrintedCause Ends) (sym is) held
 alone_has Ends (Err h) p is held = subst (HasPrintedCause Ends) (sym is) held
 

@@ -1,12 +1,10 @@
 -- a demand that is separated where nothing fails
-use Rattle.std.proofs.Common.{◌≡◌, ℕ, List, [], ◌++◌, refl, subst}
-use Rattle.std.specs.Option.{option_map_or}
+use Rattle.std.{proofs.Common.{◌≡◌, ℕ, List, [], ◌++◌, refl, subst}, specs.Option.option_map_or}
 use Rattle.plan_terms.specs.Terms.{Demand, IsFirstSeparation, Network}
 use Rattle.plan_report.specs.Terms.{demand_name}
 use Rattle.check_answers.specs.declared.status.Status.TheVariants.{NotSurvivable}
 use Rattle.failure_texts.specs.Fates.{with_states}
-use Rattle.people_commands.specs.Endings.{SaysApart, apart_words}
-use Rattle.people_commands.specs.inner.Causes.{apart_line}
+use Rattle.people_commands.{specs.Endings.{SaysApart, apart_words}, specs.inner.Causes.apart_line}
 
 -- its name is that of the demand at its place
 name_at : (net : Network) (demands : List Demand) (k : ℕ) (name : List ℕ) (first : IsFirstSeparation (with_states net demands []) 0 k) → name ≡ demand_name demands k

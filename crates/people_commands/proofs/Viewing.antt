@@ -2,16 +2,13 @@
 use Rattle.std.proofs.Common.{◌≡◌, ◌∙◌, ℕ, List, [], ◌∷◌, Result, Ok, Err, inl, inr, sym, IfOk, MatchResult}
 use Rattle.plan_terms.specs.Terms.{Case, Notes}
 use Rattle.plan_report.specs.Terms.{Outcome, Planned, Unsurvivable}
-use Rattle.check_answers.specs.declared.status.Status.{Status}
-use Rattle.check_answers.specs.declared.status.Status.TheVariants.{BadWords, ReadFault}
-use Rattle.people_files.specs.Endings.{FailsReading, Halts, HasFrontCause, halt_status}
-use Rattle.people_files.specs.declared.stop.Halt.{Halt}
-use Rattle.people_files.specs.declared.stop.Halt.TheVariants as halt
-use Rattle.people_views.specs.ProofLines.{FailsAtLines, FailsAtOutcomeLines}
-use Rattle.people_views.specs.Terms.{IsFormOf, ViewForm, EndsReport, LacksState, NamesState, PicturesState}
-use Rattle.people_words.specs.Fronts as asked
-use Rattle.people_words.specs.Fronts.{AskedForm}
+use Rattle.check_answers.{specs.declared.status.Status.Status, specs.declared.status.Status.TheVariants.{BadWords, ReadFault}}
+use Rattle.people_files.{specs.Endings.{FailsReading, Halts, HasCauseForPeople, halt_status}, specs.declared.stop.Halt.Halt}
+use Rattle.people_views.{specs.ProofLines.{FailsAtLines, FailsAtOutcomeLines}, specs.Terms.{IsFormOf, ViewForm, EndsReport, LacksState, NamesState, PicturesState}}
+use Rattle.people_words.specs.PeopleCommands.{AskedForm}
 use Rattle.people_commands.specs.Endings.{AsksForm, LacksForm}
+use Rattle.people_files.specs.declared.stop.Halt.TheVariants as halt
+use Rattle.people_words.specs.PeopleCommands as asked
 
 -- the lines below a report
 outcome_read : (name : List ℕ) (p : Case) (outcome : Outcome) (bytes : List ℕ) (s : Status) (m : List ℕ) → FailsAtOutcomeLines name p outcome bytes s m → s ≡ ReadFault → ⊥
@@ -33,7 +30,7 @@ ends_read form network name p notes bytes s text m (inr (r, spelled, inr (accept
 ends_read form network name p notes bytes s text m (inr (r, spelled, inr (accepted, inr (done, none, seen)))) is = absurd (cc (sym done ∙ is))
 
 pub view_read : (form : ViewForm) (network name : List ℕ) (p : Case) (notes : Notes) (bytes : List ℕ) (r : Result (List ℕ) Halt)
-    → HasFrontCause (EndsReport form network name p notes bytes) r → FailsReading r → ⊥
+    → HasCauseForPeople (EndsReport form network name p notes bytes) r → FailsReading r → ⊥
 view_read form network name p notes bytes (Ok text) ends is = absurd is
 view_read form network name p notes bytes (Err halt.NoMemory) ends is = absurd (cc is)
 view_read form network name p notes bytes (Err (halt.Told told)) ends is = ends_read form network name p notes bytes told.status [] told.message ends is

@@ -1,24 +1,17 @@
 -- the result of a run for people: its status, the text that it prints, and the message on standard error
-use Rattle.std.specs.Prelude.{◌≡◌, ℕ, ◌⊎◌, List, [], ◌++◌, Option, String, codes}
-use Rattle.std.specs.Global.{Global}
+use Rattle.std.{specs.Prelude.{◌≡◌, ℕ, ◌⊎◌, List, [], ◌++◌, Option, String, codes}, specs.Global.Global}
 use Rattle.plan_terms.specs.Terms.{Case, Demand, Network, Notes}
-use Rattle.outside_io.specs.Outside.{Fetches, Files, Rose, Takes, TakesPrefix}
-use Rattle.outside_io.specs.declared.shelf.Fetch.TheVariants as fetch
-use Rattle.outside_io.specs.declared.sink.Failed.{Failed}
-use Rattle.outside_io.specs.declared.sink.Failed.TheVariants.{DiskFull, Other}
-use Rattle.check_answers.specs.declared.status.Status.{Status}
-use Rattle.check_answers.specs.declared.status.Status.TheVariants.{BadNetwork, BadWords, Done, NoMemory, NotSurvivable, WriteFault}
-use Rattle.check_answers.specs.Separations.{NamesFirstSeparation}
-use Rattle.failure_texts.specs.FailureTexts.{IsFailureList}
-use Rattle.failure_texts.specs.Fates.{with_states}
+use Rattle.outside_io.{specs.Outside.{Fetches, Files, Rose, Takes, TakesPrefix}, specs.declared.sink.Failed.Failed, specs.declared.sink.Failed.TheVariants.{DiskFull, Other}}
+use Rattle.check_answers.{specs.declared.status.Status.Status, specs.declared.status.Status.TheVariants.{BadNetwork, BadWords, Done, NoMemory, NotSurvivable, WriteFault}, specs.Separations.NamesFirstSeparation}
+use Rattle.failure_texts.{specs.FailureTexts.IsFailureList, specs.Fates.with_states}
 use Rattle.input_files.specs.Inputs.{Fetched, SpellsNetwork, input_limit, report_limit}
-use Rattle.people_words.specs.Fronts as asked
-use Rattle.people_words.specs.Fronts.{AskedForm, AskedPlan, FrontCommand, Help, HelpOn, Version, Failures, View, Plan, IsFrontCommand}
-use Rattle.people_files.specs.FrontInputs.{CaseWords, EndsAfterCase}
-use Rattle.people_files.specs.Messages.{FailsAtFetch, FailsAtFile, ShowsNetworkFault}
+use Rattle.people_words.specs.PeopleCommands.{AskedForm, AskedPlan, PeopleCommand, Help, HelpOn, Version, Failures, View, Plan, IsPeopleCommand}
+use Rattle.people_files.{specs.CaseInputs.{CaseWords, EndsAfterCase}, specs.Messages.{FailsAtFetch, FailsAtFile, ShowsNetworkFault}}
 use Rattle.people_views.specs.Terms.{ViewForm, Tables, Values, EndsReport, LacksState, NamesState, PicturesState}
-use Rattle.people_plans.specs.FrontPlans.{EndsPlanForPeople}
+use Rattle.people_plans.specs.PlansForPeople.{EndsPlanForPeople}
 use Rattle.people_commands.specs.HelpTexts.{help_text, topic_help}
+use Rattle.outside_io.specs.declared.shelf.Fetch.TheVariants as fetch
+use Rattle.people_words.specs.PeopleCommands as asked
 
 -- ---- the program's own texts
 
@@ -102,26 +95,26 @@ abbrev pub EndsView : Option Files → CaseWords → List ℕ → AskedForm → 
 EndsView files w name form = EndsAfterCase files w (ViewsAsked files form w.files.network name)
 
 -- The result of a plan for files: reading one ends the run with a message, or it is the plan for the case that they spell.
-abbrev pub EndsFrontPlan : Option Files → AskedPlan → Status → List ℕ → List ℕ → Type 0
-EndsFrontPlan files asked = EndsAfterCase files asked.case (EndsPlanForPeople asked.case.files.network asked.splits asked.report)
+abbrev pub EndsPeoplePlan : Option Files → AskedPlan → Status → List ℕ → List ℕ → Type 0
+EndsPeoplePlan files asked = EndsAfterCase files asked.case (EndsPlanForPeople asked.case.files.network asked.splits asked.report)
 
 -- the result of a command
-abbrev pub EndsFrontCommand : Option Files → FrontCommand → Status → List ℕ → List ℕ → Type 0
-EndsFrontCommand files Help status text message = (status ≡ Done) × (text ≡ help_text) × (message ≡ [])
-EndsFrontCommand files (HelpOn topic) status text message = (status ≡ Done) × (text ≡ topic_help topic) × (message ≡ [])
-EndsFrontCommand files Version status text message = (status ≡ Done) × (text ≡ version_text) × (message ≡ [])
-EndsFrontCommand files (Failures network) status text message = EndsFailures files network status text message
-EndsFrontCommand files (View w report form) status text message = EndsView files w report form status text message
-EndsFrontCommand files (Plan asked) status text message = EndsFrontPlan files asked status text message
+abbrev pub EndsPeopleCommand : Option Files → PeopleCommand → Status → List ℕ → List ℕ → Type 0
+EndsPeopleCommand files Help status text message = (status ≡ Done) × (text ≡ help_text) × (message ≡ [])
+EndsPeopleCommand files (HelpOn topic) status text message = (status ≡ Done) × (text ≡ topic_help topic) × (message ≡ [])
+EndsPeopleCommand files Version status text message = (status ≡ Done) × (text ≡ version_text) × (message ≡ [])
+EndsPeopleCommand files (Failures network) status text message = EndsFailures files network status text message
+EndsPeopleCommand files (View w report form) status text message = EndsView files w report form status text message
+EndsPeopleCommand files (Plan asked) status text message = EndsPeoplePlan files asked status text message
 
 -- ---- a run
 
 -- The result of a run, with its whole text and message: memory runs out, which needs no cause; or the words are no command; or they are one.
-abbrev pub EndsFront : List (String Global) → Option Files → Status → List ℕ → List ℕ → Type 0
-EndsFront words files status text message =
+abbrev pub EndsForPeople : List (String Global) → Option Files → Status → List ℕ → List ℕ → Type 0
+EndsForPeople words files status text message =
     ((status ≡ NoMemory) × (text ≡ []) × (message ≡ memory_message))
-    ⊎ ((status ≡ BadWords) × ((c : FrontCommand) → IsFrontCommand words c → ⊥) × (text ≡ []) × (message ≡ usage_message))
-    ⊎ ((c : FrontCommand) × IsFrontCommand words c × EndsFrontCommand files c status text message)
+    ⊎ ((status ≡ BadWords) × ((c : PeopleCommand) → IsPeopleCommand words c → ⊥) × (text ≡ []) × (message ≡ usage_message))
+    ⊎ ((c : PeopleCommand) × IsPeopleCommand words c × EndsPeopleCommand files c status text message)
 
 -- the sink of messages takes the message whole, or it counts a fault and takes a prefix
 abbrev pub TellsBeside : {E : Type 0} → (E → Option (List ℕ)) → (E → ℕ) → List ℕ → E → E → Type 0

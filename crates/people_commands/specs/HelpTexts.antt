@@ -1,7 +1,6 @@
 -- what the program says about its own use
 use Rattle.std.specs.Prelude.{ℕ, List, ◌++◌, codes}
-use Rattle.people_words.specs.declared.words.HelpTopic.{HelpTopic}
-use Rattle.people_words.specs.declared.words.HelpTopic.TheVariants.{Plan, View, Failures, Help}
+use Rattle.people_words.{specs.declared.words.HelpTopic.HelpTopic, specs.declared.words.HelpTopic.TheVariants.{Plan, View, Failures, Help}}
 
 -- how the program is used
 abbrev pub help_text : List ℕ

@@ -2,16 +2,15 @@ ghost use Rattle.std.specs.Prelude.{◌≡◌, ◌++◌, ◌∷◌, [], IfOk, On
 ghost use Rattle.plan_terms.specs.Terms.{AreDemands, IsFirstSeparation};
 ghost use Rattle.failure_texts.specs.Fates.{with_states};
 ghost use Rattle.input_files.specs.Shelves.{KeepsShelf};
-ghost use Rattle.people_commands.specs.Endings.{EndsFailures, ListsFailures, SaysApart, apart_words};
-ghost use Rattle.people_files.specs.Endings.{FailsReading, Halts, HasFrontCause};
-ghost use Rattle.people_commands.specs.inner.Causes.{apart_line};
+ghost use Rattle.people_files.specs.Endings.{FailsReading, Halts, HasCauseForPeople};
+ghost use Rattle.people_commands.{specs.Endings.{EndsFailures, ListsFailures, SaysApart, apart_words}, specs.inner.Causes.apart_line};
 
 use check_answers::Status;
 use failure_texts::{FailureAnswer, failure_list};
-use people_files::{Halt, load_network, told};
 use net_core::{Bytes, Demands, List, Network, NoMemory};
 use outside_io::Shelf;
 use part_names::demand_name;
+use people_files::{Halt, load_network, told};
 use std::alloc::Global;
 use text_kit::write::put_decimal;
 
@@ -92,7 +91,7 @@ fn apart(alloc: Global, net: &Network, demands: &Demands, k: u32) -> Halt
 /// The failure list of a network.
 fn failures_of(alloc: Global, net: &Network, demands: &Demands) -> Result<Bytes, Halt>
     requires { AreDemands (length net.now.nodes) demands.now }
-    ensures { HasFrontCause (ListsFailures net.now demands.now) result }
+    ensures { HasCauseForPeople (ListsFailures net.now demands.now) result }
 {
     match failure_list(alloc, net, demands) {
         Ok(FailureAnswer::Printed(text)) => Ok(text),
@@ -107,7 +106,7 @@ pub(crate) fn failures_file<S: Shelf>(
     name: &str,
     shelf: &mut S,
 ) -> Result<Bytes, Halt>
-    ensures ends { HasFrontCause (EndsFailures (S.files shelf.old) name.now) result }
+    ensures ends { HasCauseForPeople (EndsFailures (S.files shelf.old) name.now) result }
     ensures shelf { KeepsShelf S.files S.faults (FailsReading result) shelf.old shelf.new }
 {
     let (net, demands) = load_network(alloc, name, shelf)?;

@@ -1,12 +1,12 @@
 ghost use Rattle.std.specs.Prelude.{◌≡◌, ◌≤◌, [], MatchResult, Ok, Err};
-ghost use Rattle.people_commands.specs.Endings.{PutsBoth, TellsBeside};
 ghost use Rattle.check_answers.specs.declared.status.Status.{Status};
+ghost use Rattle.people_commands.specs.Endings.{PutsBoth, TellsBeside};
 
 use crate::usage::write_message;
 use check_answers::Status;
-use people_files::Halt;
 use net_core::{Bytes, List};
 use outside_io::Sink;
+use people_files::Halt;
 use std::alloc::Global;
 
 /// What a run prints, and the message that it writes to standard error.

@@ -2,18 +2,17 @@ ghost use Rattle.std.specs.Prelude.{◌≡◌, ◌≤◌, IfSome};
 ghost use Rattle.view_text.specs.Terms.{problem_case};
 ghost use Rattle.input_files.specs.Shelves.{KeepsShelf};
 ghost use Rattle.people_files.specs.Endings.{FailsReading};
-ghost use Rattle.people_plans.specs.FrontPlans.{EndsPlanForPeople};
-ghost use Rattle.people_words.specs.AskedFronts.{asked_plan};
-ghost use Rattle.people_commands.specs.Endings.{EndsFrontPlan};
-ghost use Rattle.people_commands.specs.inner.Printing.{GivesAnswer, HasPrintedCause};
+ghost use Rattle.people_plans.specs.PlansForPeople.{EndsPlanForPeople};
+ghost use Rattle.people_words.specs.AskedCommands.{asked_plan};
+ghost use Rattle.people_commands.{specs.Endings.EndsPeoplePlan, specs.inner.Printing.{GivesAnswer, HasPrintedCause}};
 
 use crate::output::Printed;
 use check_answers::Status;
+use net_core::Problem;
+use outside_io::Shelf;
 use people_files::{Halt, Told, load_case};
 use people_plans::{PlanAnswer, plan_for_people};
 use people_words::PlanRequest;
-use net_core::Problem;
-use outside_io::Shelf;
 use plan_progress::{Teller, TellingGate};
 use std::alloc::Global;
 use std::sync::Wait;
@@ -76,7 +75,7 @@ pub(crate) fn plan_files<R: Threads + Wait + Sync, S: Shelf, T: Teller + Sync>(
     shelf: &mut S,
     teller: &T,
 ) -> Result<Printed, Halt>
-    ensures ends { HasPrintedCause (EndsFrontPlan (S.files shelf.old) (asked_plan words.now)) result }
+    ensures ends { HasPrintedCause (EndsPeoplePlan (S.files shelf.old) (asked_plan words.now)) result }
     ensures shelf { KeepsShelf S.files S.faults (FailsReading result) shelf.old shelf.new }
 {
     let problem = load_case(alloc, &words.case, shelf)?;

@@ -1,10 +1,9 @@
 ghost use Rattle.std.specs.Prelude.{◌≡◌, ◌≤◌, ℕ, List, [], IfOk};
 ghost use Rattle.input_files.specs.Shelves.{KeepsShelf};
-ghost use Rattle.people_commands.specs.Endings.{EndsFront, EndsFrontCommand, PutsBoth, usage_message};
-ghost use Rattle.people_commands.specs.inner.Printing.{HasPrintedCause};
 ghost use Rattle.people_files.specs.Endings.{FailsReading, Halts};
-ghost use Rattle.people_words.specs.AskedFronts.{asked_front};
+ghost use Rattle.people_words.specs.AskedCommands.{people_command};
 ghost use Rattle.check_answers.specs.declared.status.Status.{Status};
+ghost use Rattle.people_commands.{specs.Endings.{EndsForPeople, EndsPeopleCommand, PutsBoth, usage_message}, specs.inner.Printing.HasPrintedCause};
 
 use crate::failures::failures_file;
 use crate::output::{Printed, alone, say, tell};
@@ -12,10 +11,10 @@ use crate::plan::plan_files;
 use crate::usage::{HELP, MEMORY_MESSAGE, USAGE, VERSION, topic_help};
 use crate::view::view_files;
 use check_answers::Status;
-use people_files::{Halt, told};
-use people_words::{FrontWords, command_of};
 use net_core::{Bytes, List as Items, NoMemory};
 use outside_io::{Shelf, Sink};
+use people_files::{Halt, told};
+use people_words::{PeopleWords, command_of};
 use plan_progress::Teller;
 use std::alloc::Global;
 use std::sync::Wait;
@@ -51,20 +50,20 @@ fn own_text(alloc: Global, bytes: &[u8]) -> Result<Printed, Halt>
 fn answer_command<R: Threads + Wait + Sync, S: Shelf, T: Teller + Sync>(
     rt: &R,
     alloc: Global,
-    words: &FrontWords,
+    words: &PeopleWords,
     shelf: &mut S,
     teller: &T,
 ) -> Result<Printed, Halt>
-    ensures ends { HasPrintedCause (EndsFrontCommand (S.files shelf.old) (asked_front words.now)) result }
+    ensures ends { HasPrintedCause (EndsPeopleCommand (S.files shelf.old) (people_command words.now)) result }
     ensures shelf { KeepsShelf S.files S.faults (FailsReading result) shelf.old shelf.new }
 {
     match *words {
-        FrontWords::Help => own_text(alloc, HELP),
-        FrontWords::HelpOn(topic) => own_text(alloc, topic_help(topic)),
-        FrontWords::Version => own_text(alloc, VERSION),
-        FrontWords::Failures(network) => alone(alloc, failures_file(alloc, network, shelf)),
-        FrontWords::View(view) => alone(alloc, view_files(alloc, &view, shelf)),
-        FrontWords::Plan(plan) => plan_files(rt, alloc, &plan, shelf, teller),
+        PeopleWords::Help => own_text(alloc, HELP),
+        PeopleWords::HelpOn(topic) => own_text(alloc, topic_help(topic)),
+        PeopleWords::Version => own_text(alloc, VERSION),
+        PeopleWords::Failures(network) => alone(alloc, failures_file(alloc, network, shelf)),
+        PeopleWords::View(view) => alone(alloc, view_files(alloc, &view, shelf)),
+        PeopleWords::Plan(plan) => plan_files(rt, alloc, &plan, shelf, teller),
     }
 }
 
@@ -76,7 +75,7 @@ fn answer_words<R: Threads + Wait + Sync, S: Shelf, T: Teller + Sync>(
     shelf: &mut S,
     teller: &T,
 ) -> Result<Printed, Halt>
-    ensures ends { HasPrintedCause (EndsFront words.now (S.files shelf.old)) result }
+    ensures ends { HasPrintedCause (EndsForPeople words.now (S.files shelf.old)) result }
     ensures shelf { KeepsShelf S.files S.faults (FailsReading result) shelf.old shelf.new }
 {
     match command_of(alloc, words)? {
@@ -106,7 +105,7 @@ pub fn run<R: Threads + Wait + Sync, S: Shelf, K: Sink, E: Sink, T: Teller + Syn
 ) -> Status
     // The outcome of the run has its cause in the words and the files, reading fails only where the shelf counts it, and text and message
     // are written. The files stay as they are, and no count of faults falls.
-    ensures outcome { (status : Status) × (text : List ℕ) × (message : List ℕ) × EndsFront words.now (S.files shelf.old) status text message
+    ensures outcome { (status : Status) × (text : List ℕ) × (message : List ℕ) × EndsForPeople words.now (S.files shelf.old) status text message
         × KeepsShelf S.files S.faults (status ≡ Status.ReadFault) shelf.old shelf.new
         × PutsBoth K.taken K.faults E.taken E.faults status text message result out.old out.new beside.old beside.new }
     ensures later { K.faults out.old ≤ K.faults out.new }

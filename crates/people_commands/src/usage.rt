@@ -2,8 +2,8 @@ ghost use Rattle.std.specs.Prelude.{◌≡◌};
 ghost use Rattle.people_commands.specs.Endings as ends;
 ghost use Rattle.people_commands.specs.HelpTexts as texts;
 
-use people_words::HelpTopic;
 use outside_io::Failed;
+use people_words::HelpTopic;
 
 /// How the program is used.
 pub(crate) const HELP: &[u8] =

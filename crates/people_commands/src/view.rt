@@ -2,18 +2,17 @@ ghost use Rattle.std.specs.Prelude.{MatchResult};
 ghost use Rattle.view_text.specs.Terms.{problem_case};
 ghost use Rattle.people_views.specs.Terms.{IsFormOf};
 ghost use Rattle.input_files.specs.Shelves.{KeepsShelf};
-ghost use Rattle.people_files.specs.Endings.{FailsReading, Halts, HasFrontCause};
-ghost use Rattle.people_files.specs.FrontInputs.{named_case};
-ghost use Rattle.people_words.specs.AskedFronts.{asked_form};
+ghost use Rattle.people_files.{specs.Endings.{FailsReading, Halts, HasCauseForPeople}, specs.CaseInputs.named_case};
+ghost use Rattle.people_words.specs.AskedCommands.{asked_form};
 ghost use Rattle.people_commands.specs.Endings.{AsksForm, EndsView, LacksForm, ViewsAsked, ViewsFile};
 
+use net_core::{Bytes, Problem};
+use node_places::Place;
+use outside_io::Shelf;
 use people_files::{Halt, fetch_report, load_placed_case};
 use people_views::view_forms::ViewForm;
 use people_views::{picture_form, state_form, view_report};
 use people_words::{FormWords, ViewWords};
-use net_core::{Bytes, Problem};
-use node_places::Place;
-use outside_io::Shelf;
 use std::alloc::Global;
 
 /// The view of the report in a file, with plans for a problem.
@@ -26,7 +25,7 @@ fn view_file<S: Shelf>(
     shelf: &mut S,
 ) -> Result<Bytes, Halt>
     requires { IsFormOf (problem_case problem.now) form }
-    ensures ends { HasFrontCause (ViewsFile (S.files shelf.old) form.entry network.now name.now (problem_case problem.now) problem.now.net.notes) result }
+    ensures ends { HasCauseForPeople (ViewsFile (S.files shelf.old) form.entry network.now name.now (problem_case problem.now) problem.now.net.notes) result }
     ensures shelf { KeepsShelf S.files S.faults (FailsReading result) shelf.old shelf.new }
 {
     let bytes = fetch_report(alloc, name, shelf)?;
@@ -60,7 +59,7 @@ fn view_asked<S: Shelf>(
     places: &[Option<Place>],
     shelf: &mut S,
 ) -> Result<Bytes, Halt>
-    ensures ends { HasFrontCause (ViewsAsked (S.files shelf.old) (asked_form words.now.form) (named_case words.now.case).files.network words.now.report.now
+    ensures ends { HasCauseForPeople (ViewsAsked (S.files shelf.old) (asked_form words.now.form) (named_case words.now.case).files.network words.now.report.now
         (problem_case problem.now) problem.now.net.notes) result }
     ensures shelf { KeepsShelf S.files S.faults (FailsReading result) shelf.old shelf.new }
 {
@@ -81,7 +80,7 @@ pub(crate) fn view_files<S: Shelf>(
     words: &ViewWords,
     shelf: &mut S,
 ) -> Result<Bytes, Halt>
-    ensures ends { HasFrontCause (EndsView (S.files shelf.old) (named_case words.now.case) words.now.report.now (asked_form words.now.form)) result }
+    ensures ends { HasCauseForPeople (EndsView (S.files shelf.old) (named_case words.now.case) words.now.report.now (asked_form words.now.form)) result }
     ensures shelf { KeepsShelf S.files S.faults (FailsReading result) shelf.old shelf.new }
 {
     let (problem, places) = load_placed_case(alloc, &words.case, shelf)?;

@@ -1,9 +1,7 @@
 -- how the result of one step becomes the result of the run
 use Rattle.std.proofs.Common.{◌≡◌, ◌∙◌, ℕ, List, [], Result, Ok, Err, subst, sym, IfOk, MatchResult}
-use Rattle.check_answers.specs.declared.status.Status.{Status}
-use Rattle.check_answers.specs.declared.status.Status.TheVariants.{Done, ReadFault}
-use Rattle.people_files.specs.Endings.{Halts, HasFrontCause, halt_status}
-use Rattle.people_files.specs.declared.stop.Halt.{Halt}
+use Rattle.check_answers.{specs.declared.status.Status.Status, specs.declared.status.Status.TheVariants.{Done, ReadFault}}
+use Rattle.people_files.{specs.Endings.{Halts, HasCauseForPeople, halt_status}, specs.declared.stop.Halt.Halt}
 use Rattle.people_files.specs.declared.stop.Halt.TheVariants as halt
 
 -- a further cause
@@ -24,7 +22,7 @@ not_reading bad P halt.NoMemory other held is = absurd (cc is)
 not_reading bad P (halt.Told told) other held is = other (sym held.0 ∙ is)
 
 -- a further cause of a text or a message
-pub front_map : (P Q : Status → List ℕ → List ℕ → Type 0) (r : Result (List ℕ) Halt) → ((status : Status) (text message : List ℕ) → P status text message → Q status text message)
-    → HasFrontCause P r → HasFrontCause Q r
-front_map P Q (Ok text) f held = f Done text [] held
-front_map P Q (Err h) f held = halt_map (λ status message. P status [] message) (λ status message. Q status [] message) h (λ status message. f status [] message) held
+pub cause_map : (P Q : Status → List ℕ → List ℕ → Type 0) (r : Result (List ℕ) Halt) → ((status : Status) (text message : List ℕ) → P status text message → Q status text message)
+    → HasCauseForPeople P r → HasCauseForPeople Q r
+cause_map P Q (Ok text) f held = f Done text [] held
+cause_map P Q (Err h) f held = halt_map (λ status message. P status [] message) (λ status message. Q status [] message) h (λ status message. f status [] message) held

@@ -5,11 +5,7 @@ use Rattle.model_reader.specs.declared.model.Model.{Model}
 use Rattle.outside_io.specs.Outside.{Files}
 use Rattle.check_answers.specs.declared.status.Status.TheVariants.{BadModel, BadNetwork}
 use Rattle.input_files.specs.Terms.{default, Fetched, HasModel, SpellsNetwork, input_limit}
-use Rattle.people_files.specs.Endings.{Halts}
-use Rattle.people_files.specs.FrontInputs.{CaseWords, FailsAtFailures, FailsAtInputs}
-use Rattle.people_files.specs.Messages.{FailsAtFile, ShowsModelFault, ShowsNetworkFault}
-use Rattle.people_files.specs.declared.stop.Halt.{Halt}
-use Rattle.people_files.proofs.Causing.{halt_map}
+use Rattle.people_files.{specs.Endings.Halts, specs.CaseInputs.{CaseWords, FailsAtFailures, FailsAtInputs}, specs.Messages.{FailsAtFile, ShowsModelFault, ShowsNetworkFault}, specs.declared.stop.Halt.Halt, proofs.Causing.halt_map}
 
 -- a model that ends the run
 pub model_fails : (files : Option Files) (w : CaseWords) (net : Network) (demands : List Demand) (h : Halt) → Fetched files input_limit w.files.network SpellsNetwork (net, demands)

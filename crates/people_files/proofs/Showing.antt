@@ -1,20 +1,13 @@
 -- files that are refused with a message
 use Rattle.std.proofs.Common.{◌≡◌, ℕ, List, Result, Err, codes, length, min, refl, subst, sym}
 use Rattle.plan_terms.specs.Terms.{Demand, Network}
-use Rattle.sndlib_reader.specs.Terms.{kind_word, network_of}
-use Rattle.sndlib_reader.specs.NetworkFiles as networks
-use Rattle.sndlib_reader.specs.declared.fault.ReadKind.{ReadKind}
-use Rattle.text_kit.specs.Terms.{AnswersAs, Fails, Read}
-use Rattle.text_kit.specs.declared.refusal.Refusal.{Refusal}
-use Rattle.text_kit.specs.declared.refusal.Refusal.TheVariants.{Bad}
+use Rattle.sndlib_reader.{specs.Terms.{kind_word, network_of}, specs.declared.fault.ReadKind.ReadKind}
+use Rattle.text_kit.{specs.Terms.{AnswersAs, Fails, Read}, specs.declared.refusal.Refusal.Refusal, specs.declared.refusal.Refusal.TheVariants.Bad}
 use Rattle.input_files.specs.Terms.{SpellsNetwork, refusal_line}
-use Rattle.check_answers.specs.declared.status.Status.{Status}
-use Rattle.check_answers.specs.declared.status.Status.TheVariants.{BadNetwork}
+use Rattle.check_answers.{specs.declared.status.Status.Status, specs.declared.status.Status.TheVariants.BadNetwork}
 use Rattle.fault_messages.specs.Terms.{network_message, AreNetworkNotes}
-use Rattle.people_files.specs.Endings.{Halts}
-use Rattle.people_files.specs.Messages.{ShowsFault, ShowsNetworkFault, ShowsPlace}
-use Rattle.people_files.specs.declared.stop.Halt.{Halt}
-use Rattle.people_files.proofs.Causing.{halt_map}
+use Rattle.people_files.{specs.Endings.Halts, specs.Messages.{ShowsFault, ShowsNetworkFault, ShowsPlace}, specs.declared.stop.Halt.Halt, proofs.Causing.halt_map}
+use Rattle.sndlib_reader.specs.NetworkFiles as networks
 
 -- notes that were made for a place, and are handed on as a slice
 pub notes_at : {K : Type 0} (AreNotes : List ℕ → ℕ → K → List ℕ → Type 0) (bytes : List ℕ) (at place : ℕ) (kind : K) (made notes : List ℕ)

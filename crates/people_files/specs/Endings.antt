@@ -1,7 +1,6 @@
 -- runs that end with a message and print nothing, or print a text
 use Rattle.std.specs.Prelude.{◌≡◌, ℕ, List, [], Result, Ok, Err, IsErrAnd}
-use Rattle.check_answers.specs.declared.status.Status.{Status}
-use Rattle.check_answers.specs.declared.status.Status.TheVariants.{Done, NoMemory, ReadFault}
+use Rattle.check_answers.{specs.declared.status.Status.Status, specs.declared.status.Status.TheVariants.{Done, NoMemory, ReadFault}}
 use Rattle.people_files.specs.declared.stop.Halt.{Halt}
 use Rattle.people_files.specs.declared.stop.Halt.TheVariants as halt
 
@@ -11,9 +10,9 @@ Halts Ends halt.NoMemory = Unit {0}
 Halts Ends (halt.Told told) = Ends told.status told.message
 
 -- a text, or a run that ends with a message, has its cause
-abbrev pub HasFrontCause : (Status → List ℕ → List ℕ → Type 0) → Result (List ℕ) Halt → Type 0
-HasFrontCause Ends (Ok text) = Ends Done text []
-HasFrontCause Ends (Err h) = Halts (λ status message. Ends status [] message) h
+abbrev pub HasCauseForPeople : (Status → List ℕ → List ℕ → Type 0) → Result (List ℕ) Halt → Type 0
+HasCauseForPeople Ends (Ok text) = Ends Done text []
+HasCauseForPeople Ends (Err h) = Halts (λ status message. Ends status [] message) h
 
 -- the status of a run that ends so
 abbrev pub halt_status : Halt → Status

@@ -1,4 +1,4 @@
 pub mod Endings
 pub mod Messages
-pub mod FrontInputs
+pub mod CaseInputs
 pub mod Terms

@@ -1,9 +1,7 @@
 ghost use Rattle.std.specs.Prelude.{◌≡◌, ◌≢◌, IfErr, IfOk};
 ghost use Rattle.model_reader.specs.Terms.{SpellsFailures, SpellsModel};
 ghost use Rattle.input_files.specs.Terms.{default, Fetched, HasModel, SpellsNetwork, input_limit, KeepsShelf, named};
-ghost use Rattle.people_files.specs.Endings.{FailsReading, Halts, halt_status};
-ghost use Rattle.people_files.specs.FrontInputs.{FailsAtFailures, FailsAtInputs, HasCase, HasListed, named_case};
-ghost use Rattle.people_files.specs.Messages.{FailsAtFile, ShowsFailuresFault, ShowsModelFault};
+ghost use Rattle.people_files.{specs.Endings.{FailsReading, Halts, halt_status}, specs.CaseInputs.{FailsAtFailures, FailsAtInputs, HasCase, HasListed, named_case}, specs.Messages.{FailsAtFile, ShowsFailuresFault, ShowsModelFault}};
 
 use crate::loaded_files::{fetch_file, load_network, load_placed_network};
 use crate::refusal::{FaultyFile, place_in, refused, unused};

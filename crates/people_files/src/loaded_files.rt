@@ -2,9 +2,8 @@ ghost use Rattle.std.specs.Prelude.{◌≡◌, ◌≢◌, IfErr, IfOk, length};
 ghost use Rattle.plan_terms.specs.Terms.{AreDemands};
 ghost use Rattle.outside_io.specs.Outside.{Fetches};
 ghost use Rattle.input_files.specs.Terms.{Fetched, SpellsNetwork, input_limit, report_limit, KeepsShelf};
-ghost use Rattle.people_files.specs.Endings.{FailsReading, Halts, halt_status};
+ghost use Rattle.people_files.{specs.Endings.{FailsReading, Halts, halt_status}, specs.Messages.{FailsAtFetch, FailsAtFile, ShowsNetworkFault}};
 ghost use Rattle.people_files.specs.Messages as words;
-ghost use Rattle.people_files.specs.Messages.{FailsAtFetch, FailsAtFile, ShowsNetworkFault};
 
 use crate::refusal::{FaultyFile, not_fetched, place_in, refused, unread};
 use crate::stop::Halt;

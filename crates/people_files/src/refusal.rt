@@ -1,8 +1,7 @@
 ghost use Rattle.std.specs.Prelude.{◌≡◌, ◌≤◌, ◌++◌, ◌∷◌, [], IfOk, MatchResult, OnOk, length, min};
 ghost use Rattle.fault_texts.specs.FaultTexts.{IsFaultText};
 ghost use Rattle.input_files.specs.Refusals.{refusal_line, unused_line};
-ghost use Rattle.people_files.specs.Endings.{Halts};
-ghost use Rattle.people_files.specs.Messages.{ShowsPlace, unused_words};
+ghost use Rattle.people_files.{specs.Endings.Halts, specs.Messages.{ShowsPlace, unused_words}};
 
 use crate::stop::{Halt, Told};
 use check_answers::Status;

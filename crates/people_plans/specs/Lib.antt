@@ -1,1 +1,1 @@
-pub mod FrontPlans
+pub mod PlansForPeople

@@ -1,7 +1,7 @@
 ghost use Rattle.std.specs.Prelude.{◌≡◌, ℕ, [], IfOk, MatchOption};
 ghost use Rattle.proof_report.specs.Terms.{AreCharged};
 ghost use Rattle.check_answers.specs.declared.status.Status.{Status};
-ghost use Rattle.people_plans.specs.FrontPlans.{IsFirstFreeLink, free_link_message};
+ghost use Rattle.people_plans.specs.PlansForPeople.{IsFirstFreeLink, free_link_message};
 
 use crate::answer::PlanAnswer;
 use check_answers::Status;

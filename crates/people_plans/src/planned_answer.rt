@@ -1,10 +1,9 @@
 ghost use Rattle.std.specs.Prelude.{◌≡◌, ◌++◌, ◌<◌, ◌^◌, All, IfOk, false, length, true};
 ghost use Rattle.plan_report.specs.Terms.{SpellsReport, known_to, report_text};
-ghost use Rattle.proof_report.specs.Terms.{whole_report};
+ghost use Rattle.proof_report.{specs.Terms.whole_report, specs.ProvedReports.{IsLinedReport, proof_text, proved_report}};
 ghost use Rattle.view_text.specs.Terms.{HasSoundPlan, HoldsOfSingle, IsFirstBlock, IsReportView, problem_case};
-ghost use Rattle.proof_report.specs.ProvedReports.{IsLinedReport, proof_text, proved_report};
 ghost use Rattle.check_answers.specs.declared.status.Status.{Status};
-ghost use Rattle.people_plans.specs.FrontPlans.{PrintsPlan, told_outcomes, told_of_proof};
+ghost use Rattle.people_plans.specs.PlansForPeople.{PrintsPlan, told_outcomes, told_of_proof};
 
 use crate::answer::PlanAnswer;
 use check_answers::Status;

@@ -1,7 +1,7 @@
 ghost use Rattle.std.specs.Prelude.{◌≤◌, IfOk, IfSome};
 ghost use Rattle.view_text.specs.Terms.{problem_case};
 ghost use Rattle.proof_report.specs.Terms.{AreCharged};
-ghost use Rattle.people_plans.specs.FrontPlans.{EndsPlanForPeople, EndsPlanWithin};
+ghost use Rattle.people_plans.specs.PlansForPeople.{EndsPlanForPeople, EndsPlanWithin};
 
 use crate::answer::PlanAnswer;
 use crate::free::{first_free, free_answer};

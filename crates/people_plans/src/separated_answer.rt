@@ -3,7 +3,7 @@ ghost use Rattle.plan_terms.specs.Terms.{case_of};
 ghost use Rattle.plan_report.specs.Terms.{state_name};
 ghost use Rattle.proof_report.specs.Terms.{IsSeparationOf};
 ghost use Rattle.check_answers.specs.declared.status.Status.{Status};
-ghost use Rattle.people_plans.specs.FrontPlans.{SaysSeparations, separated_words};
+ghost use Rattle.people_plans.specs.PlansForPeople.{SaysSeparations, separated_words};
 
 use crate::answer::PlanAnswer;
 use check_answers::Status;

@@ -1,5 +1,5 @@
 ghost use Rattle.std.specs.Prelude.{◌≤◌, IfSome};
-ghost use Rattle.people_plans.specs.FrontPlans.{IsDefaultLimit, IsLimitOf};
+ghost use Rattle.people_plans.specs.PlansForPeople.{IsDefaultLimit, IsLimitOf};
 
 /// How many splits a branch tree has at most by default: 100 for up to 20 nodes, 10 for up to 40, and none for more, so that the tree is
 /// its root alone. It takes constant time, and no memory.

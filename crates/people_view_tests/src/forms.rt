@@ -1,8 +1,8 @@
 use crate::texts::{EMPTY, REPORT};
 use crate::views::worked;
+use net_core::{Bytes, Problem};
 use people_files::Halt;
 use people_views::{state_form, view_report};
-use net_core::{Bytes, Problem};
 use std::alloc::Global;
 use view_csv::Sheet;
 use view_forms::ViewForm;

@@ -1,9 +1,9 @@
 use crate::texts::{EMPTY, REPORT};
 use crate::views::worked;
-use people_files::Halt;
-use people_views::{picture_form, view_report};
 use net_core::{Bytes, Problem};
 use node_places::{Place, node_places};
+use people_files::Halt;
+use people_views::{picture_form, view_report};
 use std::alloc::Global;
 
 /// A report, the nodes of the network's file, a state, and the picture.

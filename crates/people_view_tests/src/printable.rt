@@ -1,6 +1,6 @@
+use net_core::{Bytes, Problem};
 use people_files::Halt;
 use people_views::{picture_form, view_report};
-use net_core::{Bytes, Problem};
 use sndlib_reader::read_network;
 use std::alloc::Global;
 use view_csv::Sheet;

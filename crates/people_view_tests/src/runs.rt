@@ -2,10 +2,10 @@ use crate::failures::LISTS;
 use crate::files::{LIST, MODEL, NETWORK};
 use crate::models::{MODELS, OTHER_MODELS};
 use crate::networks::{FIRST_LINES, NAMES, NUMBERS, SECTIONS, WHOLE, WholeRow};
-use people_files::{CaseFiles, Halt, load_case};
 use input_files::PlanFiles;
 use net_core::{Bytes, List, Name};
 use outside_io::{MemFile, MemShelf, have_different_names};
+use people_files::{CaseFiles, Halt, load_case};
 use std::alloc::Global;
 
 /// A part of a file, what replaces it, and the message about the file.

@@ -1,5 +1,5 @@
-use people_views::{picture_form, view_report};
 use net_core::{Bytes, List, Problem};
+use people_views::{picture_form, view_report};
 use sndlib_reader::read_network;
 use std::alloc::Global;
 use text_kit::write::put_decimal;

@@ -1,8 +1,8 @@
 use crate::texts::{DEARER, EMPTY, REPORT, SHORT, TREE};
 use check_answers::Status;
+use net_core::{Bytes, List, NoMemory, Problem};
 use people_files::Halt;
 use people_views::view_report;
-use net_core::{Bytes, List, NoMemory, Problem};
 use std::alloc::Global;
 use view_forms::ViewForm;
 use worked_networks::{problem, triangle};

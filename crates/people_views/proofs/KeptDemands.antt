@@ -1,8 +1,6 @@
 -- the demands that a journal leaves belong to the network
-use Rattle.std.proofs.Common.{◌≡◌, ◌≢◌, ◌<◌, ◌^◌, ◌&&◌, ℕ, Bool, true, false, cond, not, List, [], ◌∷◌, ◌++◌, Option, None, Some, All, refl, sym, ap, ◌∙◌, arith, get_or, is_some, leb-false, length, nat_le, nat_lt, position, take, unwrap_or, ltb-true}
-use Rattle.std.proofs.lemmas.List.Filters.{length-filter_both, sum_by-filter_both}
-use Rattle.net_core.proofs.Library.{All-filter, All-head, All-tail, All-take, AllPairs-filter, cond_both, false≢true, position-Some, same_is}
-use Rattle.net_core.specs.Terms.{first_fault}
+use Rattle.std.{proofs.Common.{◌≡◌, ◌≢◌, ◌<◌, ◌^◌, ◌&&◌, ℕ, Bool, true, false, cond, not, List, [], ◌∷◌, ◌++◌, Option, None, Some, All, refl, sym, ap, ◌∙◌, arith, get_or, is_some, leb-false, length, nat_le, nat_lt, position, take, unwrap_or, ltb-true}, proofs.lemmas.List.Filters.{length-filter_both, sum_by-filter_both}}
+use Rattle.net_core.{proofs.Library.{All-filter, All-head, All-tail, All-take, AllPairs-filter, cond_both, false≢true, position-Some, same_is}, specs.Terms.first_fault}
 use Rattle.plan_terms.specs.Terms.{Accepted, Add, Answered, AreDemands, Case, CutLine, Demand, Drop, Edit, Edited, Entry, IsDemand, KnownDemand, Pooled, Reply, SelfDemand, Set, TooMany, TooMuch, UnknownDemand, UnknownNode, add_fault, added, are_same, edit_need, edit_reply, is_demand, is_named, next_version, node_of, set_need, total_need, within_total, without}
 use Rattle.text_kit.specs.Terms.{IsEditInForm}
 use Rattle.plan_report.specs.Terms.{IsEntryInForm}

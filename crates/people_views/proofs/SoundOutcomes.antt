@@ -8,9 +8,7 @@ use Rattle.plan_checker.specs.Terms.{HoldNone, IsAcceptedPlan}
 use Rattle.report_checker.specs.Terms.{DemandsDiffer, IsAcceptedOutcome, outcome_findings}
 use Rattle.cut_pool.specs.Histories.{demands_left}
 use Rattle.view_text.specs.Terms.{HasSoundPlan, case_of_plan}
-use Rattle.people_views.specs.AcceptedReports.{IsAcceptedReport}
-use Rattle.people_views.proofs.KeptDemands.{demands_kept}
-use Rattle.people_views.proofs.SameDemands.{same_demands}
+use Rattle.people_views.{specs.AcceptedReports.IsAcceptedReport, proofs.KeptDemands.demands_kept, proofs.SameDemands.same_demands}
 
 -- the case with these demands
 abbrev case_with : Case → List Demand → Case

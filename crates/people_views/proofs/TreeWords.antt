@@ -1,6 +1,5 @@
 -- what is wrong with a tree, case by case
-use Rattle.std.proofs.Common.{◌≡◌, ◌∙◌, ℕ, ◌+◌, ◌<◌, ◌≤◌, List, ◌++◌, ap, append_assoc, codes, decimal, sym}
-use Rattle.std.proofs.lemmas.Bool.{cond-false, cond-true, le-ltb, lt-ltb}
+use Rattle.std.{proofs.Common.{◌≡◌, ◌∙◌, ℕ, ◌+◌, ◌<◌, ◌≤◌, List, ◌++◌, ap, append_assoc, codes, decimal, sym}, proofs.lemmas.Bool.{cond-false, cond-true, le-ltb, lt-ltb}}
 use Rattle.people_views.specs.ProofLines.{end_wrong, tree_wrong}
 
 grouped : (text a b c : List ℕ) → ((text ++ a) ++ b) ++ c ≡ text ++ ((a ++ b) ++ c)

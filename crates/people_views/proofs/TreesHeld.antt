@@ -2,9 +2,7 @@
 use Rattle.std.proofs.Common.{◌≡◌, ℕ, refl, subst}
 use Rattle.plan_terms.specs.Terms.{Case}
 use Rattle.plan_types.specs.declared.plan.Plan.{Plan}
-use Rattle.tree_check.specs.declared.proof.Proof.{Proof}
-use Rattle.tree_check.specs.declared.proof.Verdict.{Verdict}
-use Rattle.tree_check.specs.declared.proof.Verdict.TheVariants.{Cheapest, Above}
+use Rattle.tree_check.{specs.declared.proof.Proof.Proof, specs.declared.proof.Verdict.Verdict, specs.declared.proof.Verdict.TheVariants.{Cheapest, Above}}
 use Rattle.tree_reader.specs.declared.tree.ReadTree.{ReadTree}
 use Rattle.view_text.specs.Terms.{CostsAtLeast, HoldsProof}
 use Rattle.people_views.specs.ProofLines.{proof_by, told_by}

@@ -5,23 +5,13 @@ use Rattle.plan_report.specs.Terms.{known_to, Plan, Outcome, Planned, Unsurvivab
 use Rattle.snd_tokens.specs.Terms.{tokens_from}
 use Rattle.report_words.specs.Terms.{report_kind_word}
 use Rattle.check_answers.specs.declared.status.Status.{Status}
-use Rattle.check_answers.specs.declared.status.Status.TheVariants as ends
-use Rattle.tree_check.specs.Proofs.{AnswersProof, IsAcceptedProof}
-use Rattle.tree_check.specs.declared.proof.Proof.{Proof}
-use Rattle.tree_check.specs.declared.proof.TreeAnswer.TheVariants.{Rejected}
-use Rattle.tree_check.specs.declared.proof.Verdict.{Verdict}
-use Rattle.tree_check.specs.declared.proof.Verdict.TheVariants as verdict
-use Rattle.tree_reader.specs.CommentTexts.{comments_from}
-use Rattle.tree_reader.specs.ReadingTrees.{tree_at}
-use Rattle.tree_reader.specs.ReportEnds.{end_after}
-use Rattle.tree_reader.specs.TreeWords.{has_tree_line}
-use Rattle.tree_reader.specs.Trees.{SpellsTree}
-use Rattle.tree_reader.specs.declared.tree.ReadTree.{ReadTree}
+use Rattle.tree_check.{specs.Proofs.{AnswersProof, IsAcceptedProof}, specs.declared.proof.Proof.Proof, specs.declared.proof.TreeAnswer.TheVariants.Rejected, specs.declared.proof.Verdict.Verdict}
+use Rattle.tree_reader.{specs.CommentTexts.comments_from, specs.ReadingTrees.tree_at, specs.ReportEnds.end_after, specs.TreeWords.has_tree_line, specs.Trees.SpellsTree, specs.declared.tree.ReadTree.ReadTree}
 use Rattle.fault_messages.specs.ReportMessages.{proof_message}
-use Rattle.view_text.specs.Terms.{case_of_plan}
-use Rattle.view_text.specs.declared.proof.CostProof.{CostProof}
-use Rattle.view_text.specs.declared.proof.CostProof.TheVariants.{Nothing, Cheapest, Above}
+use Rattle.view_text.{specs.Terms.case_of_plan, specs.declared.proof.CostProof.CostProof, specs.declared.proof.CostProof.TheVariants.{Nothing, Cheapest, Above}}
 use Rattle.people_files.specs.Messages.{HasNoNotes, ShowsFault}
+use Rattle.check_answers.specs.declared.status.Status.TheVariants as ends
+use Rattle.tree_check.specs.declared.proof.Verdict.TheVariants as verdict
 
 -- where the report ends, below which its comment lines follow
 abbrev pub lines_begin : List ℕ → ℕ

@@ -5,17 +5,13 @@ use Rattle.plan_report.specs.Terms.{SpellsReport, known_to, Report}
 use Rattle.report_checker.specs.Terms.{Finding, IsFirstOfReport}
 use Rattle.report_words.specs.Terms.{report_kind_word}
 use Rattle.report_reader.specs.ReadingReport.{report_of}
-use Rattle.check_answers.specs.Checks.{IsJudged}
-use Rattle.check_answers.specs.declared.status.Status.{Status}
-use Rattle.check_answers.specs.declared.status.Status.TheVariants.{BadReport, Done, Rejected}
+use Rattle.check_answers.{specs.Checks.IsJudged, specs.declared.status.Status.Status, specs.declared.status.Status.TheVariants.{BadReport, Done, Rejected}}
 use Rattle.fault_texts.specs.Quotes.{note_text}
 use Rattle.fault_messages.specs.Terms.{finding_message, AreReportNotes, report_message}
-use Rattle.view_forms.specs.Terms.{HasForm}
-use Rattle.view_forms.specs.declared.form.ViewForm.{ViewForm}
+use Rattle.view_forms.{specs.Terms.HasForm, specs.declared.form.ViewForm.ViewForm}
 use Rattle.view_text.specs.declared.proof.CostProof.{CostProof}
 use Rattle.people_files.specs.Messages.{ShowsFault}
-use Rattle.people_views.specs.AcceptedReports.{IsAcceptedReport}
-use Rattle.people_views.specs.ProofLines.{FailsAtLines, ReadsProof}
+use Rattle.people_views.{specs.AcceptedReports.IsAcceptedReport, specs.ProofLines.{FailsAtLines, ReadsProof}}
 
 -- the bytes spell no report of a case, and the message shows the place of their first fault
 abbrev pub ShowsReportFault : Case → List ℕ → List ℕ → List ℕ → Type 0

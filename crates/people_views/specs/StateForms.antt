@@ -1,12 +1,10 @@
 -- states that are shown by their names, and what is said of a name that none has
 use Rattle.std.specs.Prelude.{◌≡◌, ℕ, List, ◌∷◌, ◌++◌, codes, map}
-use Rattle.check_answers.specs.declared.status.Status.{Status}
-use Rattle.check_answers.specs.declared.status.Status.TheVariants.{BadWords}
+use Rattle.check_answers.{specs.declared.status.Status.Status, specs.declared.status.Status.TheVariants.BadWords}
 use Rattle.fault_texts.specs.Quotes.{IsQuote}
 use Rattle.fault_messages.specs.NearNames.{IsNearestNote}
 use Rattle.plan_terms.specs.Terms.{Listed}
-use Rattle.view_forms.specs.declared.form.ViewForm.{ViewForm}
-use Rattle.view_forms.specs.declared.form.ViewForm.TheVariants.{Picture, State}
+use Rattle.view_forms.{specs.declared.form.ViewForm.ViewForm, specs.declared.form.ViewForm.TheVariants.{Picture, State}}
 use Rattle.view_state.specs.Terms.{IsNamedState}
 
 -- the names of all states, the one without failures first

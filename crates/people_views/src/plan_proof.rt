@@ -1,19 +1,18 @@
 ghost use Rattle.std.specs.Prelude.{◌≡◌, ◌≤◌, All, IfErr, IfOk, length};
 ghost use Rattle.plan_terms.specs.Terms.{AreDemands};
-ghost use Rattle.view_text.specs.Reports.{HoldsOfOutcome};
-ghost use Rattle.view_text.specs.Terms.{HasSoundPlan, HoldsOfSingle, HoldsProof, case_of_plan, problem_case};
+ghost use Rattle.view_text.{specs.Reports.HoldsOfOutcome, specs.Terms.{HasSoundPlan, HoldsOfSingle, HoldsProof, case_of_plan, problem_case}};
 ghost use Rattle.people_files.specs.Endings.{Halts};
 ghost use Rattle.people_views.specs.ProofLines.{FailsAtLines, FailsAtOutcomeLines, FailsAtPlanLines, FailsAtTree, ReadsOutcomeProof, ReadsPlanProof, ReadsProof, ShowsByTree, ShowsNoTree, SpellsPlanTree, lines_begin};
 
 use crate::trees::checked_tree;
 use check_answers::Status;
 use fault_messages::proof_sentence;
-use people_files::{FaultyFile, Halt, refused};
 use net_core::Problem;
+use people_files::{FaultyFile, Halt, refused};
 use plan_types::{Outcome, Plan};
-use tree_reader::{ReadTree, has_tree_line, read_tree, report_end};
 use report_words::fault::ReportRefusal;
 use std::alloc::Global;
+use tree_reader::{ReadTree, has_tree_line, read_tree, report_end};
 use view_text::CostProof;
 
 /// The tree of a plan that the lines below its report spell, which ends here.

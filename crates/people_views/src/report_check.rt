@@ -4,14 +4,13 @@ ghost use Rattle.report_checker.specs.ReportFindings.{HasNoFinding};
 ghost use Rattle.check_answers.specs.Checks.{IsJudged};
 ghost use Rattle.view_text.specs.Terms.{problem_case};
 ghost use Rattle.people_files.specs.Endings.{Halts};
-ghost use Rattle.people_views.specs.AcceptedReports.{IsAcceptedReport};
-ghost use Rattle.people_views.specs.ReportEnds.{SaysFinding, TellsFinding, said_text};
+ghost use Rattle.people_views.{specs.AcceptedReports.IsAcceptedReport, specs.ReportEnds.{SaysFinding, TellsFinding, said_text}};
 
 use check_answers::{Status, answer_check};
 use fault_messages::finding_sentence;
 use fault_texts::{Sentence, put_note};
-use people_files::{Halt, told};
 use net_core::{Bytes, List, NoMemory, Problem};
+use people_files::{Halt, told};
 use plan_checker::{CheckAnswer, Finding};
 use plan_types::Report;
 use report_checker::check_report;

@@ -6,8 +6,8 @@ ghost use Rattle.people_views.specs.ReportEnds.{ShowsReportFault};
 
 use check_answers::Status;
 use fault_messages::{report_notes, report_sentence};
-use people_files::{FaultyFile, Halt, place_in, refused};
 use net_core::Problem;
+use people_files::{FaultyFile, Halt, place_in, refused};
 use plan_types::Report;
 use report_reader::{ReportRefusal, read_report};
 use std::alloc::Global;

@@ -9,9 +9,9 @@ ghost use Rattle.people_views.specs.StateForms.{IsStateMessage, LacksState, Name
 use check_answers::Status;
 use fault_messages::put_nearest_note;
 use fault_texts::put_quote;
-use people_files::{Halt, told};
 use net_core::{Bytes, List as Items, Listed, NoMemory, Problem, States};
 use node_places::Place;
+use people_files::{Halt, told};
 use std::alloc::Global;
 use view_forms::ViewForm;
 use view_state::named_state;

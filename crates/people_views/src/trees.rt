@@ -6,13 +6,13 @@ ghost use Rattle.people_files.specs.Endings.{Halts};
 ghost use Rattle.people_views.specs.ProofLines.{TellsRejectedTree, end_wrong, proof_by, told_by, tree_message, tree_wrong};
 
 use check_answers::Status;
-use people_files::{Halt, told};
 use net_core::{Bytes, Copied, List, NoMemory, Problem};
+use people_files::{Halt, told};
 use plan_types::Plan;
-use tree_reader::ReadTree;
 use std::alloc::Global;
 use text_kit::write::put_decimal;
 use tree_check::{Proof, TreeAnswer, Verdict, check_tree};
+use tree_reader::ReadTree;
 use view_text::CostProof;
 
 /// There is no memory for a tree of this number of nodes.

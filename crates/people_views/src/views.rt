@@ -1,16 +1,15 @@
 ghost use Rattle.view_text.specs.Terms.{problem_case};
 ghost use Rattle.plan_report.specs.Terms.{IsReportInForm, known_of};
-ghost use Rattle.people_files.specs.Endings.{HasFrontCause};
+ghost use Rattle.people_files.specs.Endings.{HasCauseForPeople};
 ghost use Rattle.view_forms.specs.Terms.{IsFormOf};
-ghost use Rattle.people_views.specs.AcceptedReports.{IsAcceptedReport};
-ghost use Rattle.people_views.specs.ReportEnds.{EndsReport, ViewsAccepted, ViewsReport};
+ghost use Rattle.people_views.{specs.AcceptedReports.IsAcceptedReport, specs.ReportEnds.{EndsReport, ViewsAccepted, ViewsReport}};
 
 use crate::accepted_form::put_accepted_form;
 use crate::plan_proof::read_proof;
 use crate::report_check::accept;
 use crate::spelled_report::spelled_report;
-use people_files::Halt;
 use net_core::{Bytes, List, Problem};
+use people_files::Halt;
 use plan_types::Report;
 use std::alloc::Global;
 use view_forms::ViewForm;
@@ -27,7 +26,7 @@ fn accepted_view(
 ) -> Result<Bytes, Halt>
     requires accepted { IsAcceptedReport (problem_case problem.now) problem.now.net.notes report.now }
     requires form { IsFormOf (problem_case problem.now) form }
-    ensures { HasFrontCause (ViewsAccepted form.entry network.now name.now (problem_case problem.now) report.now bytes.now) result }
+    ensures { HasCauseForPeople (ViewsAccepted form.entry network.now name.now (problem_case problem.now) report.now bytes.now) result }
 {
     let proof = read_proof(alloc, name, problem, report.outcomes.items(), bytes)?;
     let mut text = List::new(alloc);
@@ -55,7 +54,7 @@ fn checked_view(
 ) -> Result<Bytes, Halt>
     requires known { IsReportInForm (known_of problem.now.net problem.now.states) report.now }
     requires form { IsFormOf (problem_case problem.now) form }
-    ensures { HasFrontCause (ViewsReport form.entry network.now name.now (problem_case problem.now) problem.now.net.notes report.now bytes.now) result }
+    ensures { HasCauseForPeople (ViewsReport form.entry network.now name.now (problem_case problem.now) problem.now.net.notes report.now bytes.now) result }
 {
     accept(alloc, name, problem, report)?;
     accepted_view(alloc, network, name, problem, report, bytes, form)
@@ -82,7 +81,7 @@ pub fn view_report(
     form: ViewForm,
 ) -> Result<Bytes, Halt>
     requires { IsFormOf (problem_case problem.now) form }
-    ensures { HasFrontCause (EndsReport form.entry network.now name.now (problem_case problem.now) problem.now.net.notes bytes.now) result }
+    ensures { HasCauseForPeople (EndsReport form.entry network.now name.now (problem_case problem.now) problem.now.net.notes bytes.now) result }
 {
     let report = spelled_report(alloc, problem, name, bytes)?;
     checked_view(alloc, network, name, problem, &report, bytes, form)

@@ -1,12 +1,6 @@
 -- words, one after another
-use Rattle.std.proofs.Common.{◌≡◌, ◌∙◌, ℕ, List, [], ◌∷◌, ◌++◌, None, Some, inl, inr, refl, ap, append_assoc, map, subst, sym}
-use Rattle.std.proofs.lemmas.List.{append-nil, map_push}
-use Rattle.people_words.specs.GivenWords.{AreRead, GivenOption, word_kind}
-use Rattle.people_words.specs.declared.kinds.WordKind.TheVariants.{Name, End, Flag, Valued, Unknown}
-use Rattle.people_words.specs.declared.given.Awaited.{Awaited}
-use Rattle.people_words.specs.declared.given.Awaited.TheVariants.{Word, Names}
-use Rattle.people_words.specs.declared.given.Given.{Given}
-use Rattle.people_words.specs.inner.Causes.{IsRest, ReadsOn, TakesWord, given_names, given_options}
+use Rattle.std.{proofs.Common.{◌≡◌, ◌∙◌, ℕ, List, [], ◌∷◌, ◌++◌, None, Some, inl, inr, refl, ap, append_assoc, map, subst, sym}, proofs.lemmas.List.{append-nil, map_push}}
+use Rattle.people_words.{specs.GivenWords.{AreRead, GivenOption, word_kind}, specs.declared.kinds.WordKind.TheVariants.{Name, End, Flag, Valued, Unknown}, specs.declared.given.Awaited.Awaited, specs.declared.given.Awaited.TheVariants.{Word, Names}, specs.declared.given.Given.Given, specs.inner.Causes.{IsRest, ReadsOn, TakesWord, given_names, given_options}}
 
 -- ---- one word
 

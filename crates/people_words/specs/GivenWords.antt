@@ -1,8 +1,6 @@
 -- what the words of a command give: names in their order, and options in any place between them
-use Rattle.std.specs.Prelude.{◌≡◌, ◌⊎◌, ℕ, ◌+◌, ◌==◌, ◌&&◌, ◌||◌, not, Bool, true, false, cond, List, [], ◌∷◌, Option, None, Some, codes, length, nat_le, slice_index}
-use Rattle.std.specs.Str.{bytes_eq}
-use Rattle.people_words.specs.declared.kinds.WordKind.{WordKind}
-use Rattle.people_words.specs.declared.kinds.WordKind.TheVariants.{Name, End, Flag, Valued, Unknown}
+use Rattle.std.{specs.Prelude.{◌≡◌, ◌⊎◌, ℕ, ◌+◌, ◌==◌, ◌&&◌, ◌||◌, not, Bool, true, false, cond, List, [], ◌∷◌, Option, None, Some, codes, length, nat_le, slice_index}, specs.Str.bytes_eq}
+use Rattle.people_words.{specs.declared.kinds.WordKind.WordKind, specs.declared.kinds.WordKind.TheVariants.{Name, End, Flag, Valued, Unknown}}
 
 -- ---- words
 

@@ -1,4 +1,4 @@
 pub mod GivenWords
-pub mod Fronts
-pub mod AskedFronts
+pub mod PeopleCommands
+pub mod AskedCommands
 pub mod inner

@@ -1,18 +1,14 @@
 ghost use Rattle.std.specs.Prelude.{◌≡◌, ◌≤◌, ◌<◌, ◌^◌, ◌↔◌, ◌∷◌, [], ℕ, Bool, List, Option, None, IfOk, IfSome, IsTrue, MatchOption, codes, is_some, map, option_map, string_bytes};
-ghost use Rattle.people_files.specs.FrontInputs.{CaseWords, named_case};
-ghost use Rattle.people_words.specs.Fronts.{AskedForm, AskedPlan, AsksPlan, FrontCommand, IsFrontCommand, IsGiven, IsLoneWord, IsOfParts, IsOfReport, IsOfWord, IsSplitsWord, IsViewOf, NamesCase, NamesAnyForm, NamesFile, NamesForm, NamesOption, NamesPicture, NamesSheet, NamesSplits, NamesSurvival, NamesTopic, NamesViewForm, view_options};
+ghost use Rattle.people_files.specs.CaseInputs.{CaseWords, named_case};
 ghost use Rattle.view_csv.specs.declared.sheet.Sheet.{Sheet};
-ghost use Rattle.people_words.specs.GivenWords.{TakesOptions};
-ghost use Rattle.people_words.specs.AskedFronts.{asked_form, asked_front, asked_plan};
-ghost use Rattle.people_words.specs.declared.words.HelpTopic.{HelpTopic};
-ghost use Rattle.people_words.specs.inner.Causes.{given_option};
+ghost use Rattle.people_words.{specs.PeopleCommands.{AskedForm, AskedPlan, AsksPlan, PeopleCommand, IsPeopleCommand, IsGiven, IsLoneWord, IsOfParts, IsOfReport, IsOfWord, IsSplitsWord, IsViewOf, NamesCase, NamesAnyForm, NamesFile, NamesForm, NamesOption, NamesPicture, NamesSheet, NamesSplits, NamesSurvival, NamesTopic, NamesViewForm, view_options}, specs.GivenWords.TakesOptions, specs.AskedCommands.{asked_form, people_command, asked_plan}, specs.declared.words.HelpTopic.HelpTopic, specs.inner.Causes.given_option};
 
 use crate::given::{Given, OptionValue, given_by};
 use crate::options::{takes_options, value_given};
-use crate::words::{FormWords, FrontWords, HelpTopic, PlanRequest, ViewWords};
+use crate::words::{FormWords, HelpTopic, PeopleWords, PlanRequest, ViewWords};
+use net_core::NoMemory;
 use people_files::CaseFiles;
 use people_files::input_files::{DEFAULT, PlanFiles};
-use net_core::NoMemory;
 use std::alloc::Global;
 use view_csv::Sheet;
 
@@ -229,14 +225,14 @@ fn asked_plan<'w>(network: &'w str, options: &[OptionValue<'w>]) -> Option<PlanR
 }
 
 /// The command that one word is.
-fn lone_command(word: &str) -> Option<FrontWords<'static>>
-    ensures { MatchOption result ((c : FrontCommand) → IsLoneWord word.now c → ⊥) (λ c. IsLoneWord word.now (asked_front c)) }
+fn lone_command(word: &str) -> Option<PeopleWords<'static>>
+    ensures { MatchOption result ((c : PeopleCommand) → IsLoneWord word.now c → ⊥) (λ c. IsLoneWord word.now (people_command c)) }
 {
     if is_word(word, "help") || is_word(word, "--help") {
-        return Some(FrontWords::Help);
+        return Some(PeopleWords::Help);
     }
     if is_word(word, "--version") {
-        return Some(FrontWords::Version);
+        return Some(PeopleWords::Version);
     }
     None
 }
@@ -265,20 +261,20 @@ fn word_command<'w>(
     name: &str,
     word: &'w str,
     options: &[OptionValue<'w>],
-) -> Option<FrontWords<'w>>
-    ensures { MatchOption result ((c : FrontCommand) → IsOfWord name.now word.now (map given_option options.now) c → ⊥)
-        (λ c. IsOfWord name.now word.now (map given_option options.now) (asked_front c)) }
+) -> Option<PeopleWords<'w>>
+    ensures { MatchOption result ((c : PeopleCommand) → IsOfWord name.now word.now (map given_option options.now) c → ⊥)
+        (λ c. IsOfWord name.now word.now (map given_option options.now) (people_command c)) }
 {
     if is_word(name, "failures") && takes_options(options, &[]) {
-        return Some(FrontWords::Failures(file_of_word(word)));
+        return Some(PeopleWords::Failures(file_of_word(word)));
     }
     if is_word(name, "plan") && takes_options(options, &PLAN_OPTIONS) {
         let plan = asked_plan(word, options)?;
-        return Some(FrontWords::Plan(plan));
+        return Some(PeopleWords::Plan(plan));
     }
     if is_word(name, "help") && takes_options(options, &[]) {
         let topic = topic_word(word)?;
-        return Some(FrontWords::HelpOn(topic));
+        return Some(PeopleWords::HelpOn(topic));
     }
     None
 }
@@ -288,13 +284,13 @@ fn view_command<'w>(
     network: &'w str,
     report: &'w str,
     options: &[OptionValue<'w>],
-) -> Option<FrontWords<'w>>
-    ensures { MatchOption result ((c : FrontCommand) → IsViewOf network.now report.now (map given_option options.now) c → ⊥)
-        (λ c. IsViewOf network.now report.now (map given_option options.now) (asked_front c)) }
+) -> Option<PeopleWords<'w>>
+    ensures { MatchOption result ((c : PeopleCommand) → IsViewOf network.now report.now (map given_option options.now) c → ⊥)
+        (λ c. IsViewOf network.now report.now (map given_option options.now) (people_command c)) }
 {
     let case = case_of(network, options)?;
     let form = view_form(options)?;
-    Some(FrontWords::View(ViewWords {
+    Some(PeopleWords::View(ViewWords {
         case,
         report: file_of_word(report),
         form,
@@ -321,9 +317,9 @@ fn report_command<'w>(
     network: &'w str,
     report: &'w str,
     options: &[OptionValue<'w>],
-) -> Option<FrontWords<'w>>
-    ensures { MatchOption result ((c : FrontCommand) → IsOfReport name.now network.now report.now (map given_option options.now) c → ⊥)
-        (λ c. IsOfReport name.now network.now report.now (map given_option options.now) (asked_front c)) }
+) -> Option<PeopleWords<'w>>
+    ensures { MatchOption result ((c : PeopleCommand) → IsOfReport name.now network.now report.now (map given_option options.now) c → ⊥)
+        (λ c. IsOfReport name.now network.now report.now (map given_option options.now) (people_command c)) }
 {
     if is_view(name, options) {
         if are_both_input(network, report) {
@@ -335,9 +331,9 @@ fn report_command<'w>(
 }
 
 /// The command that names and options are.
-fn parts_command<'w>(names: &[&'w str], options: &[OptionValue<'w>]) -> Option<FrontWords<'w>>
-    ensures { MatchOption result ((c : FrontCommand) → IsOfParts (map (λ w. w.now) names.now) (map given_option options.now) c → ⊥)
-        (λ c. IsOfParts (map (λ w. w.now) names.now) (map given_option options.now) (asked_front c)) }
+fn parts_command<'w>(names: &[&'w str], options: &[OptionValue<'w>]) -> Option<PeopleWords<'w>>
+    ensures { MatchOption result ((c : PeopleCommand) → IsOfParts (map (λ w. w.now) names.now) (map given_option options.now) c → ⊥)
+        (λ c. IsOfParts (map (λ w. w.now) names.now) (map given_option options.now) (people_command c)) }
 {
     match names {
         [name, word] => word_command(name, word, options),
@@ -347,9 +343,9 @@ fn parts_command<'w>(names: &[&'w str], options: &[OptionValue<'w>]) -> Option<F
 }
 
 /// The command that words give, of which there isn't one alone.
-fn words_command(alloc: Global, words: &[String]) -> Result<Option<FrontWords<'_>>, NoMemory>
-    ensures { IfOk result (λ r. MatchOption r ((c : FrontCommand) → IsGiven (map string_bytes words.now) c → ⊥)
-        (λ c. IsGiven (map string_bytes words.now) (asked_front c))) }
+fn words_command(alloc: Global, words: &[String]) -> Result<Option<PeopleWords<'_>>, NoMemory>
+    ensures { IfOk result (λ r. MatchOption r ((c : PeopleCommand) → IsGiven (map string_bytes words.now) c → ⊥)
+        (λ c. IsGiven (map string_bytes words.now) (people_command c))) }
 {
     match given_by(alloc, words) {
         Ok(Some(given)) => Ok(parts_command(given.names.items(), given.options.items())),
@@ -369,9 +365,9 @@ fn lone_word(words: &[String]) -> Option<&str>
 }
 
 /// The command that words are; none where they are no command. It takes time and memory in the words.
-pub fn command_of(alloc: Global, words: &[String]) -> Result<Option<FrontWords<'_>>, NoMemory>
-    ensures { IfOk result (λ r. MatchOption r ((c : FrontCommand) → IsFrontCommand words.now c → ⊥)
-        (λ c. IsFrontCommand words.now (asked_front c))) }
+pub fn command_of(alloc: Global, words: &[String]) -> Result<Option<PeopleWords<'_>>, NoMemory>
+    ensures { IfOk result (λ r. MatchOption r ((c : PeopleCommand) → IsPeopleCommand words.now c → ⊥)
+        (λ c. IsPeopleCommand words.now (people_command c))) }
 {
     match lone_word(words) {
         Some(word) => Ok(lone_command(word)),

@@ -1,6 +1,5 @@
 ghost use Rattle.std.specs.Prelude.{◌≡◌, ◌∷◌, ℕ, List, None, IfOk, MatchOption, map, string_bytes};
-ghost use Rattle.people_words.specs.GivenWords.{AreRead, GivenOption};
-ghost use Rattle.people_words.specs.inner.Causes.{IsRest, TakesWord, given_names, given_options};
+ghost use Rattle.people_words.{specs.GivenWords.{AreRead, GivenOption}, specs.inner.Causes.{IsRest, TakesWord, given_names, given_options}};
 
 use crate::kinds::{WordKind, kind_of};
 use net_core::{List as Items, NoMemory};

@@ -1,5 +1,4 @@
-ghost use Rattle.std.specs.Prelude.{◌≡◌};
-ghost use Rattle.std.specs.Str.{bytes_eq};
+ghost use Rattle.std.{specs.Prelude.◌≡◌, specs.Str.bytes_eq};
 ghost use Rattle.people_words.specs.GivenWords.{is_flag, is_plain_word, is_valued, option_kind, word_kind};
 
 /// What a word is to those after it.

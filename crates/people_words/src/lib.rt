@@ -2,7 +2,7 @@
 //!
 //! ```text
 //! let command = command_of(alloc, &words)?;   // the words are view t.txt --survive links r.txt
-//! // FrontWords::View of t.txt and r.txt, where each single link's failure is survived; None for words that are no command
+//! // PeopleWords::View of t.txt and r.txt, where each single link's failure is survived; None for words that are no command
 //! ```
 #![tactic(auto)]
 
@@ -13,4 +13,4 @@ mod options;
 mod words;
 
 pub use command::command_of;
-pub use words::{FormWords, FrontWords, HelpTopic, PlanRequest, ViewWords};
+pub use words::{FormWords, HelpTopic, PeopleWords, PlanRequest, ViewWords};

@@ -1,6 +1,5 @@
 ghost use Rattle.std.specs.Prelude.{◌≡◌, ◌↔◌, IsTrue, map, option_map};
-ghost use Rattle.people_words.specs.GivenWords.{TakesOptions, are_among, are_once, is_among, times_given, value_given};
-ghost use Rattle.people_words.specs.inner.Causes.{given_option};
+ghost use Rattle.people_words.{specs.GivenWords.{TakesOptions, are_among, are_once, is_among, times_given, value_given}, specs.inner.Causes.given_option};
 
 use crate::given::OptionValue;
 use crate::kinds::same_words;

@@ -1,5 +1,4 @@
-ghost use Rattle.std.specs.Prelude.{◌≤◌};
-ghost use Rattle.std.specs.Option.{option_map_or};
+ghost use Rattle.std.{specs.Prelude.◌≤◌, specs.Option.option_map_or};
 
 use people_files::CaseFiles;
 use view_csv::Sheet;
@@ -15,7 +14,7 @@ pub enum HelpTopic {
 
 /// What a run is asked for.
 #[derive(Clone, Copy)]
-pub enum FrontWords<'w> {
+pub enum PeopleWords<'w> {
     /// How the program is used.
     Help,
     /// How one of its commands is used.

@@ -2,13 +2,9 @@
 use Rattle.std.proofs.Common.{◌≡◌, ℕ, ◌*◌, ◌<◌, ◌≤◌, List, Some, All, length, get_or, ap, subst, arith, slice_get, ⊎_elim}
 use Rattle.net_core.proofs.Library.{cases_eq, cases_lt, get_or_from_slice_get, slice_get_within, slice_get-get_or, get_some}
 use Rattle.plan_terms.specs.Terms.{Case, graph_in, Joins, Routing, Carries, IsFlow, load, sent}
-use Rattle.module_choice.specs.inner.Routes.{weight}
-use Rattle.module_choice.proofs.Carrying.{load_is_weight, load_none}
+use Rattle.module_choice.{specs.inner.Routes.weight, proofs.Carrying.{load_is_weight, load_none}}
 use Rattle.plan_report.specs.Terms.{known_to, AreRoutingsInForm, IsFlowInForm}
-use Rattle.plan_checker.specs.Carried.{IsOverloaded, IsUncarried}
-use Rattle.plan_checker.specs.Shares.{AreCarried}
-use Rattle.plan_checker.proofs.Places.{holds_read}
-use Rattle.plan_checker.specs.inner.Routes.{FollowPaths}
+use Rattle.plan_checker.{specs.Carried.{IsOverloaded, IsUncarried}, specs.Shares.AreCarried, proofs.Places.holds_read, specs.inner.Routes.FollowPaths}
 
 -- flows in form that follow paths are flows
 pub are_flows : (p : Case) (routings : List Routing) → AreRoutingsInForm (known_to p) p.demands routings → FollowPaths p routings → (s : ℕ) (r : Routing) → slice_get routings s ≡ Some r → All (IsFlow (Joins (graph_in p s)) p.demands) r.flows

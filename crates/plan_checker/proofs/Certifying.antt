@@ -1,13 +1,10 @@
 -- from what the tests find to a valid certificate
-use Rattle.std.proofs.Common.{◌≡◌, ℕ, ◌*◌, ◌^◌, ◌<◌, ◌≤◌, List, Some, All, Result, Ok, Err, OnOk, slice_get, ⊎_elim}
-use Rattle.std.specs.Bool.{⊤}
+use Rattle.std.{proofs.Common.{◌≡◌, ℕ, ◌*◌, ◌^◌, ◌<◌, ◌≤◌, List, Some, All, Result, Ok, Err, OnOk, slice_get, ⊎_elim}, specs.Bool.⊤}
 use Rattle.net_core.proofs.Library.{cases_lt, All-map}
 use Rattle.plan_terms.specs.Terms.{Case, graph_in, Joins, Link, Module, IsBound, IsLowest, AreKept, CertificateLine, IsCertificate, IsCut, IsRight, asked, given, price, raw_value}
 use Rattle.plan_types.specs.Terms.{IsCertifiedPlan, lines_of_certificate}
 use Rattle.plan_report.specs.Terms.{IsCertificateInForm, CertLine, Plan}
-use Rattle.plan_checker.specs.Certified.{IsOverpriced}
-use Rattle.plan_checker.proofs.Places.{holds_read}
-use Rattle.plan_checker.specs.declared.stop.Stop.{Stop}
+use Rattle.plan_checker.{specs.Certified.IsOverpriced, proofs.Places.holds_read, specs.declared.stop.Stop.Stop}
 
 -- no price above a cost
 pub priced_by : (links : List Link) (den : ℕ) (lines : List CertificateLine) → ((e m : ℕ) → IsOverpriced links den lines e m → ⊥)

@@ -1,11 +1,6 @@
 -- the first finding of several kinds, one kind after another
-use Rattle.std.proofs.Common.{List, ◌∷◌, Result, Ok, Err, OnOk, Option, None, Some, ℕ, ◌≡◌, subst, inr}
-use Rattle.std.specs.Bool.{⊤}
-use Rattle.plan_checker.specs.Order.{HoldsNone, Kind}
-use Rattle.plan_checker.specs.inner.Tests.{IsFirstPair, StopsFirst, TellFirst}
-use Rattle.plan_checker.specs.declared.place.Place.{Place}
-use Rattle.plan_checker.specs.declared.stop.Stop.{Stop}
-use Rattle.plan_checker.specs.declared.stop.Stop.TheVariants.{Found, NoMemory}
+use Rattle.std.{proofs.Common.{List, ◌∷◌, Result, Ok, Err, OnOk, Option, None, Some, ℕ, ◌≡◌, subst, inr}, specs.Bool.⊤}
+use Rattle.plan_checker.{specs.Order.{HoldsNone, Kind}, specs.inner.Tests.{IsFirstPair, StopsFirst, TellFirst}, specs.declared.place.Place.Place, specs.declared.stop.Stop.Stop, specs.declared.stop.Stop.TheVariants.{Found, NoMemory}}
 
 -- a later test that stops
 pub stop_later : (kind : Kind) (kinds : List Kind) (stop : Stop) → HoldsNone kind → StopsFirst kinds stop → StopsFirst (kind ∷ kinds) stop

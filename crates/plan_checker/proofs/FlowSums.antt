@@ -3,8 +3,7 @@ use Rattle.std.proofs.Common.{◌≡◌, ℕ, ◌+◌, ◌*◌, ◌<◌, ◌==�
 use Rattle.net_core.proofs.Library.{sum_by_more}
 use Rattle.plan_terms.specs.Terms.{LinkId, Flow, sent}
 use Rattle.module_choice.specs.inner.Routes.{times, weight}
-use Rattle.plan_checker.specs.inner.Mixed.{AreMixed, IsMixed}
-use Rattle.plan_checker.specs.declared.mixed.Mixed.{Mixed}
+use Rattle.plan_checker.{specs.inner.Mixed.{AreMixed, IsMixed}, specs.declared.mixed.Mixed.Mixed}
 
 -- other sums that are equal
 pub mixed_same : (den : ℕ) (n m : ℕ → ℕ) (ms : List Mixed) → ((k : ℕ) → n k ≡ m k) → AreMixed den n ms → AreMixed den m ms

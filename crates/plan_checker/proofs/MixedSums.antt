@@ -1,8 +1,7 @@
 -- sums of mixed numbers
 use Rattle.std.proofs.Common.{◌≡◌, ℕ, ◌+◌, ◌-◌, ◌*◌, ◌/◌, ◌%◌, ◌^◌, ◌<◌, ◌≤◌, ap, min, arith, ⊎_elim, mul-le-mul_left}
 use Rattle.net_core.proofs.Library.{cases_lt}
-use Rattle.plan_checker.specs.inner.Mixed.{IsMixed}
-use Rattle.plan_checker.specs.declared.mixed.Mixed.{Mixed}
+use Rattle.plan_checker.{specs.inner.Mixed.IsMixed, specs.declared.mixed.Mixed.Mixed}
 
 pub mixed_of : (den num : ℕ) → 0 < den → num < 2 ^ 128 → IsMixed den num (record { whole = num / den; rest = num % den })
 mixed_of den num some low = record {

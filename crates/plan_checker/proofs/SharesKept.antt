@@ -3,8 +3,8 @@ use Rattle.std.proofs.Common.{◌≡◌, ℕ, zero, suc, ◌+◌, ◌*◌, ◌<�
 use Rattle.net_core.proofs.Library.{cases_eq, sum_by_push, get_or_from_slice_get, slice_get_within, get_some}
 use Rattle.plan_terms.specs.Terms.{Case, IsModule, NoMemory, Link, Module, IsUnitPair}
 use Rattle.plan_report.specs.Terms.{Plan, Fractional, Share}
-use Rattle.plan_checker.specs.Shares.{AreCarried, GivesShare, IsShareOf, IsTight}
 use Rattle.module_prices.proofs.UnitPairs.{pair_once}
+use Rattle.plan_checker.specs.Shares.{AreCarried, GivesShare, IsShareOf, IsTight}
 
 no_pair : (modules : List Module) (capacity cost : ℕ) → IsUnitPair modules capacity cost → modules ≡ [] → ⊥
 no_pair [] capacity cost pair none = let lt = pair.least.one.1 in omega (arith, lt)

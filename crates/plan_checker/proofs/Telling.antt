@@ -1,14 +1,9 @@
 -- from what tests find to findings
 use Rattle.std.proofs.Common.{ℕ, ◌<◌, ◌^◌, Bool, List, refl, sym, ◌∙◌, arith, ⊎_elim}
-use Rattle.plan_terms.specs.Terms.{Case, Link, Routing, IsBound, IsLowest, CertificateLine, asked, given, raw_value}
-use Rattle.plan_terms.proofs.Lemmas.{bound_unique}
+use Rattle.plan_terms.{specs.Terms.{Case, Link, Routing, IsBound, IsLowest, CertificateLine, asked, given, raw_value}, proofs.Lemmas.bound_unique}
 use Rattle.plan_types.specs.Terms.{lines_of_certificate}
 use Rattle.plan_report.specs.Terms.{Plan, CertLine}
-use Rattle.plan_checker.specs.Carried.{HasBadPath, HoldsBadPath, HoldsNotCarried, HoldsOverloaded, IsOverloaded, IsUncarried}
-use Rattle.plan_checker.specs.Certified.{HasStaleRight, HoldsBoundDiffers, HoldsCertificateWide, HoldsLocalCut, HoldsRawDiffers, HoldsPriceExceeded, HoldsRightDiffers, IsLocalCut, IsOverpriced}
-use Rattle.plan_checker.specs.Order.{HoldsNone}
-use Rattle.plan_checker.specs.Places.{HoldsAt}
-use Rattle.plan_checker.specs.declared.finding.Finding.TheVariants.{BadPath, NotCarried, Overloaded, LocalCut, RightDiffers, PriceExceeded, CertificateWide, RawDiffers, BoundDiffers}
+use Rattle.plan_checker.{specs.Carried.{HasBadPath, HoldsBadPath, HoldsNotCarried, HoldsOverloaded, IsOverloaded, IsUncarried}, specs.Certified.{HasStaleRight, HoldsBoundDiffers, HoldsCertificateWide, HoldsLocalCut, HoldsRawDiffers, HoldsPriceExceeded, HoldsRightDiffers, IsLocalCut, IsOverpriced}, specs.Order.HoldsNone, specs.Places.HoldsAt, specs.declared.finding.Finding.TheVariants.{BadPath, NotCarried, Overloaded, LocalCut, RightDiffers, PriceExceeded, CertificateWide, RawDiffers, BoundDiffers}}
 
 pub no_right : (p : Case) (lines : List CertLine) → ((i x y : ℕ) → HoldsAt lines i (λ l. HasStaleRight p l.cut x y) → ⊥) → HoldsNone (HoldsRightDiffers p lines)
 no_right p lines none (RightDiffers i a b) h = none i a b h.0

@@ -1,7 +1,6 @@
 -- raw values and bounds
-use Rattle.std.proofs.Common.{◌≡◌, ℕ, ◌*◌, ◌==◌, IsTrue, Ordering, nat_cmp, refl, sym, subst, ◌∙◌, arith, ⊎_elim, Less, Equal, Greater}
+use Rattle.std.{proofs.Common.{◌≡◌, ℕ, ◌*◌, ◌==◌, IsTrue, Ordering, nat_cmp, refl, sym, subst, ◌∙◌, arith, ⊎_elim, Less, Equal, Greater}, specs.Ordering.ordering_index}
 use Rattle.net_core.proofs.Library.{eq-one_of_dvd-one, cases_lt, false≢true, nat_cmp_is, ◌∣◌, IsGcd}
-use Rattle.std.specs.Ordering.{ordering_index}
 use Rattle.plan_terms.specs.Terms.{IsLowest}
 
 -- two numbers that compare as equal

@@ -1,9 +1,7 @@
 -- findings on the routings of a plan
 use Rattle.std.specs.Prelude.{◌≡◌, ◌≢◌, ℕ, ◌*◌, ◌<◌, List, Some, slice_get}
 use Rattle.plan_terms.specs.Terms.{Case, graph_in, Joins, Demand, Flow, Routing, load, sent, IsPath}
-use Rattle.plan_checker.specs.Places.{HoldsAt, IsLeastPair}
-use Rattle.plan_checker.specs.declared.finding.Finding.{Finding}
-use Rattle.plan_checker.specs.declared.finding.Finding.TheVariants.{BadPath, NotCarried, Overloaded}
+use Rattle.plan_checker.{specs.Places.{HoldsAt, IsLeastPair}, specs.declared.finding.Finding.Finding, specs.declared.finding.Finding.TheVariants.{BadPath, NotCarried, Overloaded}}
 
 -- the flow follows a path between the ends of its demand
 pub record FollowsPath (joins : ℕ → ℕ → ℕ → Type 0) (demands : List Demand) (flow : Flow) : Type 0 where

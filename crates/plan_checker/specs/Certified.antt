@@ -3,9 +3,7 @@ use Rattle.std.specs.Prelude.{◌≡◌, ◌≢◌, ℕ, ◌*◌, ◌^◌, ◌<�
 use Rattle.plan_terms.specs.Terms.{CutLine, Case, graph_in, Joins, Link, IsBound, IsLowest, total_cost, AreKept, CertificateLine, IsRight, asked, given, price, raw_value}
 use Rattle.plan_types.specs.Terms.{lines_of_certificate}
 use Rattle.plan_report.specs.Terms.{CertLine, Local, Plan}
-use Rattle.plan_checker.specs.Places.{HoldsAt, IsLeastPair, IsLeastPlace}
-use Rattle.plan_checker.specs.declared.finding.Finding.{Finding}
-use Rattle.plan_checker.specs.declared.finding.Finding.TheVariants.{CostDiffers, LocalCut, RightDiffers, PriceExceeded, CertificateWide, RawDiffers, BoundDiffers}
+use Rattle.plan_checker.{specs.Places.{HoldsAt, IsLeastPair, IsLeastPlace}, specs.declared.finding.Finding.Finding, specs.declared.finding.Finding.TheVariants.{CostDiffers, LocalCut, RightDiffers, PriceExceeded, CertificateWide, RawDiffers, BoundDiffers}}
 
 -- the cost isn't what the counts cost
 abbrev pub HoldsCostDiffers : Case → Plan → Finding → Type 0

@@ -1,16 +1,8 @@
 -- the findings on a plan by itself, in their order
 use Rattle.std.specs.Prelude.{◌≡◌, ◌≢◌, ⊤, Bool, List, [], ◌∷◌}
 use Rattle.plan_terms.specs.Terms.{Case, capacities}
-use Rattle.plan_types.specs.Terms.{IsCarryingPlan, IsCertifiedPlan, IsCostedPlan, lines_of_certificate}
-use Rattle.plan_types.specs.declared.plan.Plan.{Plan}
-use Rattle.plan_checker.specs.Carried.{HoldsBadPath, HoldsNotCarried, HoldsOverloaded}
-use Rattle.plan_checker.specs.Certified.{HoldsCostDiffers, HoldsLocalCut, HoldsRightDiffers, HoldsPriceExceeded, HoldsCertificateWide, HoldsRawDiffers, HoldsBoundDiffers}
-use Rattle.plan_checker.specs.Order.{HoldNone, IsFirstFinding, Kind}
-use Rattle.plan_checker.specs.Shares.{HoldsNotTight}
-use Rattle.plan_checker.specs.declared.finding.CheckAnswer.{CheckAnswer}
-use Rattle.plan_checker.specs.declared.finding.CheckAnswer.TheVariants.{Accepted, Rejected, NoMemory}
-use Rattle.plan_checker.specs.declared.finding.Finding.{Finding}
-use Rattle.plan_checker.specs.declared.finding.Finding.TheVariants.{DemandsDiffer}
+use Rattle.plan_types.{specs.Terms.{IsCarryingPlan, IsCertifiedPlan, IsCostedPlan, lines_of_certificate}, specs.declared.plan.Plan.Plan}
+use Rattle.plan_checker.{specs.Carried.{HoldsBadPath, HoldsNotCarried, HoldsOverloaded}, specs.Certified.{HoldsCostDiffers, HoldsLocalCut, HoldsRightDiffers, HoldsPriceExceeded, HoldsCertificateWide, HoldsRawDiffers, HoldsBoundDiffers}, specs.Order.{HoldNone, IsFirstFinding, Kind}, specs.Shares.HoldsNotTight, specs.declared.finding.CheckAnswer.CheckAnswer, specs.declared.finding.CheckAnswer.TheVariants.{Accepted, Rejected, NoMemory}, specs.declared.finding.Finding.Finding, specs.declared.finding.Finding.TheVariants.DemandsDiffer}
 
 -- the demands aren't the plan's
 abbrev pub HoldsDemandsDiffer : Case → Plan → Finding → Type 0

@@ -2,9 +2,7 @@
 use Rattle.std.specs.Prelude.{◌≡◌, ℕ, ◌+◌, ◌*◌, ◌≤◌, ◌⊎◌, List, [], Some, length, slice_get, slice_index, sum_by}
 use Rattle.plan_terms.specs.Terms.{Case, graph_in, Joins, Link, Routing, Carries, IsUnitPair}
 use Rattle.plan_report.specs.Terms.{Plan, Fractional, Tight, Share}
-use Rattle.plan_checker.specs.Places.{HoldsAt}
-use Rattle.plan_checker.specs.declared.finding.Finding.{Finding}
-use Rattle.plan_checker.specs.declared.finding.Finding.TheVariants.{NotTight}
+use Rattle.plan_checker.{specs.Places.HoldsAt, specs.declared.finding.Finding.Finding, specs.declared.finding.Finding.TheVariants.NotTight}
 
 -- units of a link's unit pair, over the scale: the capacity that they and the pre-installed one give, and what the units cost; without a
 -- module they give and cost 0

@@ -2,8 +2,7 @@ ghost use Rattle.std.specs.Prelude.{◌≡◌, ℕ, ◌<◌, ◌^◌, All, OnOk,
 ghost use Rattle.plan_terms.specs.Terms.{graph_in, case_of, AreKept};
 ghost use Rattle.plan_report.specs.Terms.{IsCertificateInForm, IsCutInForm};
 ghost use Rattle.plan_types.specs.Terms.{IsCertifiedPlan, lines_of_certificate};
-ghost use Rattle.plan_checker.specs.Certified.{HoldsBoundDiffers, HoldsCertificateWide, HoldsLocalCut, HoldsPriceExceeded, HoldsRawDiffers, HoldsRightDiffers, IsOverpriced};
-ghost use Rattle.plan_checker.specs.inner.Tests.{Tells, TellFirst};
+ghost use Rattle.plan_checker.{specs.Certified.{HoldsBoundDiffers, HoldsCertificateWide, HoldsLocalCut, HoldsPriceExceeded, HoldsRawDiffers, HoldsRightDiffers, IsOverpriced}, specs.inner.Tests.{Tells, TellFirst}};
 
 use crate::finding::Finding;
 use crate::local_cuts::first_local;

@@ -1,8 +1,7 @@
 ghost use Rattle.std.specs.Prelude.{◌≡◌, OnOk};
 ghost use Rattle.plan_terms.specs.Terms.{case_of, AreCounts};
 ghost use Rattle.plan_types.specs.Terms.{IsCostedPlan};
-ghost use Rattle.plan_checker.specs.Certified.{HoldsCostDiffers};
-ghost use Rattle.plan_checker.specs.inner.Tests.{Tells};
+ghost use Rattle.plan_checker.{specs.Certified.HoldsCostDiffers, specs.inner.Tests.Tells};
 
 use crate::finding::Finding;
 use crate::stop::{Stop, Test};

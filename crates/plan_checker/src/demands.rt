@@ -1,7 +1,6 @@
 ghost use Rattle.std.specs.Prelude.{◌≡◌, ◌↔◌, IsTrue, OnOk};
-ghost use Rattle.plan_checker.specs.PlanFindings.{HoldsDemandsDiffer};
-ghost use Rattle.plan_checker.specs.inner.Tests.{Tells};
 ghost use Rattle.plan_terms.specs.Terms.{case_of};
+ghost use Rattle.plan_checker.{specs.PlanFindings.HoldsDemandsDiffer, specs.inner.Tests.Tells};
 
 use crate::finding::Finding;
 use crate::stop::{Stop, Test};

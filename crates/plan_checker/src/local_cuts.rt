@@ -1,9 +1,7 @@
 ghost use Rattle.std.specs.Prelude.{◌≡◌, ◌≢◌, ◌↔◌, ℕ, ◌<◌, ◌^◌, All, IfNone, IsTrue, IsFalse, length, slice_index};
 ghost use Rattle.plan_terms.specs.Terms.{graph_in, Survives, case_of, graph_of, AreKept};
 ghost use Rattle.plan_report.specs.Terms.{IsCutInForm};
-ghost use Rattle.plan_checker.specs.Certified.{IsLocalCut};
-ghost use Rattle.plan_checker.specs.Places.{HoldsAt};
-ghost use Rattle.plan_checker.specs.inner.Tests.{IsFirstPlace};
+ghost use Rattle.plan_checker.{specs.Certified.IsLocalCut, specs.Places.HoldsAt, specs.inner.Tests.IsFirstPlace};
 
 use metric_cut::divisor_of_lengths;
 use net_core::{Instance, LinkId, Surviving};

@@ -2,10 +2,7 @@ ghost use Rattle.std.specs.Prelude.{◌≡◌, ◌≢◌, ℕ, ◌*◌, ◌^◌,
 ghost use Rattle.plan_terms.specs.Terms.{case_of, load, sent};
 ghost use Rattle.plan_report.specs.Terms.{known_of, AreRoutingsInForm, IsRoutingInForm};
 ghost use Rattle.module_choice.specs.inner.Routes.{weight};
-ghost use Rattle.plan_checker.specs.Carried.{IsOverloaded, IsUncarried};
-ghost use Rattle.plan_checker.specs.Places.{HoldsAt};
-ghost use Rattle.plan_checker.specs.inner.Routes.{FollowPaths};
-ghost use Rattle.plan_checker.specs.inner.Tests.{IsFirstPair, IsFirstPlace};
+ghost use Rattle.plan_checker.{specs.Carried.{IsOverloaded, IsUncarried}, specs.Places.HoldsAt, specs.inner.Routes.FollowPaths, specs.inner.Tests.{IsFirstPair, IsFirstPlace}};
 
 use crate::place::Place;
 use crate::sums::{first_other, first_over, loads_of, sums_of};

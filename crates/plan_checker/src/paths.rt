@@ -1,9 +1,7 @@
 ghost use Rattle.std.specs.Prelude.{◌≡◌, ◌<◌, ◌^◌, ◌↔◌, All, IfNone, IsTrue, length};
 ghost use Rattle.plan_terms.specs.Terms.{IsDemand, Joins, graph_of};
 ghost use Rattle.plan_report.specs.Terms.{IsFlowInForm};
-ghost use Rattle.plan_checker.specs.Carried.{FollowsPath};
-ghost use Rattle.plan_checker.specs.Places.{HoldsAt};
-ghost use Rattle.plan_checker.specs.inner.Tests.{IsFirstPlace};
+ghost use Rattle.plan_checker.{specs.Carried.FollowsPath, specs.Places.HoldsAt, specs.inner.Tests.IsFirstPlace};
 
 use net_core::{Demand, Flow, Surviving};
 use short_paths::is_path;

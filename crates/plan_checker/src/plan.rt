@@ -1,8 +1,7 @@
 ghost use Rattle.std.specs.Prelude.{◌≡◌, ℕ, List, ◌≤◌, OnOk, length};
 ghost use Rattle.plan_terms.specs.Terms.{AreDemands, case, case_of, IsAble, total_cost};
 ghost use Rattle.plan_report.specs.Terms.{known_of, IsPlanInForm};
-ghost use Rattle.plan_checker.specs.PlanFindings.{AnswersPlan, IsAcceptedPlan, own_findings, plan_findings};
-ghost use Rattle.plan_checker.specs.inner.Tests.{TellFirst};
+ghost use Rattle.plan_checker.{specs.PlanFindings.{AnswersPlan, IsAcceptedPlan, own_findings, plan_findings}, specs.inner.Tests.TellFirst};
 
 use crate::certificate::check_certificate;
 use crate::cost::check_cost;

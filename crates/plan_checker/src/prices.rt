@@ -1,9 +1,6 @@
 ghost use Rattle.std.specs.Prelude.{◌≡◌, ℕ, ◌*◌, ◌^◌, ◌<◌, ◌≤◌, ◌↔◌, All, IsTrue, length};
 ghost use Rattle.plan_terms.specs.Terms.{IsModule, price};
-ghost use Rattle.plan_checker.specs.Certified.{IsOverpriced};
-ghost use Rattle.plan_checker.specs.Places.{HoldsAt};
-ghost use Rattle.plan_checker.specs.inner.Lines.{certified};
-ghost use Rattle.plan_checker.specs.inner.Tests.{IsFirstPair, IsFirstPlace};
+ghost use Rattle.plan_checker.{specs.Certified.IsOverpriced, specs.Places.HoldsAt, specs.inner.Lines.certified, specs.inner.Tests.{IsFirstPair, IsFirstPlace}};
 
 use crate::place::Place;
 use net_core::{Link, Module};

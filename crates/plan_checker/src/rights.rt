@@ -1,8 +1,7 @@
 ghost use Rattle.std.specs.Prelude.{◌≡◌, ◌<◌, ◌^◌, All, IfOk, OnOk, length};
 ghost use Rattle.plan_terms.specs.Terms.{graph_in, Joins, case_of, AreKept, IsRight};
 ghost use Rattle.plan_report.specs.Terms.{IsCutInForm};
-ghost use Rattle.plan_checker.specs.Certified.{HoldsRightDiffers};
-ghost use Rattle.plan_checker.specs.inner.Tests.{Tells};
+ghost use Rattle.plan_checker.{specs.Certified.HoldsRightDiffers, specs.inner.Tests.Tells};
 
 use crate::finding::Finding;
 use crate::stop::{Stop, Test};

@@ -1,9 +1,7 @@
 ghost use Rattle.std.specs.Prelude.{◌≡◌, All, IfNone, IfOk, length};
 ghost use Rattle.plan_terms.specs.Terms.{case_of};
 ghost use Rattle.plan_report.specs.Terms.{known_of, AreRoutingsInForm};
-ghost use Rattle.plan_checker.specs.Carried.{HasBadPath};
-ghost use Rattle.plan_checker.specs.inner.Routes.{FollowPaths};
-ghost use Rattle.plan_checker.specs.inner.Tests.{IsFirstPair};
+ghost use Rattle.plan_checker.{specs.Carried.HasBadPath, specs.inner.Routes.FollowPaths, specs.inner.Tests.IsFirstPair};
 
 use crate::paths::first_astray;
 use crate::place::Place;

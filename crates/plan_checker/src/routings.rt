@@ -1,9 +1,7 @@
 ghost use Rattle.std.specs.Prelude.{◌≡◌, ℕ, ◌<◌, ◌^◌, All, OnOk, length, [], ◌∷◌};
 ghost use Rattle.plan_terms.specs.Terms.{case_of, AreCounts, capacities};
 ghost use Rattle.plan_report.specs.Terms.{known_of, AreRoutingsInForm};
-ghost use Rattle.plan_checker.specs.Carried.{HoldsBadPath, HoldsNotCarried, HoldsOverloaded, IsOverloaded, IsUncarried};
-ghost use Rattle.plan_checker.specs.inner.Routes.{FollowPaths};
-ghost use Rattle.plan_checker.specs.inner.Tests.{Tells, TellFirst};
+ghost use Rattle.plan_checker.{specs.Carried.{HoldsBadPath, HoldsNotCarried, HoldsOverloaded, IsOverloaded, IsUncarried}, specs.inner.Routes.FollowPaths, specs.inner.Tests.{Tells, TellFirst}};
 
 use crate::finding::Finding;
 use crate::overloads::{overloaded, uncarried};

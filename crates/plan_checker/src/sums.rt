@@ -1,9 +1,7 @@
 ghost use Rattle.std.specs.Prelude.{◌≡◌, ◌≢◌, ℕ, ◌+◌, ◌*◌, ◌^◌, ◌<◌, ◌≤◌, All, IfOk, length, ◌==◌, if◌then◌else◌};
 ghost use Rattle.plan_terms.specs.Terms.{sent};
 ghost use Rattle.module_choice.specs.inner.Routes.{times, weight};
-ghost use Rattle.plan_checker.specs.Places.{HoldsAt};
-ghost use Rattle.plan_checker.specs.inner.Mixed.{AreMixed, IsMixed};
-ghost use Rattle.plan_checker.specs.inner.Tests.{IsFirstPlace};
+ghost use Rattle.plan_checker.{specs.Places.HoldsAt, specs.inner.Mixed.{AreMixed, IsMixed}, specs.inner.Tests.IsFirstPlace};
 
 use crate::mixed::Mixed;
 use net_core::{Demand, Flow, LinkId, NoMemory};

@@ -1,8 +1,7 @@
 ghost use Rattle.std.specs.Prelude.{◌≡◌, ◌<◌, ◌*◌, ◌^◌, ◌↔◌, All, IfOk, IsTrue, length};
 ghost use Rattle.plan_terms.specs.Terms.{case_of};
 ghost use Rattle.plan_report.specs.Terms.{known_of, AreRoutingsInForm, IsQualityInForm, IsShareInForm};
-ghost use Rattle.plan_checker.specs.Shares.{AreCarried, HoldsNotTight, IsTight};
-ghost use Rattle.plan_checker.specs.inner.Tests.{Tells};
+ghost use Rattle.plan_checker.{specs.Shares.{AreCarried, HoldsNotTight, IsTight}, specs.inner.Tests.Tells};
 
 use crate::finding::Finding;
 use crate::overloads::{overloaded, uncarried};

@@ -1,9 +1,7 @@
 ghost use Rattle.std.specs.Prelude.{◌≡◌, ◌-◌, ◌^◌, ◌<◌, ◌≤◌, ◌↔◌, All, IsTrue, OnOk, length, min, [], ◌∷◌};
 ghost use Rattle.plan_terms.specs.Terms.{IsModule, IsBound, IsLowest, asked, given, raw_value};
 ghost use Rattle.plan_types.specs.Terms.{lines_of_certificate};
-ghost use Rattle.plan_checker.specs.Certified.{HoldsBoundDiffers, HoldsCertificateWide, HoldsRawDiffers};
-ghost use Rattle.plan_checker.specs.inner.Lines.{certified};
-ghost use Rattle.plan_checker.specs.inner.Tests.{Tells, TellFirst};
+ghost use Rattle.plan_checker.{specs.Certified.{HoldsBoundDiffers, HoldsCertificateWide, HoldsRawDiffers}, specs.inner.Lines.certified, specs.inner.Tests.{Tells, TellFirst}};
 
 use crate::finding::Finding;
 use crate::stop::{Stop, Test};

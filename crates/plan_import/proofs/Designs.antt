@@ -3,14 +3,9 @@ use Rattle.std.proofs.Common.{◌≡◌, ◌∙◌, ℕ, ◌+◌, ◌*◌, ◌^�
 use Rattle.net_core.proofs.Library.{∥∥₁_elim, props, get_or_default, All-weaker, recursion_from_All, get_or-le-sum_by, sum_by-cons, get_or_from_slice_get, slice_get-get_or, slice_get_within, below-le, below-one, below-same, below-swapped, sums-same}
 use Rattle.plan_terms.specs.Terms.{Demand, Flow, Routing, Case, graph_in, AreDemands, Joins, IsNetwork, sum_below, AreCounts, AreWithinLimits, capacities, total_cost, Carries, sent}
 use Rattle.plan_report.specs.Terms.{IsFlowInForm, IsRoutingInForm, known_to, Plan}
-use Rattle.lone_plan.proofs.Lemmas.{cost_low, of_list, path_in_form}
-use Rattle.flow_file.specs.declared.flow.FlowFile.{FlowFile}
-use Rattle.flow_file.specs.declared.flow.LinkFlow.{LinkFlow}
-use Rattle.flow_file.specs.FlowFiles.{AreLinkFlows, IsFlowFile, IsLinkFlow}
-use Rattle.flow_import.specs.Imports.{IsImported, IsImportedState, demand_arcs, demand_paths, flows_in, no_routing}
-use Rattle.flow_import.specs.declared.imported.Imported.{Imported}
-use Rattle.flow_import.proofs.Parts.{as_path, picked_sum}
-use Rattle.lone_plan.specs.LonePlans.{IsSoundDesign, redesigned_plan}
+use Rattle.lone_plan.{proofs.Lemmas.{cost_low, of_list, path_in_form}, specs.LonePlans.{IsSoundDesign, redesigned_plan}}
+use Rattle.flow_file.{specs.declared.flow.FlowFile.FlowFile, specs.declared.flow.LinkFlow.LinkFlow, specs.FlowFiles.{AreLinkFlows, IsFlowFile, IsLinkFlow}}
+use Rattle.flow_import.{specs.Imports.{IsImported, IsImportedState, demand_arcs, demand_paths, flows_in, no_routing}, specs.declared.imported.Imported.Imported, proofs.Parts.{as_path, picked_sum}}
 
 -- ---- as many flows as the file has at most
 

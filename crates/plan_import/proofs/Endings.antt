@@ -2,17 +2,10 @@
 use Rattle.std.proofs.Common.{◌≢◌, refl, length, ⊎_elim}
 use Rattle.plan_terms.specs.Terms.{Notes, Case, AreDemands, IsNetwork, capacities}
 use Rattle.plan_report.specs.Terms.{known_to}
-use Rattle.lone_plan.specs.Terms.{IsTranscript, plan_commands, whole_report}
-use Rattle.flow_file.specs.declared.flow.FlowFile.{FlowFile}
-use Rattle.flow_file.specs.FlowFiles.{IsFlowFile}
-use Rattle.flow_import.specs.declared.fault.ImportFault.{ImportFault}
-use Rattle.flow_import.specs.declared.fault.ImportFault.TheVariants.{NoMemory}
-use Rattle.flow_import.specs.declared.imported.Imported.{Imported}
-use Rattle.flow_import.specs.Imports.{IsImportFault, IsImported}
-use Rattle.lone_plan.specs.declared.planned_report.PlannedReport.{PlannedReport}
-use Rattle.lone_plan.proofs.Accepted.{redesigns_are_accepted}
-use Rattle.plan_import.specs.ImportedPlans.{HasImportFault, IsImportedReport, with_design}
-use Rattle.plan_import.proofs.Designs.{sound_design}
+use Rattle.lone_plan.{specs.Terms.{IsTranscript, plan_commands, whole_report}, specs.declared.planned_report.PlannedReport.PlannedReport, proofs.Accepted.redesigns_are_accepted}
+use Rattle.flow_file.{specs.declared.flow.FlowFile.FlowFile, specs.FlowFiles.IsFlowFile}
+use Rattle.flow_import.{specs.declared.fault.ImportFault.ImportFault, specs.declared.fault.ImportFault.TheVariants.NoMemory, specs.declared.imported.Imported.Imported, specs.Imports.{IsImportFault, IsImported}}
+use Rattle.plan_import.{specs.ImportedPlans.{HasImportFault, IsImportedReport, with_design}, proofs.Designs.sound_design}
 
 module _ (p : Case) (notes : Notes) (file : FlowFile) (r : PlannedReport) (t : IsTranscript p notes plan_commands (whole_report r)) where
   pub imported_report : ∥ IsNetwork p.nodes p.links ∥₁ → AreDemands (length p.nodes) p.demands → IsFlowFile (known_to p) p.demands file

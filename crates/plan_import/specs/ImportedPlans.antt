@@ -2,13 +2,9 @@
 use Rattle.std.specs.Prelude.{◌≡◌, ◌≢◌}
 use Rattle.plan_terms.specs.Terms.{Notes, Case, capacities}
 use Rattle.plan_types.specs.declared.report.Report.{Report}
-use Rattle.lone_plan.specs.Terms.{IsTranscript, IsAcceptable, IsSeparationOf, IsSoundDesign, plan_commands, redesigned, whole_report}
+use Rattle.lone_plan.{specs.Terms.{IsTranscript, IsAcceptable, IsSeparationOf, IsSoundDesign, plan_commands, redesigned, whole_report}, specs.declared.planned_report.PlannedReport.PlannedReport}
 use Rattle.flow_file.specs.declared.flow.FlowFile.{FlowFile}
-use Rattle.flow_import.specs.declared.fault.ImportFault.{ImportFault}
-use Rattle.flow_import.specs.declared.fault.ImportFault.TheVariants.{NoMemory}
-use Rattle.flow_import.specs.declared.imported.Imported.{Imported}
-use Rattle.flow_import.specs.Imports.{IsFirstStateFault, IsImported}
-use Rattle.lone_plan.specs.declared.planned_report.PlannedReport.{PlannedReport}
+use Rattle.flow_import.{specs.declared.fault.ImportFault.ImportFault, specs.declared.fault.ImportFault.TheVariants.NoMemory, specs.declared.imported.Imported.Imported, specs.Imports.{IsFirstStateFault, IsImported}}
 use Rattle.plan_import.specs.declared.ending.ImportEnding.{ImportEnding}
 use Rattle.plan_import.specs.declared.ending.ImportEnding.TheVariants as ending
 

@@ -4,8 +4,7 @@ ghost use Rattle.plan_report.specs.Terms.{known_of};
 ghost use Rattle.flow_file.specs.FlowFiles.{IsFlowFile};
 ghost use Rattle.flow_import.specs.declared.fault.ImportFault.TheVariants.{NoMemory as WantOfMemory};
 ghost use Rattle.lone_plan.specs.Terms.{IsTranscript, plan_commands, whole_report};
-ghost use Rattle.plan_import.specs.ImportedPlans.{IsImportEnding, with_design};
-ghost use Rattle.plan_import.specs.declared.ending.ImportEnding.TheVariants.{Faulty};
+ghost use Rattle.plan_import.{specs.ImportedPlans.{IsImportEnding, with_design}, specs.declared.ending.ImportEnding.TheVariants.Faulty};
 
 use flow_file::FlowFile;
 use flow_import::{ImportFault, Imported, import_instance};

@@ -3,9 +3,7 @@ use Rattle.std.proofs.Common.{◌≡◌, ◌==◌, ℕ, ◌+◌, ◌<◌, ◌≤
 use Rattle.net_core.proofs.Library.{pointwise, cases_eq, All-append, All-nil, All-push, All-weaker, Contains-append_left, Contains-get_or, Contains-push, Any-push, all_pairs_push}
 use Rattle.plan_terms.specs.Terms.{StateId, CutLine, Case, graph_in, Graph, IsCut, AreOpening, each_once}
 use Rattle.master_law.specs.Terms.{IsSameCut}
-use Rattle.plan_law.specs.WorkedLists.{AreDifferentCuts, HasCut, HasOpeningOf, IsBeginning, IsOpeningCut, Lacks, OpensBefore}
-use Rattle.plan_law.specs.inner.Openings.{IsOpenedTo}
-use Rattle.plan_law.proofs.Pairs.{any_more, pairs_append}
+use Rattle.plan_law.{specs.WorkedLists.{AreDifferentCuts, HasCut, HasOpeningOf, IsBeginning, IsOpeningCut, Lacks, OpensBefore}, specs.inner.Openings.IsOpenedTo, proofs.Pairs.{any_more, pairs_append}}
 
 -- ---- the opening cuts of a state are at most two, which differ
 

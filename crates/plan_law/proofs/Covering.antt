@@ -2,10 +2,8 @@
 use Rattle.std.proofs.Common.{◌≡◌, ℕ, zero, suc, ◌+◌, ◌-◌, ◌*◌, ◌^◌, ◌<◌, ◌≤◌, ◌⊎◌, List, [], ◌∷◌, true, false, cond, Some, length, map, sum_by, slice_get, slice_index, get_or, refl, sym, ap, ◌∙◌, arith, subst, ⊎_elim, mul-le-mul_left}
 use Rattle.net_core.proofs.Library.{cases_lt, get_or-map, length-map, sum_by-cons, recursion_from_All, slice_get-get_or, slice_get_within, AllByRecursion, below-first, below-same, below-times}
 use Rattle.module_prices.specs.declared.cheapest.UnitPair.{UnitPair}
-use Rattle.plan_terms.specs.Terms.{Demand, Link, Flow, Routing, graph_in, Joins, names_link, sum_below, capacities, modules_capacity, sent, load, IsFlow, Carries}
-use Rattle.plan_terms.proofs.Lemmas.{fixed_of, all_carried, all_weaker}
-use Rattle.master_law.specs.Terms.{unit_capacities, share_capacities}
-use Rattle.master_law.proofs.Capacities.{share_at}
+use Rattle.plan_terms.{specs.Terms.{Demand, Link, Flow, Routing, graph_in, Joins, names_link, sum_below, capacities, modules_capacity, sent, load, IsFlow, Carries}, proofs.Lemmas.{fixed_of, all_carried, all_weaker}}
+use Rattle.master_law.{specs.Terms.{unit_capacities, share_capacities}, proofs.Capacities.share_at}
 use Rattle.plan_law.specs.Laws.{CoversCarry}
 
 -- what flows over a link is no more than all flows

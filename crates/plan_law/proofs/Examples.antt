@@ -3,17 +3,10 @@ use Rattle.std.proofs.Common.{◌≡◌, ◌≢◌, ℕ, zero, suc, ◌+◌, ◌
 use Rattle.net_core.proofs.Library.{eq-one_of_dvd-one, all_one}
 use Rattle.module_prices.specs.declared.cheapest.UnitPair.{UnitPair}
 use Rattle.plan_terms.specs.Terms.{Demand, LinkId, Link, Module, Three, CutLine, Flow, Routing, Case, graph_in, Graph, Joins, Survives, IsCut, link_cost, Covers, Reaches, Carries, IsFlow, sent, load, Keeps, AreOpening, IsDistance, IsPath, length_of, ArePriceLengths, HasLeastUnitCost, IsPriceLength, IsUnitPair}
-use Rattle.plan_types.specs.declared.certificate.CertLine.{CertLine}
-use Rattle.plan_types.specs.declared.certificate.Spot.TheVariants.{Local}
-use Rattle.plan_types.specs.declared.plan.Plan.{Plan}
-use Rattle.plan_types.specs.declared.quality.Fractional.{Fractional}
-use Rattle.plan_types.specs.declared.quality.Quality.TheVariants.{Tight}
+use Rattle.plan_types.{specs.declared.certificate.CertLine.CertLine, specs.declared.certificate.Spot.TheVariants.Local, specs.declared.plan.Plan.Plan, specs.declared.quality.Fractional.Fractional, specs.declared.quality.Quality.TheVariants.Tight}
 use Rattle.route_law.specs.Terms.{IsLowestRouting}
 use Rattle.master_law.specs.Terms.{AreUnitPairs, IsShareNeed}
-use Rattle.plan_law.specs.LoosePlans.{IsWorkedPlan}
-use Rattle.plan_law.specs.TightPlans.{CoversShare, IsTightPlan}
-use Rattle.plan_law.specs.WorkedLists.{HasCut, HasOpeningOf, IsBeginning, IsOpeningCut, IsWorkedList, Lacks}
-use Rattle.plan_law.proofs.Rounds.{begun_worked}
+use Rattle.plan_law.{specs.LoosePlans.IsWorkedPlan, specs.TightPlans.{CoversShare, IsTightPlan}, specs.WorkedLists.{HasCut, HasOpeningOf, IsBeginning, IsOpeningCut, IsWorkedList, Lacks}, proofs.Rounds.begun_worked}
 
 -- ---- a link between two nodes, with a module of 10000 for 5000, and a demand of 12000 across it
 

@@ -5,11 +5,8 @@ use Rattle.module_prices.specs.declared.cheapest.UnitPair.{UnitPair}
 use Rattle.plan_terms.specs.Terms.{CutLine, Routing, Case, graph_in, IsCut, raw_value, Violates}
 use Rattle.plan_types.specs.declared.quality.Fractional.{Fractional}
 use Rattle.route_law.proofs.Lemmas.{violated_carries_nothing}
-use Rattle.master_law.specs.Terms.{share_caps, share_cost}
-use Rattle.master_law.proofs.Capacities.{share_count}
-use Rattle.master_law.proofs.Greatest.{unviolated_raw}
-use Rattle.plan_law.specs.Laws.{TightIsGreatest}
-use Rattle.plan_law.specs.TightPlans.{AreCarriedByShare}
+use Rattle.master_law.{specs.Terms.{share_caps, share_cost}, proofs.Capacities.share_count, proofs.Greatest.unviolated_raw}
+use Rattle.plan_law.{specs.Laws.TightIsGreatest, specs.TightPlans.AreCarriedByShare}
 
 -- a share that is carried in each state violates no cut
 carried_violates_none : (p : Case) (pairs : List UnitPair) (fractional : Fractional) (cut : CutLine) → length pairs ≡ length p.links → length fractional.share.units ≡ length p.links

@@ -1,8 +1,7 @@
 -- the laws of the crate, from its lemmas
 use Rattle.std.proofs.Common.{get_or, sym}
 use Rattle.net_core.proofs.Library.{Contains-get_or}
-use Rattle.plan_law.specs.Laws.{FoundCutsAreNew, WorkedListsBegin, WorkedListsDiffer, WorkedListsFill, WorkedListsGoOn}
-use Rattle.plan_law.proofs.Rounds.{begun_worked, found_is_new, worked_cuts, worked_differ, worked_on, worked_short}
+use Rattle.plan_law.{specs.Laws.{FoundCutsAreNew, WorkedListsBegin, WorkedListsDiffer, WorkedListsFill, WorkedListsGoOn}, proofs.Rounds.{begun_worked, found_is_new, worked_cuts, worked_differ, worked_on, worked_short}}
 
 pub found_cuts_are_new : FoundCutsAreNew
 found_cuts_are_new p pairs cuts share cut units known least found k d lt same =

@@ -1,15 +1,11 @@
 -- a round after a worked list makes a worked list
 use Rattle.std.proofs.Common.{◌≡◌, ◌≢◌, ℕ, ◌+◌, ◌*◌, ◌<◌, ◌≤◌, List, [], ◌∷◌, ◌++◌, All, Contains, length, min, take, sum_by, zip, get_or, refl, sym, ap, ◌∙◌, arith, subst, append_assoc, length-append, length-take}
 use Rattle.net_core.proofs.Library.{All-append, All-take, All-weaker, Contains-append_right, Contains-get_or}
-use Rattle.plan_terms.specs.Terms.{CutLine, Case, graph_in, Joins, IsCut, IsRight, Violates}
+use Rattle.plan_terms.{specs.Terms.{CutLine, Case, graph_in, Joins, IsCut, IsRight, Violates}, proofs.Lemmas.right_once}
 use Rattle.module_prices.specs.declared.cheapest.UnitPair.{UnitPair}
-use Rattle.plan_terms.proofs.Lemmas.{right_once}
 use Rattle.plan_types.specs.declared.quality.Share.{Share}
-use Rattle.master_law.specs.Terms.{IsLeastShare, IsSameCut, AreUnitPairs, share_caps}
-use Rattle.master_law.proofs.Shares.{least_violates_none}
-use Rattle.plan_law.specs.WorkedLists.{Round, after_rounds, AreDifferentCuts, AreRounds, cut_short, IsBeginning, IsFoundCut, IsRound, IsWorkedList}
-use Rattle.plan_law.proofs.Begun.{beginning_cuts, beginning_differ, opened_differ}
-use Rattle.plan_law.proofs.Pairs.{pairs_append, pairs_take}
+use Rattle.master_law.{specs.Terms.{IsLeastShare, IsSameCut, AreUnitPairs, share_caps}, proofs.Shares.least_violates_none}
+use Rattle.plan_law.{specs.WorkedLists.{Round, after_rounds, AreDifferentCuts, AreRounds, cut_short, IsBeginning, IsFoundCut, IsRound, IsWorkedList}, proofs.Begun.{beginning_cuts, beginning_differ, opened_differ}, proofs.Pairs.{pairs_append, pairs_take}}
 
 module _ (p : Case) (pairs : List UnitPair) (units : AreUnitPairs p.links pairs) where
   -- a cut that is found at a least share of cuts isn't one of them

@@ -2,12 +2,9 @@
 use Rattle.std.specs.Prelude.{ℕ, ◌+◌, ◌*◌, ◌≤◌, ◌++◌, List, [], ◌∷◌, All, length, take}
 use Rattle.plan_terms.specs.Terms.{CutLine, Routing, Case, graph_in, AreDemands, Joins, IsModule, capacities, CertificateLine, IsCertificate, IsCut, raw_value, Carries}
 use Rattle.module_prices.specs.declared.cheapest.UnitPair.{UnitPair}
-use Rattle.plan_types.specs.declared.plan.Plan.{Plan}
-use Rattle.plan_types.specs.declared.quality.Fractional.{Fractional}
-use Rattle.plan_types.specs.declared.quality.Share.{Share}
+use Rattle.plan_types.{specs.declared.plan.Plan.Plan, specs.declared.quality.Fractional.Fractional, specs.declared.quality.Share.Share}
 use Rattle.master_law.specs.Terms.{IsLeastShare, AreUnitPairs, share_caps}
-use Rattle.plan_law.specs.TightPlans.{CoversShare, IsProperShare, IsTightPlan}
-use Rattle.plan_law.specs.WorkedLists.{Round, cut_short, AreDifferentCuts, IsBeginning, IsFoundCut, IsRound, IsWorkedList, Lacks}
+use Rattle.plan_law.{specs.TightPlans.{CoversShare, IsProperShare, IsTightPlan}, specs.WorkedLists.{Round, cut_short, AreDifferentCuts, IsBeginning, IsFoundCut, IsRound, IsWorkedList, Lacks}}
 
 -- a cut that is found at a least share of cuts isn't one of them
 abbrev pub FoundCutsAreNew : Type 0

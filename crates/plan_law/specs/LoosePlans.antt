@@ -2,16 +2,10 @@
 use Rattle.std.specs.Prelude.{◌≡◌, ℕ, ◌+◌, ◌*◌, ◌^◌, ◌<◌, ◌≤◌, ◌⊎◌, List, [], ◌∷◌, All, Contains, Some, length, slice_get}
 use Rattle.plan_terms.specs.Terms.{Evidence, Route, Master, RouteColumn, WideKind, Link, Caps, CutLine, Case, graph_in, capacities, modules_capacity}
 use Rattle.module_prices.specs.declared.cheapest.UnitPair.{UnitPair}
-use Rattle.plan_types.specs.declared.plan.Plan.{Plan}
-use Rattle.plan_types.specs.declared.quality.Cause.{Cause}
-use Rattle.plan_types.specs.declared.quality.Cause.TheVariants.{Wide, Cuts}
-use Rattle.plan_types.specs.declared.quality.Quality.{Quality}
-use Rattle.plan_types.specs.declared.quality.Quality.TheVariants.{Tight, Loose}
-use Rattle.plan_types.specs.declared.quality.Share.{Share}
+use Rattle.plan_types.{specs.declared.plan.Plan.Plan, specs.declared.quality.Cause.Cause, specs.declared.quality.Cause.TheVariants.{Wide, Cuts}, specs.declared.quality.Quality.Quality, specs.declared.quality.Quality.TheVariants.{Tight, Loose}, specs.declared.quality.Share.Share}
 use Rattle.route_law.specs.Terms.{IsRouteEvidence}
 use Rattle.master_law.specs.Terms.{IsLeastShare, IsMasterEvidence, share_caps, share_cost}
-use Rattle.plan_law.specs.TightPlans.{CostsRawValue, CoversShare, IsTightPlan}
-use Rattle.plan_law.specs.WorkedLists.{Round, IsFoundCut, IsWorkedList}
+use Rattle.plan_law.{specs.TightPlans.{CostsRawValue, CoversShare, IsTightPlan}, specs.WorkedLists.{Round, IsFoundCut, IsWorkedList}}
 
 -- ---- by width
 

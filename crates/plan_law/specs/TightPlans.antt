@@ -1,11 +1,8 @@
 -- plans whose bound no cuts can raise: a share that costs the raw value, and that carries the demands in each state
-use Rattle.std.specs.Prelude.{◌≡◌, ℕ, ◌+◌, ◌*◌, ◌<◌, ◌≤◌, List, All, Some, length, slice_get, slice_index}
-use Rattle.std.specs.Int.{◌∣◌}
+use Rattle.std.{specs.Prelude.{◌≡◌, ℕ, ◌+◌, ◌*◌, ◌<◌, ◌≤◌, List, All, Some, length, slice_get, slice_index}, specs.Int.◌∣◌}
 use Rattle.plan_terms.specs.Terms.{Link, Routing, Case, graph_in, Joins, total_cost, Covers, Carries}
 use Rattle.module_prices.specs.declared.cheapest.UnitPair.{UnitPair}
-use Rattle.plan_types.specs.declared.plan.Plan.{Plan}
-use Rattle.plan_types.specs.declared.quality.Fractional.{Fractional}
-use Rattle.plan_types.specs.declared.quality.Share.{Share}
+use Rattle.plan_types.{specs.declared.plan.Plan.Plan, specs.declared.quality.Fractional.Fractional, specs.declared.quality.Share.Share}
 use Rattle.route_law.specs.Terms.{IsLowestRouting}
 use Rattle.master_law.specs.Terms.{AreUnitPairs, IsShareNeed, share_caps, share_cost}
 

@@ -4,8 +4,7 @@ use Rattle.plan_terms.specs.Terms.{Places}
 use Rattle.text_kit.specs.Terms.{money_word}
 use Rattle.plan_view.specs.Terms.{IsGap}
 use Rattle.view_cells.specs.Terms.{counted, tenths_per_cent}
-use Rattle.outside_io.specs.declared.figures.RoundFigures.{RoundFigures}
-use Rattle.outside_io.specs.declared.figures.TreeFigures.{TreeFigures}
+use Rattle.outside_io.{specs.declared.figures.RoundFigures.RoundFigures, specs.declared.figures.TreeFigures.TreeFigures}
 
 -- the value of a certificate in whole units, rounded down; 0 if it has none
 abbrev pub worth : RoundFigures → ℕ

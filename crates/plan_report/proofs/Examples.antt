@@ -2,13 +2,9 @@
 use Rattle.std.proofs.Common.{◌≡◌, ℕ, ◌<◌, ◌^◌, List, [], ◌∷◌, All, length, refl, sym, arith}
 use Rattle.net_core.proofs.Library.{All-cons, All-nil, all_one}
 use Rattle.plan_terms.specs.Terms.{Link, Three, Pooled}
-use Rattle.worked_networks.specs.Tables.{letters}
-use Rattle.worked_networks.specs.Triangle.{triangle_links}
-use Rattle.plan_types.specs.declared.certificate.CertLine.{CertLine}
-use Rattle.plan_types.specs.declared.report.Outcome.TheVariants.{Planned}
-use Rattle.plan_report.specs.Forms.{AreLinkNumbers, AreRoutingsInForm, IsCertificateInForm, IsCertificateLineInForm, IsCutInForm, IsEntryInForm, IsFlowInForm, IsOfPool, IsOutcomeInForm, IsPlanInForm, IsReportInForm, IsRoutingInForm, IsShareInForm}
-use Rattle.plan_report.specs.KnownNames.{KnownNames, known_as}
-use Rattle.plan_report.specs.inner.Examples.{idle_certificate, idle_cut, idle_plan, idle_report, idle_routing}
+use Rattle.worked_networks.{specs.Tables.letters, specs.Triangle.triangle_links}
+use Rattle.plan_types.{specs.declared.certificate.CertLine.CertLine, specs.declared.report.Outcome.TheVariants.Planned}
+use Rattle.plan_report.{specs.Forms.{AreLinkNumbers, AreRoutingsInForm, IsCertificateInForm, IsCertificateLineInForm, IsCutInForm, IsEntryInForm, IsFlowInForm, IsOfPool, IsOutcomeInForm, IsPlanInForm, IsReportInForm, IsRoutingInForm, IsShareInForm}, specs.KnownNames.{KnownNames, known_as}, specs.inner.Examples.{idle_certificate, idle_cut, idle_plan, idle_report, idle_routing}}
 
 -- no state is listed, and amounts have three places
 abbrev triangle_names : KnownNames

@@ -2,13 +2,8 @@
 use Rattle.std.proofs.Common.{◌≡◌, ℕ, List, [], ◌∷◌, ◌++◌, All, refl, sym, subst, ◌∙◌, append_assoc}
 use Rattle.plan_terms.specs.Terms.{Demand, Places, Three, Six}
 use Rattle.plan_types.specs.declared.report.Report.{Report}
-use Rattle.text_kit.specs.Terms.{IsFileOf, ComeAfter, Item, IsHeaderLine, AddsItems, written}
-use Rattle.text_kit.proofs.Lemmas.{writable, after_all, after_as, written_is_read}
-use Rattle.plan_report.specs.Forms.{IsDemandInForm, IsReportInForm}
-use Rattle.plan_report.specs.Items.{report_items}
-use Rattle.plan_report.specs.KnownNames.{KnownNames}
-use Rattle.plan_report.specs.Texts.{SpellsReport, report_header}
-use Rattle.plan_report.specs.inner.Writable.{IsWritableDemand}
+use Rattle.text_kit.{specs.Terms.{IsFileOf, ComeAfter, Item, IsHeaderLine, AddsItems, written}, proofs.Lemmas.{writable, after_all, after_as, written_is_read}}
+use Rattle.plan_report.{specs.Forms.{IsDemandInForm, IsReportInForm}, specs.Items.report_items, specs.KnownNames.KnownNames, specs.Texts.{SpellsReport, report_header}, specs.inner.Writable.IsWritableDemand}
 
 pub writable_demands : (nodes : List (List ℕ)) (demands : List Demand) → ComeAfter (IsDemandInForm nodes) [] demands → All (IsWritableDemand nodes) demands
 writable_demands nodes demands all =

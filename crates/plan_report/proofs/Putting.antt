@@ -1,8 +1,7 @@
 -- Numbered elements and pairs of elements, whose items are added to a text one after another.
 use Rattle.std.proofs.Common.{◌≡◌, ℕ, zero, suc, ◌+◌, ◌<◌, ◌≤◌, List, [], ◌∷◌, length, get_or, take, refl, sym, ap, ◌∙◌, arith, flat_map, zip, Result, OnOk}
 use Rattle.net_core.proofs.Library.{get_or-zip, length-zip}
-use Rattle.text_kit.specs.Terms.{enclosed, Item, Opening, Closing, AddsItems}
-use Rattle.text_kit.proofs.Lemmas.{adds_list, adds_next}
+use Rattle.text_kit.{specs.Terms.{enclosed, Item, Opening, Closing, AddsItems}, proofs.Lemmas.{adds_list, adds_next}}
 use Rattle.plan_report.specs.Items.{numbered_from}
 
 -- ---- elements with their numbers

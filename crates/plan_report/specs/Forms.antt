@@ -1,23 +1,11 @@
 -- Which plans and reports are in form: their numbers, counts and names are in their ranges, and their places are there.
 use Rattle.std.specs.Prelude.{◌≡◌, ℕ, ◌+◌, ◌≤◌, ◌<◌, ◌^◌, false, List, [], All, length, Option, None, Some, slice_get}
 use Rattle.plan_terms.specs.Terms.{Evidence, Route, Master, MasterColumn, RouteColumn, WideKind, Number, Row, Product, Sum, Common, Value, Length, Demand, LinkId, StateId, Edit, Entry, Edited, Pooled, Reply, Accepted, TooMuch, Link, Caps, CutLine, Flow, Routing, Listed, is_named, AreCounts, AreWithinLimits}
-use Rattle.net_core.specs.declared.columns.MasterColumn.TheVariants as master
-use Rattle.net_core.specs.declared.columns.RouteColumn.TheVariants as route
-use Rattle.plan_types.specs.declared.certificate.CertLine.{CertLine}
-use Rattle.plan_types.specs.declared.certificate.Certificate.{Certificate}
-use Rattle.plan_types.specs.declared.certificate.Spot.{Spot}
-use Rattle.plan_types.specs.declared.certificate.Spot.TheVariants.{Pool, Local}
-use Rattle.plan_types.specs.declared.plan.Plan.{Plan}
-use Rattle.plan_types.specs.declared.quality.Cause.{Cause}
-use Rattle.plan_types.specs.declared.quality.Cause.TheVariants.{Wide, Cuts}
-use Rattle.plan_types.specs.declared.quality.Quality.{Quality}
-use Rattle.plan_types.specs.declared.quality.Quality.TheVariants.{Tight, Loose}
-use Rattle.plan_types.specs.declared.quality.Share.{Share}
-use Rattle.plan_types.specs.declared.report.Outcome.{Outcome}
-use Rattle.plan_types.specs.declared.report.Outcome.TheVariants.{Planned, Unsurvivable}
-use Rattle.plan_types.specs.declared.report.Report.{Report}
+use Rattle.plan_types.{specs.declared.certificate.CertLine.CertLine, specs.declared.certificate.Certificate.Certificate, specs.declared.certificate.Spot.Spot, specs.declared.certificate.Spot.TheVariants.{Pool, Local}, specs.declared.plan.Plan.Plan, specs.declared.quality.Cause.Cause, specs.declared.quality.Cause.TheVariants.{Wide, Cuts}, specs.declared.quality.Quality.Quality, specs.declared.quality.Quality.TheVariants.{Tight, Loose}, specs.declared.quality.Share.Share, specs.declared.report.Outcome.Outcome, specs.declared.report.Outcome.TheVariants.{Planned, Unsurvivable}, specs.declared.report.Report.Report}
 use Rattle.text_kit.specs.Terms.{ComeAfter, IsEditInForm}
 use Rattle.plan_report.specs.KnownNames.{KnownNames}
+use Rattle.net_core.specs.declared.columns.MasterColumn.TheVariants as master
+use Rattle.net_core.specs.declared.columns.RouteColumn.TheVariants as route
 
 -- ---- numbers, cuts and paths
 

@@ -1,23 +1,11 @@
 -- The grammar of a report: the items that its text is made of, part by part. Names are those of the network's nodes and links and of the listed states.
 use Rattle.std.specs.Prelude.{ℕ, ◌+◌, Bool, if◌then◌else◌, List, [], ◌∷◌, ◌++◌, flat_map, zip, codes}
 use Rattle.plan_terms.specs.Terms.{Evidence, Route, Master, MasterColumn, RouteColumn, WideKind, Number, Row, Product, Sum, Common, Value, Length, Demand, LinkId, StateId, Entry, Edited, Pooled, Reply, Accepted, UnknownDemand, KnownDemand, UnknownNode, SelfDemand, TooMany, TooMuch, Link, Notes, Places, CutLine, Flow, Routing, Listed, link_name}
+use Rattle.plan_types.{specs.declared.certificate.CertLine.CertLine, specs.declared.certificate.Certificate.Certificate, specs.declared.certificate.Spot.Spot, specs.declared.certificate.Spot.TheVariants.{Pool, Local}, specs.declared.plan.Plan.Plan, specs.declared.quality.Cause.Cause, specs.declared.quality.Cause.TheVariants.{Wide, Cuts}, specs.declared.quality.Quality.Quality, specs.declared.quality.Quality.TheVariants.{Tight, Loose}, specs.declared.report.Outcome.Outcome, specs.declared.report.Outcome.TheVariants.{Planned, Unsurvivable}, specs.declared.report.Report.Report}
+use Rattle.text_kit.specs.Terms.{Item, Verbatim, Whole, Money, edit_items, enclosed, ends_items, section}
+use Rattle.plan_report.{specs.KnownNames.KnownNames, specs.Names.{demand_name, node_name, state_name}}
 use Rattle.net_core.specs.declared.columns.MasterColumn.TheVariants as master
 use Rattle.net_core.specs.declared.columns.RouteColumn.TheVariants as route
-use Rattle.plan_types.specs.declared.certificate.CertLine.{CertLine}
-use Rattle.plan_types.specs.declared.certificate.Certificate.{Certificate}
-use Rattle.plan_types.specs.declared.certificate.Spot.{Spot}
-use Rattle.plan_types.specs.declared.certificate.Spot.TheVariants.{Pool, Local}
-use Rattle.plan_types.specs.declared.plan.Plan.{Plan}
-use Rattle.plan_types.specs.declared.quality.Cause.{Cause}
-use Rattle.plan_types.specs.declared.quality.Cause.TheVariants.{Wide, Cuts}
-use Rattle.plan_types.specs.declared.quality.Quality.{Quality}
-use Rattle.plan_types.specs.declared.quality.Quality.TheVariants.{Tight, Loose}
-use Rattle.plan_types.specs.declared.report.Outcome.{Outcome}
-use Rattle.plan_types.specs.declared.report.Outcome.TheVariants.{Planned, Unsurvivable}
-use Rattle.plan_types.specs.declared.report.Report.{Report}
-use Rattle.text_kit.specs.Terms.{Item, Verbatim, Whole, Money, edit_items, enclosed, ends_items, section}
-use Rattle.plan_report.specs.KnownNames.{KnownNames}
-use Rattle.plan_report.specs.Names.{demand_name, node_name, state_name}
 
 -- ---- numbers, cuts and paths
 

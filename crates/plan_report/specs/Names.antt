@@ -1,6 +1,5 @@
 -- the names that a report is written with
-use Rattle.std.specs.Prelude.{ℕ, zero, suc, List, [], get_or, slice_get, codes}
-use Rattle.std.specs.Option.{option_map_or}
+use Rattle.std.{specs.Prelude.{ℕ, zero, suc, List, [], get_or, slice_get, codes}, specs.Option.option_map_or}
 use Rattle.plan_terms.specs.Terms.{Demand, NodeId, Listed}
 
 -- a node's name

@@ -3,9 +3,7 @@ use Rattle.std.specs.Prelude.{ℕ, List, ◌∷◌, ◌++◌, codes}
 use Rattle.plan_terms.specs.Terms.{Places, Three, Six}
 use Rattle.plan_types.specs.declared.report.Report.{Report}
 use Rattle.text_kit.specs.Terms.{IsFileOf, written}
-use Rattle.plan_report.specs.Forms.{IsReportInForm}
-use Rattle.plan_report.specs.Items.{report_items}
-use Rattle.plan_report.specs.KnownNames.{KnownNames}
+use Rattle.plan_report.{specs.Forms.IsReportInForm, specs.Items.report_items, specs.KnownNames.KnownNames}
 
 -- the first line of a report: version 1 with three places, 2 with six
 abbrev pub report_header : Places → List ℕ

@@ -1,6 +1,6 @@
 ghost use Rattle.std.specs.Prelude.{◌<◌, ◌^◌, All, OnOk, flat_map};
-ghost use Rattle.plan_report.specs.Items.{certificate_items, certificate_line_items, spot_items};
 ghost use Rattle.text_kit.specs.Terms.{AddsItems};
+ghost use Rattle.plan_report.specs.Items.{certificate_items, certificate_line_items, spot_items};
 
 use crate::lists::put_lengths;
 use net_core::{Bytes, CutLine, NoMemory};

@@ -1,9 +1,7 @@
 ghost use Rattle.std.specs.Prelude.{◌<◌, ◌^◌, ◌∷◌, ◌+◌, List, All, OnOk, flat_map, length};
 ghost use Rattle.plan_terms.specs.Terms.{Listed};
 ghost use Rattle.text_kit.specs.Terms.{Whole, enclosed, AddsItems};
-ghost use Rattle.plan_report.specs.Forms.{IsCauseInForm, IsEvidenceInForm, IsKindInForm, IsMasterColumnInForm, IsMasterEvidenceInForm, IsRouteColumnInForm, IsRouteEvidenceInForm};
-ghost use Rattle.plan_report.specs.Items.{cause_items, evidence_items, master_column_items, numbers_items, route_column_items, wide_items};
-ghost use Rattle.plan_report.specs.inner.Naming.{known_in};
+ghost use Rattle.plan_report.{specs.Forms.{IsCauseInForm, IsEvidenceInForm, IsKindInForm, IsMasterColumnInForm, IsMasterEvidenceInForm, IsRouteColumnInForm, IsRouteEvidenceInForm}, specs.Items.{cause_items, evidence_items, master_column_items, numbers_items, route_column_items, wide_items}, specs.inner.Naming.known_in};
 
 use crate::lists::{put_capacities, put_lengths, put_path};
 use crate::names::{Names, put_demand_name, put_link};

@@ -1,8 +1,7 @@
 ghost use Rattle.std.specs.Prelude.{List, All, OnOk, flat_map};
 ghost use Rattle.plan_terms.specs.Terms.{CutLine};
-ghost use Rattle.plan_report.specs.Forms.{IsEditedInForm, IsEntryInForm, IsReplyInForm};
-ghost use Rattle.plan_report.specs.Items.{entry_items, event_items, numbered_from, reply_items};
 ghost use Rattle.text_kit.specs.Terms.{IsEditInForm, edit_items, enclosed, AddsItems};
+ghost use Rattle.plan_report.{specs.Forms.{IsEditedInForm, IsEntryInForm, IsReplyInForm}, specs.Items.{entry_items, event_items, numbered_from, reply_items}};
 
 use net_core::{Bytes, Edit, Entry, NoMemory, Places, Reply};
 use text_kit::puts::{

@@ -1,7 +1,6 @@
 ghost use Rattle.std.specs.Prelude.{◌<◌, ◌^◌, All, OnOk};
-ghost use Rattle.plan_report.specs.Forms.{IsPathInForm};
-ghost use Rattle.plan_report.specs.Items.{numbers_items, path_items};
 ghost use Rattle.text_kit.specs.Terms.{AddsItems};
+ghost use Rattle.plan_report.{specs.Forms.IsPathInForm, specs.Items.{numbers_items, path_items}};
 
 use crate::names::put_link;
 use net_core::{Bytes, Link, LinkId, NoMemory};

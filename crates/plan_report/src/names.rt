@@ -1,7 +1,7 @@
 ghost use Rattle.std.specs.Prelude.{◌<◌, ◌≤◌, ◌∷◌, [], length, OnOk};
 ghost use Rattle.text_kit.specs.Terms.{Item, Verbatim, AddsItems};
-ghost use Rattle.plan_report.specs.Names.{demand_name, state_name};
 ghost use Rattle.plan_terms.specs.Terms.{link_name};
+ghost use Rattle.plan_report.specs.Names.{demand_name, state_name};
 
 use net_core::{Bytes, Demand, Link, LinkId, Listed, Name, NoMemory, Places};
 use text_kit::puts::{put_keyword, put_name};

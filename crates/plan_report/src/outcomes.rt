@@ -1,9 +1,7 @@
 ghost use Rattle.std.specs.Prelude.{◌≤◌, List, All, OnOk, flat_map, length};
 ghost use Rattle.plan_terms.specs.Terms.{CutLine};
-ghost use Rattle.plan_report.specs.Forms.{IsOutcomeInForm};
-ghost use Rattle.plan_report.specs.Items.{head_items, outcome_items, separation_items};
 ghost use Rattle.text_kit.specs.Terms.{enclosed, AddsItems};
-ghost use Rattle.plan_report.specs.inner.Naming.{known_in};
+ghost use Rattle.plan_report.{specs.Forms.IsOutcomeInForm, specs.Items.{head_items, outcome_items, separation_items}, specs.inner.Naming.known_in};
 
 use crate::names::{Names, put_state_name};
 use crate::plans::put_plan;

@@ -1,10 +1,7 @@
 ghost use Rattle.std.specs.Prelude.{◌≡◌, ◌<◌, ◌^◌, [], ◌∷◌, ◌++◌, All, OnOk, flat_map, length, zip};
 ghost use Rattle.plan_terms.specs.Terms.{IsName};
 ghost use Rattle.text_kit.specs.Terms.{Verbatim, Whole, Money, enclosed, AddsItems};
-ghost use Rattle.plan_report.specs.Forms.{AreRoutingsInForm, IsPlanInForm, IsQualityInForm};
-ghost use Rattle.plan_report.specs.Items.{costs_items, demand_items, modules_items, numbers_items, plan_items, quality_items, routings_items};
-ghost use Rattle.plan_report.specs.inner.Writable.{IsWritableDemand};
-ghost use Rattle.plan_report.specs.inner.Naming.{known_in};
+ghost use Rattle.plan_report.{specs.Forms.{AreRoutingsInForm, IsPlanInForm, IsQualityInForm}, specs.Items.{costs_items, demand_items, modules_items, numbers_items, plan_items, quality_items, routings_items}, specs.inner.Writable.IsWritableDemand, specs.inner.Naming.known_in};
 
 use crate::certificates::put_certificate;
 use crate::evidence::put_cause;

@@ -1,6 +1,6 @@
 ghost use Rattle.std.specs.Prelude.{◌<◌, ◌^◌, All, OnOk, flat_map};
-ghost use Rattle.plan_report.specs.Items.{numbered_from, pool_line_items};
 ghost use Rattle.text_kit.specs.Terms.{enclosed, AddsItems};
+ghost use Rattle.plan_report.specs.Items.{numbered_from, pool_line_items};
 
 use crate::lists::put_lengths;
 use net_core::{Bytes, CutLine, NoMemory};

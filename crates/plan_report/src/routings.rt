@@ -1,8 +1,6 @@
 ghost use Rattle.std.specs.Prelude.{◌≤◌, All, OnOk, flat_map, length};
-ghost use Rattle.plan_report.specs.Forms.{AreRoutingsInForm, IsFlowInForm, IsRoutingInForm};
-ghost use Rattle.plan_report.specs.Items.{flow_items, routing_items, routings_items};
 ghost use Rattle.text_kit.specs.Terms.{enclosed, AddsItems};
-ghost use Rattle.plan_report.specs.inner.Naming.{known_in};
+ghost use Rattle.plan_report.{specs.Forms.{AreRoutingsInForm, IsFlowInForm, IsRoutingInForm}, specs.Items.{flow_items, routing_items, routings_items}, specs.inner.Naming.known_in};
 
 use crate::lists::put_path;
 use crate::names::{Names, put_demand_name, put_state_name};

@@ -1,11 +1,7 @@
 ghost use Rattle.std.specs.Prelude.{◌≡◌, ◌++◌, ◌∷◌, [], IfOk, OnOk};
 ghost use Rattle.plan_terms.specs.Terms.{IsName};
-ghost use Rattle.plan_report.specs.Forms.{IsReportInForm};
-ghost use Rattle.plan_report.specs.Items.{note_items, notes_items, report_items};
 ghost use Rattle.text_kit.specs.Terms.{section, AddsItems};
-ghost use Rattle.plan_report.specs.KnownNames.{known_of};
-ghost use Rattle.plan_report.specs.Texts.{SpellsReport, report_header, report_text};
-ghost use Rattle.plan_report.specs.inner.Naming.{known_in};
+ghost use Rattle.plan_report.{specs.Forms.IsReportInForm, specs.Items.{note_items, notes_items, report_items}, specs.KnownNames.known_of, specs.Texts.{SpellsReport, report_header, report_text}, specs.inner.Naming.known_in};
 
 use crate::journal::put_journal;
 use crate::names::Names;

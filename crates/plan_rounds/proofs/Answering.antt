@@ -1,18 +1,10 @@
 -- the answers of all states, sorted
-use Rattle.std.proofs.Common.{◌≡◌, ◌≢◌, ℕ, ◌+◌, ◌<◌, ◌≤◌, inl, inr, ⊎_elim, List, [], ◌∷◌, ◌++◌, All, AllPairs, IfSome, Some, None, get_or, length, map, slice_get, refl, sym, ap, subst, ◌∙◌, arith, suc}
+use Rattle.std.{proofs.Common.{◌≡◌, ◌≢◌, ℕ, ◌+◌, ◌<◌, ◌≤◌, inl, inr, ⊎_elim, List, [], ◌∷◌, ◌++◌, All, AllPairs, IfSome, Some, None, get_or, length, map, slice_get, refl, sym, ap, subst, ◌∙◌, arith, suc}, proofs.lemmas.List.{append-nil, append_assoc, length-append, length-map}}
 use Rattle.net_core.proofs.Library.{cases_lt, map-append, All-head, All-nil, All-push, All-tail, All-weaker, all_pairs_push}
-use Rattle.std.proofs.lemmas.List.{append-nil, append_assoc, length-append, length-map}
 use Rattle.plan_terms.specs.Terms.{Entry, Caps, CutLine, Routing, Case, graph_in, HasShortLengths}
-use Rattle.separator.specs.Terms.{IsRouted, AreStateAnswers, AreViolatedStates, IsAnswerOf, IsSeparatingCut, cut_answered, cuts_answered}
+use Rattle.separator.{specs.Terms.{IsRouted, AreStateAnswers, AreViolatedStates, IsAnswerOf, IsSeparatingCut, cut_answered, cuts_answered}, specs.declared.answers.Separated.Separated, specs.declared.answers.Separated.TheVariants.{Routed, Violated, Wide}, specs.declared.answers.StateAnswer.StateAnswer, proofs.Seeing.get_more}
 use Rattle.cut_pool.specs.Terms.{cut_of_line}
-use Rattle.separator.specs.declared.answers.Separated.{Separated}
-use Rattle.separator.specs.declared.answers.Separated.TheVariants.{Routed, Violated, Wide}
-use Rattle.separator.specs.declared.answers.StateAnswer.{StateAnswer}
-use Rattle.plan_rounds.specs.WorkedRounds.{StandAtSpots}
-use Rattle.plan_rounds.specs.inner.Answered.{AnswersShort, AreSorted, IsEvidenceOfState, IsRoutedOrWide, PutsAnswer}
-use Rattle.plan_rounds.specs.declared.sorted_answers.Answered.{Answered}
-use Rattle.separator.proofs.Seeing.{get_more}
-use Rattle.plan_rounds.proofs.Seeing.{stand_more}
+use Rattle.plan_rounds.{specs.WorkedRounds.StandAtSpots, specs.inner.Answered.{AnswersShort, AreSorted, IsEvidenceOfState, IsRoutedOrWide, PutsAnswer}, specs.declared.sorted_answers.Answered.Answered, proofs.Seeing.stand_more}
 
 module _ (p : Case) (caps : Caps) (history : List Entry) where
   -- the answers of the states from n on

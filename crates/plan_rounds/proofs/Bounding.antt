@@ -3,8 +3,7 @@ use Rattle.std.proofs.Common.{◌≡◌, ⊎_elim, List, [], All, get_or, subst,
 use Rattle.net_core.proofs.Library.{◌∣◌, ∥∥₁_elim, props, All-weaker, dvd-zero, positive_or_none}
 use Rattle.plan_terms.specs.Terms.{Entry, Link, CutLine, Case, IsCut}
 use Rattle.metric_cut.specs.Bounded.{HaveBound}
-use Rattle.plan_rounds.specs.inner.Listing.{AreListed}
-use Rattle.plan_rounds.specs.declared.candidates.Candidates.{Candidates}
+use Rattle.plan_rounds.{specs.inner.Listing.AreListed, specs.declared.candidates.Candidates.Candidates}
 
 pub has_bound : (p : Case) (cut : CutLine) → ∥ IsCut p cut ∥₁ → HaveBound p.links cut.lengths
 has_bound p cut told = record {

@@ -2,21 +2,14 @@
 use Rattle.std.proofs.Common.{◌≡◌, ◌≢◌, ◌^◌, ◌<◌, ◌≤◌, inl, inr, ⊎_elim, List, [], ◌++◌, AllPairs, Some, get_or, length, map, take, drop, slice_get, sym, ap, subst, ◌∙◌, arith, option_map, take-append-drop}
 use Rattle.net_core.proofs.Library.{get_or-map, length-map, All-push, all_pairs_push, slice_get-map, slice_get_within, get_front}
 use Rattle.plan_terms.specs.Terms.{Demand, Entry, Network, CutLine, States, Case, graph_in, case, IsCut}
-use Rattle.plan_types.specs.declared.certificate.Spot.{Spot}
-use Rattle.plan_types.specs.declared.certificate.Spot.TheVariants.{Pool}
-use Rattle.metric_cut.specs.Cuts.{IsCutOf, IsLineAt}
-use Rattle.metric_cut.specs.declared.cut.Cut.{Cut}
+use Rattle.plan_types.{specs.declared.certificate.Spot.Spot, specs.declared.certificate.Spot.TheVariants.Pool}
+use Rattle.metric_cut.{specs.Cuts.{IsCutOf, IsLineAt}, specs.declared.cut.Cut.Cut, proofs.Lines.line_is_cut}
 use Rattle.cut_pool.specs.Terms.{cut_of_line, cuts_of}
 use Rattle.master_law.specs.Terms.{IsSameCut}
 use Rattle.plan_law.specs.WorkedLists.{AreDifferentCuts, HasCut}
 use Rattle.turn_lock.specs.Passes.{Seen}
-use Rattle.separator.specs.Separators.{IsSeenHistory, IsSpotIn, SeesMore}
-use Rattle.metric_cut.proofs.Lines.{line_is_cut}
-use Rattle.separator.proofs.Lemmas.{line_is, cuts_both}
-use Rattle.plan_rounds.specs.WorkedRounds.{IsPoolOf, StandAtSpots}
-use Rattle.plan_rounds.specs.inner.Listing.{AreFirstSpots, AreListed, PutsLine, TakesCut}
-use Rattle.plan_rounds.specs.declared.candidates.Candidates.{Candidates}
-use Rattle.plan_rounds.proofs.Seeing.{cuts_differ, stand_later, stand_more}
+use Rattle.separator.{specs.Separators.{IsSeenHistory, IsSpotIn, SeesMore}, proofs.Lemmas.{line_is, cuts_both}}
+use Rattle.plan_rounds.{specs.WorkedRounds.{IsPoolOf, StandAtSpots}, specs.inner.Listing.{AreFirstSpots, AreListed, PutsLine, TakesCut}, specs.declared.candidates.Candidates.Candidates, proofs.Seeing.{cuts_differ, stand_later, stand_more}}
 
 listed_put : (p : Case) (h : List Entry) (line : CutLine) (spot : Spot) (old new : Candidates) → IsCut p line → line.right < 2 ^ 84 → IsSpotIn h (cut_of_line line) spot → AreListed p h old → PutsLine line spot old new → AreListed p h new
 listed_put p h line spot old new is low at are puts = ⊎_elim

@@ -2,12 +2,8 @@
 use Rattle.std.proofs.Common.{◌≡◌, ℕ, ◌+◌, ◌≤◌, ⊎_elim, List, [], ◌∷◌, ◌++◌, All, length, map, sym, ap, subst, ◌∙◌, arith, append_assoc, append-nil, length-append}
 use Rattle.net_core.proofs.Library.{length-map, All-tail}
 use Rattle.plan_terms.specs.Terms.{Demand, CutLine, Case, graph_in, Graph, AreOpening, each_once}
-use Rattle.metric_cut.specs.Cuts.{IsCutOf}
-use Rattle.metric_cut.specs.declared.cut.Cut.{Cut}
-use Rattle.metric_cut.proofs.Lines.{line_is_cut}
-use Rattle.plan_law.specs.WorkedLists.{HasCut}
-use Rattle.plan_law.specs.inner.Openings.{IsOpenedTo}
-use Rattle.plan_law.proofs.Begun.{opened_known, opened_new, opened_state, once_few}
+use Rattle.metric_cut.{specs.Cuts.IsCutOf, specs.declared.cut.Cut.Cut, proofs.Lines.line_is_cut}
+use Rattle.plan_law.{specs.WorkedLists.HasCut, specs.inner.Openings.IsOpenedTo, proofs.Begun.{opened_known, opened_new, opened_state, once_few}}
 use Rattle.plan_rounds.specs.inner.Listing.{TakesCut, TakesCuts}
 
 abbrev pub lengths_of_cuts : List Cut → List (List ℕ)

@@ -3,23 +3,15 @@ use Rattle.std.proofs.Common.{◌≡◌, ◌≢◌, ℕ, zero, suc, ◌+◌, ◌
 use Rattle.net_core.proofs.Library.{take-length, get_or_append_left, get_or-map, length-map, map-append, nil_from_length, All-cons, All-head, All-nil, All-tail, All-weaker, get_or_from_slice_get, slice_get_within, front_all}
 use Rattle.plan_terms.specs.Terms.{Demand, Entry, Edited, Pooled, Link, Network, Caps, CutLine, States, Case, case, IsCut, MasterColumn}
 use Rattle.module_prices.specs.declared.cheapest.UnitPair.{UnitPair}
-use Rattle.plan_types.specs.declared.quality.Share.{Share}
-use Rattle.plan_types.specs.declared.certificate.Spot.{Spot}
-use Rattle.plan_types.specs.declared.certificate.Spot.TheVariants.{Pool, Local}
-use Rattle.metric_cut.specs.Cuts.{IsLineAt}
-use Rattle.metric_cut.specs.declared.cut.Cut.{Cut}
+use Rattle.plan_types.{specs.declared.quality.Share.Share, specs.declared.certificate.Spot.Spot, specs.declared.certificate.Spot.TheVariants.{Pool, Local}}
+use Rattle.metric_cut.{specs.Cuts.IsLineAt, specs.declared.cut.Cut.Cut}
 use Rattle.cut_pool.specs.Terms.{cut_of_line, cuts_of}
 use Rattle.simplex_law.specs.Terms.{ColumnOf}
 use Rattle.master_law.specs.Terms.{IsLeastShare, IsCutColumn, IsMasterColumn}
-use Rattle.plan_law.specs.WorkedLists.{HasCut, IsFoundCut, IsRound, IsWorkedList, Lacks, Round}
-use Rattle.plan_law.proofs.Rounds.{worked_on}
+use Rattle.plan_law.{specs.WorkedLists.{HasCut, IsFoundCut, IsRound, IsWorkedList, Lacks, Round}, proofs.Rounds.worked_on}
 use Rattle.turn_lock.specs.Passes.{Seen}
-use Rattle.separator.specs.Separators.{IsCutEntry, IsFullHistory, IsPartOf, IsSeenHistory, IsSeparatingCut, IsSpotIn, SeesMore, SeparatesAt, cuts_since}
-use Rattle.separator.proofs.Lemmas.{line_is, cuts_both, part_few}
-use Rattle.plan_rounds.specs.inner.Alone.{HasSameCuts, IsAlone, IsPoolOfList, PoolsOpening, Within}
-use Rattle.plan_rounds.specs.inner.Listing.{PutsLine}
-use Rattle.plan_rounds.specs.declared.candidates.Candidates.{Candidates}
-use Rattle.plan_rounds.proofs.Seeing.{cuts_differ}
+use Rattle.separator.{specs.Separators.{IsCutEntry, IsFullHistory, IsPartOf, IsSeenHistory, IsSeparatingCut, IsSpotIn, SeesMore, SeparatesAt, cuts_since}, proofs.Lemmas.{line_is, cuts_both, part_few}}
+use Rattle.plan_rounds.{specs.inner.Alone.{HasSameCuts, IsAlone, IsPoolOfList, PoolsOpening, Within}, specs.inner.Listing.PutsLine, specs.declared.candidates.Candidates.Candidates, proofs.Seeing.cuts_differ}
 
 -- ---- what is the separator's own
 

@@ -1,31 +1,16 @@
 -- a turn of a separator that alone writes its history
 use Rattle.std.proofs.Common.{◌≡◌, ◌≢◌, ℕ, zero, suc, ◌+◌, ◌<◌, ◌≤◌, ◌⊎◌, inl, inr, ⊎_elim, Bool, true, false, List, [], ◌∷◌, ◌++◌, All, AllPairs, Contains, get_or, length, map, take, refl, sym, ap, subst, ◌∙◌, arith, length-append, take_all}
 use Rattle.net_core.proofs.Library.{∥∥₁_elim, props, cases_eq, get_or-map, length-map, All-append, All-contains, All-map, All-nil, All-weaker, Contains-append_cases, Contains-append_left, Contains-append_right, Contains-get_or, get_or_from_slice_get, slice_get-get_or, slice_get_within}
-use Rattle.plan_terms.specs.Terms.{Caps, Entry, Network, CutLine, States, Case, graph_in, Joins, IsCut, IsRight}
+use Rattle.plan_terms.{specs.Terms.{Caps, Entry, Network, CutLine, States, Case, graph_in, Joins, IsCut, IsRight}, proofs.Lemmas.right_once}
 use Rattle.module_prices.specs.declared.cheapest.UnitPair.{UnitPair}
-use Rattle.plan_terms.proofs.Lemmas.{right_once}
-use Rattle.plan_types.specs.declared.certificate.Spot.{Spot}
-use Rattle.plan_types.specs.declared.quality.Share.{Share}
-use Rattle.plan_types.specs.declared.certificate.Spot.TheVariants.{Pool, Local}
+use Rattle.plan_types.{specs.declared.certificate.Spot.Spot, specs.declared.quality.Share.Share, specs.declared.certificate.Spot.TheVariants.{Pool, Local}}
 use Rattle.cut_pool.specs.Terms.{cut_of_line, cuts_of}
 use Rattle.master_law.specs.Terms.{AreUnitPairs, IsLeastShare, IsSameCut}
 use Rattle.master_bound.specs.declared.answer.Best.{Best}
-use Rattle.plan_law.specs.WorkedLists.{AreDifferentCuts, IsBeginning}
-use Rattle.plan_law.proofs.Pairs.{pairs_append}
-use Rattle.plan_law.proofs.Rounds.{begun_worked, found_is_new, worked_cuts}
+use Rattle.plan_law.{specs.WorkedLists.{AreDifferentCuts, IsBeginning}, proofs.Pairs.pairs_append, proofs.Rounds.{begun_worked, found_is_new, worked_cuts}}
 use Rattle.turn_lock.specs.Passes.{Seen}
 use Rattle.separator.specs.Separators.{IsCutEntry, IsFullHistory, IsPartOf, IsSeenHistory, IsSeparatingCut, IsSpotIn, SeesMore, SeparatesAt, cuts_since}
-use Rattle.plan_rounds.specs.WorkedRounds.{IsPoolOf, IsWorkedPool}
-use Rattle.plan_rounds.specs.inner.Alone.{HasSameCuts, IsAlone, IsPoolAfterTurn, IsPoolAsFar, IsPoolOfList}
-use Rattle.plan_rounds.specs.inner.Answered.{AreSorted}
-use Rattle.plan_rounds.specs.inner.Listing.{AreListed}
-use Rattle.plan_rounds.specs.inner.Turns.{AddsFirst, AddsFound, Judges}
-use Rattle.plan_rounds.specs.declared.candidates.Candidates.{Candidates}
-use Rattle.plan_rounds.specs.declared.rounds.Turn.{Turn}
-use Rattle.plan_rounds.specs.declared.rounds.Turn.TheVariants.{Further, Last}
-use Rattle.plan_rounds.specs.declared.sorted_answers.Answered.{Answered}
-use Rattle.plan_rounds.proofs.OwnPool.{IsRoundOfPool, all_cuts, alone_since, few_within, pool_round}
-use Rattle.plan_rounds.proofs.Turning.{GivesNoLess, found_of}
+use Rattle.plan_rounds.{specs.WorkedRounds.{IsPoolOf, IsWorkedPool}, specs.inner.Alone.{HasSameCuts, IsAlone, IsPoolAfterTurn, IsPoolAsFar, IsPoolOfList}, specs.inner.Answered.AreSorted, specs.inner.Listing.AreListed, specs.inner.Turns.{AddsFirst, AddsFound, Judges}, specs.declared.candidates.Candidates.Candidates, specs.declared.rounds.Turn.Turn, specs.declared.rounds.Turn.TheVariants.{Further, Last}, specs.declared.sorted_answers.Answered.Answered, proofs.OwnPool.{IsRoundOfPool, all_cuts, alone_since, few_within, pool_round}, proofs.Turning.{GivesNoLess, found_of}}
 
 -- and so one line for a state and lengths
 line_once : (p : Case) (a b : CutLine) → IsCut p a → IsCut p b → cut_of_line a ≡ cut_of_line b → a ≡ b

@@ -3,29 +3,13 @@ use Rattle.std.proofs.Common.{◌≡◌, ℕ, zero, suc, ◌+◌, ◌-◌, ◌*�
 use Rattle.net_core.proofs.Library.{length-map, take-append_seam}
 use Rattle.plan_terms.specs.Terms.{Caps, CutLine, Entry, Route, Master, Case, AreDemands, IsModule, IsNetwork, IsCut, Violates}
 use Rattle.module_prices.specs.declared.cheapest.UnitPair.{UnitPair}
-use Rattle.plan_types.specs.declared.quality.Share.{Share}
-use Rattle.plan_types.specs.declared.quality.Cause.TheVariants.{Wide, Cuts}
-use Rattle.plan_types.specs.declared.quality.Quality.{Quality}
-use Rattle.plan_types.specs.declared.quality.Quality.TheVariants.{Tight, Loose}
+use Rattle.plan_types.{specs.declared.quality.Share.Share, specs.declared.quality.Cause.TheVariants.{Wide, Cuts}, specs.declared.quality.Quality.Quality, specs.declared.quality.Quality.TheVariants.{Tight, Loose}}
 use Rattle.route_law.proofs.Lemmas.{divided_are_violated}
-use Rattle.master_law.specs.Terms.{AreUnitPairs, IsLeastShare, share_capacities, share_caps}
-use Rattle.master_law.proofs.Capacities.{share_count}
-use Rattle.master_law.proofs.PairsOnce.{links_once}
+use Rattle.master_law.{specs.Terms.{AreUnitPairs, IsLeastShare, share_capacities, share_caps}, proofs.Capacities.share_count, proofs.PairsOnce.links_once}
 use Rattle.master_bound.specs.declared.answer.Best.{Best}
 use Rattle.length_master.specs.WideShares.{AreLeastCaps}
-use Rattle.plan_law.specs.WorkedLists.{AreRounds, IsRound, IsWorkedList, Round, after_rounds}
-use Rattle.plan_law.proofs.Rounds.{worked_on}
-use Rattle.plan_rounds.specs.WorkedRounds.{AreWorkedRounds, EndsBy, IsBestOfLast}
-use Rattle.plan_rounds.specs.inner.Answered.{AreSorted}
-use Rattle.plan_rounds.specs.inner.Listing.{AreListed}
-use Rattle.plan_rounds.specs.inner.Turns.{AddsFound, AddsRound, ArePassed, Extends, IsFurther, IsLaterTurn, IsOpenTurn, IsTurnAfter, IsTurnOf}
-use Rattle.plan_rounds.specs.declared.candidates.Candidates.{Candidates}
-use Rattle.plan_rounds.specs.inner.Sharing.{IsDividedCaps}
-use Rattle.plan_rounds.specs.declared.shares.ShareCaps.{ShareCaps}
-use Rattle.plan_rounds.specs.declared.rounds.Turn.{Turn}
-use Rattle.plan_rounds.specs.declared.rounds.Turn.TheVariants.{Further, Last}
-use Rattle.plan_rounds.specs.declared.sorted_answers.Answered.{Answered}
-use Rattle.plan_rounds.proofs.Turning.{GivesNoLess, IsWorking, divided_gives, further_room, listed_round, proper, round, taken_few, taken_some, working_ends, working_on}
+use Rattle.plan_law.{specs.WorkedLists.{AreRounds, IsRound, IsWorkedList, Round, after_rounds}, proofs.Rounds.worked_on}
+use Rattle.plan_rounds.{specs.WorkedRounds.{AreWorkedRounds, EndsBy, IsBestOfLast}, specs.inner.Answered.AreSorted, specs.inner.Listing.AreListed, specs.inner.Turns.{AddsFound, AddsRound, ArePassed, Extends, IsFurther, IsLaterTurn, IsOpenTurn, IsTurnAfter, IsTurnOf}, specs.declared.candidates.Candidates.Candidates, specs.inner.Sharing.IsDividedCaps, specs.declared.shares.ShareCaps.ShareCaps, specs.declared.rounds.Turn.Turn, specs.declared.rounds.Turn.TheVariants.{Further, Last}, specs.declared.sorted_answers.Answered.Answered, proofs.Turning.{GivesNoLess, IsWorking, divided_gives, further_room, listed_round, proper, round, taken_few, taken_some, working_ends, working_on}}
 
 module _ (p : Case) (pairs : List UnitPair) where
   -- ---- the share behind capacities

@@ -1,8 +1,7 @@
 -- the right side of a cut whose lengths are below 2^32 is below 2^84
 use Rattle.std.proofs.Common.{◌≡◌, ℕ, ◌*◌, ◌^◌, ◌<◌, ◌≤◌, List, [], ◌∷◌, All, Option, None, Some, get_or, length, sum_by, unwrap_or, zip, slice_get, slice_index_or, suc, refl, sym, subst, ⊎_elim, arith, mul-le-mul_left}
 use Rattle.net_core.proofs.Library.{cases_lt, get_or_past, get_or_from_slice_get, slice_get_within, sum_by-cons}
-use Rattle.plan_terms.specs.Terms.{Demand, LinkId, AreDemands, Graph, Joins, IsNetwork, IsRight, IsDistance, length_of}
-use Rattle.plan_terms.proofs.Lemmas.{path_few, joins_inside}
+use Rattle.plan_terms.{specs.Terms.{Demand, LinkId, AreDemands, Graph, Joins, IsNetwork, IsRight, IsDistance, length_of}, proofs.Lemmas.{path_few, joins_inside}}
 
 -- lengths of 2^32 at most along some links
 along_low : (lengths : List ℕ) → ((e : ℕ) → get_or lengths e 0 < 2 ^ 32) → (es : List LinkId) → length_of lengths es ≤ length es * 2 ^ 32

@@ -5,10 +5,8 @@ use Rattle.plan_terms.specs.Terms.{Entry, Edited, Pooled, CutLine, Case}
 use Rattle.plan_types.specs.declared.certificate.Spot.{Spot}
 use Rattle.cut_pool.specs.Terms.{IsLegalAfter, cut_of_line, cuts_of}
 use Rattle.turn_lock.specs.Passes.{Seen}
-use Rattle.separator.specs.Separators.{Frame, IsCutEntry, IsSpotIn}
-use Rattle.separator.proofs.Lemmas.{cuts_both, get_more, sees_both, sees_none, spot_later}
-use Rattle.plan_rounds.specs.WorkedRounds.{StandAtSpots}
-use Rattle.plan_rounds.specs.inner.Listing.{GoesOn}
+use Rattle.separator.{specs.Separators.{Frame, IsCutEntry, IsSpotIn}, proofs.Lemmas.{cuts_both, get_more, sees_both, sees_none, spot_later}}
+use Rattle.plan_rounds.{specs.WorkedRounds.StandAtSpots, specs.inner.Listing.GoesOn}
 
 -- ---- some more entries
 

@@ -4,10 +4,8 @@ use Rattle.net_core.proofs.Library.{◌∣◌, get_or-map, length-map, map-appen
 use Rattle.plan_terms.specs.Terms.{Caps, IsGreatestDivisor, Link}
 use Rattle.module_prices.specs.declared.cheapest.UnitPair.{UnitPair}
 use Rattle.plan_types.specs.declared.quality.Share.{Share}
-use Rattle.master_law.specs.Terms.{share_capacities, share_caps}
-use Rattle.master_law.proofs.Capacities.{share_count}
-use Rattle.plan_rounds.specs.inner.Sharing.{DividesAll, IsDividedCaps, IsDividedShare}
-use Rattle.plan_rounds.specs.declared.shares.ShareCaps.{ShareCaps}
+use Rattle.master_law.{specs.Terms.{share_capacities, share_caps}, proofs.Capacities.share_count}
+use Rattle.plan_rounds.{specs.inner.Sharing.{DividesAll, IsDividedCaps, IsDividedShare}, specs.declared.shares.ShareCaps.ShareCaps}
 
 -- the capacity of one link more
 pub number_more : (links : List Link) (pairs : List UnitPair) (share : Share) (e : ℕ) (l : Link) (p : UnitPair) (u : ℕ) → length pairs ≡ length links → length share.units ≡ length links → e < length links

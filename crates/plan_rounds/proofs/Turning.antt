@@ -3,33 +3,13 @@ use Rattle.std.proofs.Common.{◌≡◌, ℕ, zero, suc, ◌+◌, ◌-◌, ◌*�
 use Rattle.net_core.proofs.Library.{ints, All-append, All-take, All-weaker, Contains-get_or}
 use Rattle.plan_terms.specs.Terms.{Evidence, Route, Master, Entry, Caps, CutLine, Case, graph_in, AreDemands, Joins, IsModule, IsNetwork, IsCut, Carries, Violates, HasShortLengths}
 use Rattle.module_prices.specs.declared.cheapest.UnitPair.{UnitPair}
-use Rattle.plan_types.specs.declared.certificate.Spot.{Spot}
-use Rattle.plan_types.specs.declared.quality.Cause.TheVariants.{Wide, Cuts}
-use Rattle.plan_types.specs.declared.quality.Quality.{Quality}
-use Rattle.plan_types.specs.declared.quality.Quality.TheVariants.{Tight, Loose}
-use Rattle.plan_types.specs.declared.quality.Share.{Share}
-use Rattle.route_law.specs.Terms.{flows_times, IsRouteEvidence}
-use Rattle.route_law.proofs.Lemmas.{divided_are_wide, divided_are_carried, divided_are_violated}
-use Rattle.separator.specs.Terms.{IsEvidenceHere, IsRouted, IsSeparatingCut}
-use Rattle.separator.proofs.Lemmas.{get_both}
-use Rattle.master_law.specs.Terms.{IsLeastShare, IsMasterEvidence, IsSameCut, AreUnitPairs, share_caps, share_cost}
-use Rattle.master_bound.specs.Answers.{IsBestOf, IsEvidenceOf}
-use Rattle.master_bound.specs.declared.answer.Best.{Best}
-use Rattle.plan_law.specs.Terms.{IsProperShare, Round, IsBeginning, IsFoundCut, IsRound, IsWorkedList}
-use Rattle.plan_law.proofs.Pairs.{pairs_append}
-use Rattle.plan_law.proofs.Rounds.{begun_worked, found_is_new, short_round, worked_on}
-use Rattle.plan_rounds.specs.WorkedRounds.{AreWorkedRounds, EndsBy, IsBestAt, IsBestOfLast, IsCarriedOrWide, StandAtSpots, AreCarriedOrWide}
-use Rattle.plan_rounds.specs.inner.Answered.{AreSorted}
-use Rattle.plan_rounds.specs.inner.Listing.{AreListed}
-use Rattle.plan_rounds.specs.inner.Sharing.{IsDividedCaps, IsDividedShare, IsQualityAt}
-use Rattle.plan_rounds.specs.inner.Turns.{AddsFirst, IsFurther, IsTurnOf, Judges}
-use Rattle.plan_rounds.specs.declared.candidates.Candidates.{Candidates}
-use Rattle.plan_rounds.specs.declared.rounds.Turn.{Turn}
-use Rattle.plan_rounds.specs.declared.rounds.Turn.TheVariants.{Last}
-use Rattle.plan_rounds.specs.declared.shares.ShareCaps.{ShareCaps}
-use Rattle.plan_rounds.specs.declared.sorted_answers.Answered.{Answered}
-use Rattle.master_law.proofs.PairsOnce.{links_once}
-use Rattle.plan_rounds.proofs.Rights.{right_low}
+use Rattle.plan_types.{specs.declared.certificate.Spot.Spot, specs.declared.quality.Cause.TheVariants.{Wide, Cuts}, specs.declared.quality.Quality.Quality, specs.declared.quality.Quality.TheVariants.{Tight, Loose}, specs.declared.quality.Share.Share}
+use Rattle.route_law.{specs.Terms.{flows_times, IsRouteEvidence}, proofs.Lemmas.{divided_are_wide, divided_are_carried, divided_are_violated}}
+use Rattle.separator.{specs.Terms.{IsEvidenceHere, IsRouted, IsSeparatingCut}, proofs.Lemmas.get_both}
+use Rattle.master_law.{specs.Terms.{IsLeastShare, IsMasterEvidence, IsSameCut, AreUnitPairs, share_caps, share_cost}, proofs.PairsOnce.links_once}
+use Rattle.master_bound.{specs.Answers.{IsBestOf, IsEvidenceOf}, specs.declared.answer.Best.Best}
+use Rattle.plan_law.{specs.Terms.{IsProperShare, Round, IsBeginning, IsFoundCut, IsRound, IsWorkedList}, proofs.Pairs.pairs_append, proofs.Rounds.{begun_worked, found_is_new, short_round, worked_on}}
+use Rattle.plan_rounds.{specs.WorkedRounds.{AreWorkedRounds, EndsBy, IsBestAt, IsBestOfLast, IsCarriedOrWide, StandAtSpots, AreCarriedOrWide}, specs.inner.Answered.AreSorted, specs.inner.Listing.AreListed, specs.inner.Sharing.{IsDividedCaps, IsDividedShare, IsQualityAt}, specs.inner.Turns.{AddsFirst, IsFurther, IsTurnOf, Judges}, specs.declared.candidates.Candidates.Candidates, specs.declared.rounds.Turn.Turn, specs.declared.rounds.Turn.TheVariants.Last, specs.declared.shares.ShareCaps.ShareCaps, specs.declared.sorted_answers.Answered.Answered, proofs.Rights.right_low}
 
 -- a worked list of the pool, and what is known of the best certificate before it
 pub record IsWorking (p : Case) (pairs : List UnitPair) (pool lines : List CutLine) (before : Option Best) : Type 0 where

@@ -1,16 +1,12 @@
 -- routings and evidence at capacities over a divisor, at the capacities themselves
 use Rattle.std.proofs.Common.{◌≡◌, ℕ, pos, ◌+◌, ◌*◌, ◌/◌, ◌^◌, ◌<◌, ◌≤◌, ◌==◌, ⊎_elim, if◌then◌else◌, List, [], ◌∷◌, ◌++◌, All, Some, get_or, length, map, slice_get, slice_index, refl, sym, ap, subst, ◌∙◌, arith, eq-eqb, append_assoc, length-append, mul-le-mul_right}
 use Rattle.net_core.proofs.Library.{IsGcd, ◌∣◌, get_or-map, length-map, get_or-le-sum_by, dvd_trans, get_or_from_slice_get, slice_get-get_or, slice_get_within, dvd-mul_left_of_dvd, dvd_of_mul-dvd-mul_left, eq-one_of_dvd-one, mul-div_cancel', mul-dvd-mul_left, positive_divisor}
-use Rattle.plan_terms.specs.Terms.{Evidence, Route, Master, RouteColumn, DemandSlack, LinkSlack, Number, Demand, Caps, Flow, Routing, Case, graph_in, Graph, Joins, Carries, sent}
-use Rattle.plan_terms.proofs.Lemmas.{product_below}
+use Rattle.plan_terms.{specs.Terms.{Evidence, Route, Master, RouteColumn, DemandSlack, LinkSlack, Number, Demand, Caps, Flow, Routing, Case, graph_in, Graph, Joins, Carries, sent}, proofs.Lemmas.product_below}
 use Rattle.simplex_law.specs.Terms.{IsWide}
-use Rattle.route_law.specs.Terms.{caps_times, flows_times, IsRouteEvidence, IsLowestRouting, flow_times, over_times, route_bound, route_rows, route_slack, scaled_need}
-use Rattle.route_law.proofs.Lemmas.{divided_are_wide, carried_lowest, divided_are_carried, beside_after, number_evidence}
+use Rattle.route_law.{specs.Terms.{caps_times, flows_times, IsRouteEvidence, IsLowestRouting, flow_times, over_times, route_bound, route_rows, route_slack, scaled_need}, proofs.Lemmas.{divided_are_wide, carried_lowest, divided_are_carried, beside_after, number_evidence}}
 use Rattle.master_law.proofs.Shared.{divides_common}
-use Rattle.separator.specs.Terms.{IsRouted}
-use Rattle.plan_rounds.specs.inner.Answered.{AreRoutedStates, IsEvidenceOfState}
-use Rattle.plan_rounds.specs.inner.Sharing.{AreSlackNames, AreUndivided, HasWideNeed, IsUndivided, at_caps}
-use Rattle.separator.proofs.Seeing.{get_more}
+use Rattle.separator.{specs.Terms.IsRouted, proofs.Seeing.get_more}
+use Rattle.plan_rounds.{specs.inner.Answered.{AreRoutedStates, IsEvidenceOfState}, specs.inner.Sharing.{AreSlackNames, AreUndivided, HasWideNeed, IsUndivided, at_caps}}
 
 -- ---- flows are small where needs are
 

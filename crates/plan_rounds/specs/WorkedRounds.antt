@@ -2,18 +2,12 @@
 use Rattle.std.specs.Prelude.{◌≡◌, ℕ, ◌+◌, ◌*◌, ◌^◌, ◌<◌, ◌≤◌, ◌⊎◌, List, [], ◌∷◌, Option, None, Some, All, IsSomeAnd, length, map, slice_get, take}
 use Rattle.plan_terms.specs.Terms.{Evidence, Route, Master, RouteColumn, WideKind, Entry, Caps, CutLine, Routing, Case, graph_in, Joins, IsCut, Carries}
 use Rattle.module_prices.specs.declared.cheapest.UnitPair.{UnitPair}
-use Rattle.plan_types.specs.declared.certificate.Spot.{Spot}
-use Rattle.plan_types.specs.declared.quality.Cause.{Cause}
-use Rattle.plan_types.specs.declared.quality.Cause.TheVariants.{Wide, Cuts}
-use Rattle.plan_types.specs.declared.quality.Fractional.{Fractional}
-use Rattle.plan_types.specs.declared.quality.Quality.{Quality}
-use Rattle.plan_types.specs.declared.quality.Quality.TheVariants.{Tight, Loose}
+use Rattle.plan_types.{specs.declared.certificate.Spot.Spot, specs.declared.quality.Cause.Cause, specs.declared.quality.Cause.TheVariants.{Wide, Cuts}, specs.declared.quality.Fractional.Fractional, specs.declared.quality.Quality.Quality, specs.declared.quality.Quality.TheVariants.{Tight, Loose}}
 use Rattle.route_law.specs.Terms.{IsRouteEvidence}
 use Rattle.separator.specs.Terms.{IsRouted, IsSpotIn}
 use Rattle.cut_pool.specs.Terms.{cut_of_line, cuts_of}
 use Rattle.master_law.specs.Terms.{IsLeastShare, IsMasterEvidence, share_caps, share_cost}
-use Rattle.master_bound.specs.Answers.{IsBestOf}
-use Rattle.master_bound.specs.declared.answer.Best.{Best}
+use Rattle.master_bound.{specs.Answers.IsBestOf, specs.declared.answer.Best.Best}
 use Rattle.plan_law.specs.Terms.{IsProperShare, Round, after_rounds, IsFoundCut, IsWorkedList}
 use Rattle.turn_lock.specs.Passes.{Seen}
 use Rattle.plan_rounds.specs.declared.rounds.Worked.{Worked}

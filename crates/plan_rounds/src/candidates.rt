@@ -2,8 +2,7 @@ ghost use Rattle.std.specs.Prelude.{◌≡◌, ◌≤◌, IfOk, IsTrue, OnOk, fa
 ghost use Rattle.plan_terms.specs.Terms.{graph_in, case_of};
 ghost use Rattle.metric_cut.specs.Cuts.{IsCutOf};
 ghost use Rattle.plan_law.specs.WorkedLists.{HasCut, Lacks};
-ghost use Rattle.plan_rounds.specs.inner.Alone.{PoolsOpening};
-ghost use Rattle.plan_rounds.specs.inner.Listing.{AreFirstSpots, AreListed, GoesOn, PutsLine, TakesCut};
+ghost use Rattle.plan_rounds.{specs.inner.Alone.PoolsOpening, specs.inner.Listing.{AreFirstSpots, AreListed, GoesOn, PutsLine, TakesCut}};
 
 use master_bound::is_same_cut;
 use metric_cut::Cut;

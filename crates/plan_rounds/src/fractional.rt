@@ -3,8 +3,7 @@ ghost use Rattle.plan_terms.specs.Terms.{graph_in, case_of, DemandSlack, LinkSla
 ghost use Rattle.simplex_law.specs.Terms.{AreNames, slack_basis};
 ghost use Rattle.separator.specs.Terms.{IsEvidenceHere};
 ghost use Rattle.route_law.specs.Terms.{caps_times, beside};
-ghost use Rattle.plan_rounds.specs.inner.Answered.{AreRoutedStates, IsEvidenceOfState};
-ghost use Rattle.plan_rounds.specs.inner.Sharing.{AreSlackNames, HasWideNeed, IsQualityAt, at_caps};
+ghost use Rattle.plan_rounds.{specs.inner.Answered.{AreRoutedStates, IsEvidenceOfState}, specs.inner.Sharing.{AreSlackNames, HasWideNeed, IsQualityAt, at_caps}};
 
 use crate::shares::ShareCaps;
 use crate::whole_routings::undivided_all;

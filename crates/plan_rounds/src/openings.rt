@@ -1,11 +1,8 @@
 ghost use Rattle.std.specs.Prelude.{◌≡◌, ◌+◌, ◌*◌, ◌<◌, ◌≤◌, List as Seq, [], All, IfOk, OnOk, ℕ, length};
 ghost use Rattle.plan_terms.specs.Terms.{CutLine, graph_in, case_of};
 ghost use Rattle.metric_cut.specs.Cuts.{IsCutOf};
-ghost use Rattle.plan_law.specs.inner.Openings.{IsOpenedTo};
-ghost use Rattle.plan_law.specs.WorkedLists.{IsBeginning};
-ghost use Rattle.plan_rounds.specs.WorkedRounds.{IsPoolOf};
-ghost use Rattle.plan_rounds.specs.inner.Alone.{PoolsOpening};
-ghost use Rattle.plan_rounds.specs.inner.Listing.{AreListed, GoesOn, TakesCuts};
+ghost use Rattle.plan_law.{specs.inner.Openings.IsOpenedTo, specs.WorkedLists.IsBeginning};
+ghost use Rattle.plan_rounds.{specs.WorkedRounds.IsPoolOf, specs.inner.Alone.PoolsOpening, specs.inner.Listing.{AreListed, GoesOn, TakesCuts}};
 
 use crate::candidates::{Candidates, pool_spots, take_cut};
 use metric_cut::{Cut, opening};

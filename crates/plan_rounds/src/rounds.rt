@@ -2,17 +2,10 @@ ghost use Rattle.std.specs.Prelude.{◌≡◌, ◌≢◌, ◌+◌, ◌≤◌, �
 ghost use Rattle.plan_terms.specs.Terms.{case_of, IsSurvivable};
 ghost use Rattle.route_law.specs.Terms.{caps_times};
 ghost use Rattle.master_law.specs.Terms.{AreUnitPairs};
-ghost use Rattle.master_bound.specs.Answers.{IsEvidenceOf};
-ghost use Rattle.master_bound.specs.declared.answer.Best.{Best};
+ghost use Rattle.master_bound.{specs.Answers.IsEvidenceOf, specs.declared.answer.Best.Best};
 ghost use Rattle.separator.specs.Separators.{AreAnswersUntilCut, AreRoundAnswers, AreStateAnswers, SeesMore, SeparatesAt, cuts_answered, cuts_since};
-ghost use Rattle.plan_rounds.specs.WorkedRounds.{AreWorkedRounds, IsBestAt, IsPoolOf, IsWorkedAlone};
-ghost use Rattle.plan_rounds.specs.inner.Alone.{PoolsRounds, PoolsTurn};
-ghost use Rattle.plan_rounds.specs.inner.Answered.{AreRoutedStates, IsEvidenceOfState};
-ghost use Rattle.plan_rounds.specs.inner.Listing.{AreListed, GoesOn};
-ghost use Rattle.plan_rounds.specs.inner.Turns.{AddsFirst, EndsAt, IsTurnAfter, IsTurnOf, Judges, WorksOn};
-ghost use Rattle.plan_rounds.specs.declared.rounds.Turn.TheVariants.{Further, Last};
-ghost use Rattle.plan_types.specs.declared.quality.Cause.TheVariants.{Wide};
-ghost use Rattle.plan_types.specs.declared.quality.Quality.TheVariants.{Loose};
+ghost use Rattle.plan_types.{specs.declared.quality.Cause.TheVariants.Wide, specs.declared.quality.Quality.TheVariants.Loose};
+ghost use Rattle.plan_rounds.{specs.WorkedRounds.{AreWorkedRounds, IsBestAt, IsPoolOf, IsWorkedAlone}, specs.inner.Alone.{PoolsRounds, PoolsTurn}, specs.inner.Answered.{AreRoutedStates, IsEvidenceOfState}, specs.inner.Listing.{AreListed, GoesOn}, specs.inner.Turns.{AddsFirst, EndsAt, IsTurnAfter, IsTurnOf, Judges, WorksOn}, specs.declared.rounds.Turn.TheVariants.{Further, Last}};
 
 use crate::candidates::Candidates;
 use crate::certificates::best_so_far;

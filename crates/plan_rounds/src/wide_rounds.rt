@@ -1,12 +1,9 @@
-ghost use Rattle.std.specs.Prelude.{◌≡◌, ◌+◌, ◌≤◌, IfOk, IfSome, OnOk, length};
-ghost use Rattle.std.specs.Option.{is_some};
+ghost use Rattle.std.{specs.Prelude.{◌≡◌, ◌+◌, ◌≤◌, IfOk, IfSome, OnOk, length}, specs.Option.is_some};
 ghost use Rattle.plan_terms.specs.Terms.{case_of, IsSurvivable};
 ghost use Rattle.length_master.specs.WideShares.{AreLeastCaps};
 ghost use Rattle.master_bound.specs.Answers.{IsBestOf};
 ghost use Rattle.master_law.specs.Terms.{AreUnitPairs};
-ghost use Rattle.plan_rounds.specs.inner.Alone.{PoolsAsFar};
-ghost use Rattle.plan_rounds.specs.inner.Listing.{AreListed, GoesOn};
-ghost use Rattle.plan_rounds.specs.inner.Turns.{AddsFound, AddsRound, ArePassed, Extends};
+ghost use Rattle.plan_rounds.{specs.inner.Alone.PoolsAsFar, specs.inner.Listing.{AreListed, GoesOn}, specs.inner.Turns.{AddsFound, AddsRound, ArePassed, Extends}};
 
 use crate::candidates::Candidates;
 use crate::certificates::best_so_far;

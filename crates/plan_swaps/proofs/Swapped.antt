@@ -2,12 +2,8 @@
 use Rattle.std.proofs.Common.{◌≡◌, ◌≤◌, refl, ℕ, Some, slice_get}
 use Rattle.plan_terms.specs.Terms.{Case, Routing, capacities}
 use Rattle.plan_types.specs.declared.plan.Plan.{Plan}
-use Rattle.trim_plan.specs.Terms.{IsRoutingOf}
-use Rattle.trim_plan.specs.Trimmed.{IsRoutedPlan}
-use Rattle.trim_plan.proofs.Plans.{plan_routings, routed_with}
-use Rattle.plan_swaps.specs.declared.kept.Kept.{Kept}
-use Rattle.plan_swaps.specs.Swaps.{IsCheaperPlan}
-use Rattle.plan_swaps.specs.inner.Searching.{AreCarryingCounts}
+use Rattle.trim_plan.{specs.Terms.IsRoutingOf, specs.Trimmed.IsRoutedPlan, proofs.Plans.{plan_routings, routed_with}}
+use Rattle.plan_swaps.{specs.declared.kept.Kept.Kept, specs.Swaps.IsCheaperPlan, specs.inner.Searching.AreCarryingCounts}
 
 -- each routing of counts is one of its state
 pub routing_of_kept : (p : Case) (k : Kept) → AreCarryingCounts p k → (s : ℕ) (r : Routing) → slice_get k.routings s ≡ Some r → IsRoutingOf p s r

@@ -1,9 +1,7 @@
 ghost use Rattle.std.specs.Prelude.{◌≡◌, ◌≤◌, IfOk, OnOk};
 ghost use Rattle.plan_terms.specs.Terms.{case_of, IsSurvivable};
-ghost use Rattle.trim_plan.specs.Terms.{IsTestOf};
-ghost use Rattle.trim_plan.specs.Trimmed.{IsRoutedPlan};
-ghost use Rattle.plan_swaps.specs.Swaps.{IsCheaperPlan};
-ghost use Rattle.plan_swaps.specs.inner.Searching.{AreCarryingCounts};
+ghost use Rattle.trim_plan.{specs.Terms.IsTestOf, specs.Trimmed.IsRoutedPlan};
+ghost use Rattle.plan_swaps.{specs.Swaps.IsCheaperPlan, specs.inner.Searching.AreCarryingCounts};
 
 use crate::kept::Kept;
 use crate::refusals::Refusals;

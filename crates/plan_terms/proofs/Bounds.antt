@@ -1,10 +1,7 @@
 -- bounds: rounded up to a multiple of the greatest common divisor of what links charge
-use Rattle.std.proofs.Common.{◌≡◌, ℕ, zero, suc, ◌*◌, ◌/◌, ◌≤◌, ◌<◌, List, [], ◌∷◌, ◌++◌, refl, sym, ap, subst, ◌∙◌, ◌≢◌, ◌+◌, ◌⊎◌, inl, inr, ⊎_elim, arith, mul-le-mul_left, lt_of_mul-lt-mul_right}
-use Rattle.net_core.proofs.Library.{le_of_mul-le-mul_left, dvd-mul_right, mul-div_cancel', All-append, All-from_recursion, recursion_from_All, dvd_refl, dvd-zero, dvd_trans, dvd_antisymm, cases_eq, ◌∣◌, IsGcd, AllByRecursion}
-use Rattle.std.proofs.lemmas.Nat.Gcd.{le_of_dvd}
-use Rattle.net_core.specs.declared.network.Link.{Link}
-use Rattle.plan_terms.specs.Bounds.{IsLowest, charges, IsGreatestDivisor, IsBound}
-use Rattle.plan_terms.proofs.Duality.{divides_parts}
+use Rattle.std.{proofs.Common.{◌≡◌, ℕ, zero, suc, ◌*◌, ◌/◌, ◌≤◌, ◌<◌, List, [], ◌∷◌, ◌++◌, refl, sym, ap, subst, ◌∙◌, ◌≢◌, ◌+◌, ◌⊎◌, inl, inr, ⊎_elim, arith, mul-le-mul_left, lt_of_mul-lt-mul_right}, proofs.lemmas.Nat.Gcd.le_of_dvd}
+use Rattle.net_core.{proofs.Library.{le_of_mul-le-mul_left, dvd-mul_right, mul-div_cancel', All-append, All-from_recursion, recursion_from_All, dvd_refl, dvd-zero, dvd_trans, dvd_antisymm, cases_eq, ◌∣◌, IsGcd, AllByRecursion}, specs.declared.network.Link.Link}
+use Rattle.plan_terms.{specs.Bounds.{IsLowest, charges, IsGreatestDivisor, IsBound}, proofs.Duality.divides_parts}
 
 -- where nothing is charged the bound is 0
 pub bound_free : (links : List Link) (num den : ℕ) → IsGreatestDivisor (charges links) 0 → IsBound links num den 0

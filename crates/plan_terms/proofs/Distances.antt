@@ -1,12 +1,7 @@
 -- what holds of each distance
 use Rattle.std.proofs.Common.{◌≡◌, ℕ, ◌*◌, ◌≤◌, List, [], ◌∷◌, Option, None, Some, sum_by, zip, unwrap_or, ap, refl, sym, subst, ◌∙◌, arith, ext_get_or}
-use Rattle.net_core.specs.declared.demand.Demand.{Demand}
-use Rattle.net_core.specs.declared.ids.LinkId.{LinkId}
-use Rattle.plan_terms.specs.Certificates.{IsRight}
-use Rattle.plan_terms.specs.Paths.{Leads, last_node, length_of, IsPath, IsDistance}
-use Rattle.net_core.proofs.Lists.{get_some}
-use Rattle.plan_terms.proofs.Walks.{walk_back}
-use Rattle.plan_terms.proofs.Shortcuts.{Way, shortcut}
+use Rattle.net_core.{specs.declared.demand.Demand.Demand, specs.declared.ids.LinkId.LinkId, proofs.Lists.get_some}
+use Rattle.plan_terms.{specs.Certificates.IsRight, specs.Paths.{Leads, last_node, length_of, IsPath, IsDistance}, proofs.Walks.walk_back, proofs.Shortcuts.{Way, shortcut}}
 
 -- a node is at distance 0 from itself
 pub distance_none : (joins : ℕ → ℕ → ℕ → Type 0) (lengths : List ℕ) (a : ℕ) → IsDistance joins lengths a a (Some 0)

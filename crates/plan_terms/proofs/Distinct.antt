@@ -1,11 +1,7 @@
 -- the links of a path: each is a link of the network, and none appears twice
 use Rattle.std.proofs.Common.{◌≡◌, ◌≢◌, ℕ, ◌<◌, List, [], ◌∷◌, length, get_or, true, false, eqb, eqb-true, ◌⊎◌, inl, inr, ⊎_elim, refl, sym, subst, ◌∙◌}
-use Rattle.net_core.proofs.Library.{cases_Bool, false≢true, All-from_recursion, AllByRecursion}
-use Rattle.net_core.specs.declared.ids.LinkId.{LinkId}
-use Rattle.net_core.specs.declared.network.Link.{Link}
-use Rattle.net_core.specs.Terms.{names_link, Graph, HasEnds, Joins}
-use Rattle.plan_terms.specs.Paths.{Leads, AreDifferent, IsPath}
-use Rattle.plan_terms.proofs.Joining.{joins_below}
+use Rattle.net_core.{proofs.Library.{cases_Bool, false≢true, All-from_recursion, AllByRecursion}, specs.declared.ids.LinkId.LinkId, specs.declared.network.Link.Link, specs.Terms.{names_link, Graph, HasEnds, Joins}}
+use Rattle.plan_terms.{specs.Paths.{Leads, AreDifferent, IsPath}, proofs.Joining.joins_below}
 
 -- no link appears twice
 abbrev pub DistinctLinks : List LinkId → Type 0

@@ -1,14 +1,7 @@
 -- weak duality: no able counts cost less than the bound of a certificate
-use Rattle.std.proofs.Common.{◌≡◌, ℕ, suc, ◌+◌, ◌*◌, ◌≤◌, List, [], ◌∷◌, ◌++◌, length, All, Bool, true, false, if◌then◌else◌, Some, refl, sym, ap, subst, ◌∙◌, arith, map, sum_by, zip, slice_get, slice_index}
-use Rattle.net_core.proofs.Library.{sum_by-cons, recursion_from_All, dvd-add, dvd-zero, AllByRecursion, ◌∣◌, below-same, below-first, below-none, below-times, below-swapped, sums-le, sums-equal, sums-times}
-use Rattle.std.proofs.Math.Nat.{mul-le-mul_left, dvd-mul_right_of_dvd}
-use Rattle.net_core.specs.declared.network.Module.{Module}
-use Rattle.net_core.specs.declared.network.Link.{Link}
-use Rattle.net_core.specs.Terms.{Case, graph_in, sum_below}
-use Rattle.plan_terms.specs.Capacities.{modules_capacity, modules_cost, installs, link_cost, capacities, total_cost, AreCounts, IsAble}
-use Rattle.plan_terms.specs.Bounds.{with_setup, link_charges, charges, IsBound}
-use Rattle.plan_terms.specs.Certificates.{CertificateLine, IsCut, price, asked, fixed_along, given, raw_value, WeakDuality}
-use Rattle.plan_terms.proofs.Metric.{metric_inequality}
+use Rattle.std.{proofs.Common.{◌≡◌, ℕ, suc, ◌+◌, ◌*◌, ◌≤◌, List, [], ◌∷◌, ◌++◌, length, All, Bool, true, false, if◌then◌else◌, Some, refl, sym, ap, subst, ◌∙◌, arith, map, sum_by, zip, slice_get, slice_index}, proofs.Math.Nat.{mul-le-mul_left, dvd-mul_right_of_dvd}}
+use Rattle.net_core.{proofs.Library.{sum_by-cons, recursion_from_All, dvd-add, dvd-zero, AllByRecursion, ◌∣◌, below-same, below-first, below-none, below-times, below-swapped, sums-le, sums-equal, sums-times}, specs.declared.network.Module.Module, specs.declared.network.Link.Link, specs.Terms.{Case, graph_in, sum_below}}
+use Rattle.plan_terms.{specs.Capacities.{modules_capacity, modules_cost, installs, link_cost, capacities, total_cost, AreCounts, IsAble}, specs.Bounds.{with_setup, link_charges, charges, IsBound}, specs.Certificates.{CertificateLine, IsCut, price, asked, fixed_along, given, raw_value, WeakDuality}, proofs.Metric.metric_inequality}
 
 -- where no module's price exceeds its cost, counts of modules cost at least the price of their capacity
 modules_priced : (den unit : ℕ) (modules : List Module) (counts : List ℕ) → AllByRecursion (λ m. unit * m.capacity ≤ den * m.cost) modules → unit * modules_capacity modules counts ≤ den * modules_cost modules counts

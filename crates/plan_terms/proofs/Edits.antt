@@ -1,8 +1,6 @@
 -- demands with another need of one of them
 use Rattle.std.proofs.Common.{◌≡◌, ◌≢◌, ◌<◌, ℕ, List, cond, get_or, length, map, refl, sym, ap, ◌∙◌, arith, AllPairs}
-use Rattle.net_core.proofs.Library.{cond_both, get_or-map, length-map}
-use Rattle.net_core.specs.declared.demand.Demand.{Demand}
-use Rattle.net_core.specs.Terms.{are_same}
+use Rattle.net_core.{proofs.Library.{cond_both, get_or-map, length-map}, specs.declared.demand.Demand.Demand, specs.Terms.are_same}
 use Rattle.plan_terms.specs.Edits.{set_need}
 
 abbrev pub with_need : ℕ → Demand → Demand

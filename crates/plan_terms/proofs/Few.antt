@@ -1,7 +1,6 @@
 -- a path has fewer links than there are nodes
 use Rattle.std.proofs.Common.{◌≡◌, ◌≢◌, ℕ, zero, suc, ◌+◌, ◌<◌, ◌≤◌, List, [], ◌∷◌, length, ⊎_elim, refl, subst, arith}
-use Rattle.net_core.proofs.Library.{cases_eq, AllByRecursion}
-use Rattle.net_core.specs.declared.ids.LinkId.{LinkId}
+use Rattle.net_core.{proofs.Library.{cases_eq, AllByRecursion}, specs.declared.ids.LinkId.LinkId}
 use Rattle.plan_terms.specs.Paths.{AreDifferent, IsPath, Leads}
 
 -- different numbers below n, as many as in xs but for one at most, and each of them from xs

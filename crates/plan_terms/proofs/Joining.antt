@@ -1,8 +1,6 @@
 -- what `Joins` says of a link that is given
 use Rattle.std.proofs.Common.{◌≡◌, ℕ, ◌<◌, length, get_or, Some, inl, inr, refl, sym, arith, subst, All, slice_get}
-use Rattle.net_core.proofs.Library.{∥∥₁_elim, props, slice_get_read, slice_get_within, get_or_from_slice_get}
-use Rattle.net_core.specs.declared.network.Link.{Link}
-use Rattle.net_core.specs.Terms.{IsLink, IsNetwork, Graph, HasEnds, Joins, Survives}
+use Rattle.net_core.{proofs.Library.{∥∥₁_elim, props, slice_get_read, slice_get_within, get_or_from_slice_get}, specs.declared.network.Link.Link, specs.Terms.{IsLink, IsNetwork, Graph, HasEnds, Joins, Survives}}
 
 turned_ends : (l : Link) (x y : ℕ) → HasEnds l x y → HasEnds l y x
 turned_ends l x y (inl p) = inr (p.1, p.0)

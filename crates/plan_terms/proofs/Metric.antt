@@ -1,15 +1,7 @@
 -- the metric inequality: what is carried over its distance is no more than the capacities along the lengths
 use Rattle.std.proofs.Common.{◌≡◌, ℕ, zero, suc, ◌+◌, ◌*◌, ◌≤◌, ◌<◌, List, [], ◌∷◌, length, true, false, cond, eqb, ◌||◌, Some, None, Option, unwrap_or, ⊎_elim, refl, sym, ap, subst, ◌∙◌, arith, sum_by, zip, slice_get, slice_index, slice_index_or, eq-eqb, ne_eqb, mul-le-mul_left}
-use Rattle.net_core.proofs.Library.{sum_by-cons, recursion_from_All, cases_eq, slice_get_within, le_of_mul-le-mul_left, AllByRecursion, below-same, below-le, below-times, below-none, below-plus, below-swapped, below-one, sums-le, sums-same, sums-equal, sums-times, paired}
-use Rattle.net_core.specs.declared.demand.Demand.{Demand}
-use Rattle.net_core.specs.declared.ids.LinkId.{LinkId}
-use Rattle.net_core.specs.declared.plan.Flow.{Flow}
-use Rattle.net_core.specs.declared.plan.Routing.{Routing}
-use Rattle.net_core.specs.Terms.{names_link, Graph, Joins, sum_below}
-use Rattle.plan_terms.specs.Certificates.{IsRight}
-use Rattle.plan_terms.specs.Flows.{sent, load, IsFlow, Carries}
-use Rattle.plan_terms.specs.Paths.{IsPath, IsDistance, length_of}
-use Rattle.plan_terms.proofs.Distinct.{DistinctLinks, path_links_inside, path_links_differ}
+use Rattle.net_core.{proofs.Library.{sum_by-cons, recursion_from_All, cases_eq, slice_get_within, le_of_mul-le-mul_left, AllByRecursion, below-same, below-le, below-times, below-none, below-plus, below-swapped, below-one, sums-le, sums-same, sums-equal, sums-times, paired}, specs.declared.demand.Demand.Demand, specs.declared.ids.LinkId.LinkId, specs.declared.plan.Flow.Flow, specs.declared.plan.Routing.Routing, specs.Terms.{names_link, Graph, Joins, sum_below}}
+use Rattle.plan_terms.{specs.Certificates.IsRight, specs.Flows.{sent, load, IsFlow, Carries}, specs.Paths.{IsPath, IsDistance, length_of}, proofs.Distinct.{DistinctLinks, path_links_inside, path_links_differ}}
 
 -- what different links sum to, link by link
 pub links_length : (n : ℕ) (lengths : List ℕ) (es : List LinkId) → DistinctLinks es → AllByRecursion (λ e. e.0 < n) es → sum_below n (λ e. cond (names_link e es) (slice_index lengths e) 0) ≡ length_of lengths es

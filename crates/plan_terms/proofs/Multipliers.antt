@@ -1,11 +1,7 @@
 -- the greatest valid multiplier of lengths, from the least ratio of a cost and a size
 use Rattle.std.proofs.Common.{◌≡◌, ℕ, zero, suc, ◌*◌, ◌/◌, ◌≤◌, ◌<◌, List, slice_index, get_or, sym, ap, subst, ◌∙◌, arith, mul-le-mul_left}
-use Rattle.net_core.proofs.Library.{le_of_mul-le-mul_left, mul-dvd-mul_right, dvd_of_mul-dvd-mul_right, eq-one_of_dvd-one, div-mul_cancel, ◌∣◌, IsGcd, positive_factors}
-use Rattle.net_core.specs.declared.network.Module.{Module}
-use Rattle.net_core.specs.declared.network.Link.{Link}
-use Rattle.plan_terms.specs.Bounds.{IsLowest}
-use Rattle.plan_terms.specs.OwnBounds.{IsValid, IsMultiplier}
-use Rattle.plan_terms.specs.inner.Ratios.{IsLeastRatio}
+use Rattle.net_core.{proofs.Library.{le_of_mul-le-mul_left, mul-dvd-mul_right, dvd_of_mul-dvd-mul_right, eq-one_of_dvd-one, div-mul_cancel, ◌∣◌, IsGcd, positive_factors}, specs.declared.network.Module.Module, specs.declared.network.Link.Link}
+use Rattle.plan_terms.{specs.Bounds.IsLowest, specs.OwnBounds.{IsValid, IsMultiplier}, specs.inner.Ratios.IsLeastRatio}
 
 -- What is no less than a ratio c / s is no less than a lesser one. A size of 0 makes a ratio that is greater than all.
 pub smaller_ratio : (c s less less_size other other_size : ℕ) → less * s < c * less_size → c * other_size ≤ other * s → less * other_size ≤ other * less_size

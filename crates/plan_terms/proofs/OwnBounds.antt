@@ -1,14 +1,7 @@
 -- the certificate of a cut alone
-use Rattle.net_core.proofs.Library.{∥∥₁_elim, props, sum_by-cons, recursion_from_All, All-cons, All-nil, mul-sub, AllByRecursion}
 use Rattle.std.proofs.Common.{◌≡◌, ℕ, ◌-◌, ◌*◌, ◌^◌, ◌≤◌, ◌<◌, List, [], ◌∷◌, All, Some, length, slice_get, slice_index, get_or, sym, ap, subst, ◌∙◌, ◌+◌, arith, zip, mul-le-mul_left, mul-lt-mul_of_pos_right}
-use Rattle.net_core.specs.declared.network.Link.{Link}
-use Rattle.net_core.specs.declared.plan.CutLine.{CutLine}
-use Rattle.net_core.specs.Terms.{Case, IsNetwork}
-use Rattle.plan_terms.specs.Capacities.{total_cost}
-use Rattle.plan_terms.specs.Certificates.{CertificateLine, IsCut, price, asked, fixed_along, given, raw_value, IsCertificate}
-use Rattle.plan_terms.specs.OwnBounds.{IsValid, OwnBoundHolds, IsOwnBound}
-use Rattle.plan_terms.proofs.Bounds.{bound_unique}
-use Rattle.plan_terms.proofs.Duality.{asked_met, bound_met}
+use Rattle.net_core.{proofs.Library.{∥∥₁_elim, props, sum_by-cons, recursion_from_All, All-cons, All-nil, mul-sub, AllByRecursion}, specs.declared.network.Link.Link, specs.declared.plan.CutLine.CutLine, specs.Terms.{Case, IsNetwork}}
+use Rattle.plan_terms.{specs.Capacities.total_cost, specs.Certificates.{CertificateLine, IsCut, price, asked, fixed_along, given, raw_value, IsCertificate}, specs.OwnBounds.{IsValid, OwnBoundHolds, IsOwnBound}, proofs.Bounds.bound_unique, proofs.Duality.{asked_met, bound_met}}
 
 -- a cut as the only line of a certificate
 abbrev pub alone : CutLine → ℕ → List CertificateLine

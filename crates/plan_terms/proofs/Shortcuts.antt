@@ -1,9 +1,7 @@
 -- a walk without its circles is a path, and no longer
 use Rattle.std.proofs.Common.{◌≡◌, ◌≢◌, ℕ, ◌≤◌, List, [], ◌∷◌, ◌⊎◌, inl, inr, ⊎_elim, sym, subst, arith}
-use Rattle.net_core.proofs.Library.{cases_eq, AllByRecursion}
-use Rattle.net_core.specs.declared.ids.LinkId.{LinkId}
-use Rattle.plan_terms.proofs.Distinct.{Has}
-use Rattle.plan_terms.specs.Paths.{Leads, last_node, length_of, AreDifferent, IsPath}
+use Rattle.net_core.{proofs.Library.{cases_eq, AllByRecursion}, specs.declared.ids.LinkId.LinkId}
+use Rattle.plan_terms.{proofs.Distinct.Has, specs.Paths.{Leads, last_node, length_of, AreDifferent, IsPath}}
 
 -- a path from a to b, not longer than d
 pub record Way (joins : ℕ → ℕ → ℕ → Type 0) (lengths : List ℕ) (a b d : ℕ) : Type 0 where

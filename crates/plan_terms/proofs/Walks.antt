@@ -1,9 +1,7 @@
 -- Walks along links, where `joins` says which link joins which nodes: what they reach, their parts, and when their nodes differ
 use Rattle.std.proofs.Common.{◌≡◌, ◌≢◌, ℕ, ◌+◌, ◌<◌, List, [], ◌∷◌, ◌++◌, get_or, ap, refl, ◌∙◌, arith, subst}
-use Rattle.net_core.proofs.Library.{AllByRecursion}
-use Rattle.net_core.specs.declared.ids.LinkId.{LinkId}
-use Rattle.plan_terms.specs.Paths.{Leads, last_node, length_of, AreDifferent, IsPath}
-use Rattle.plan_terms.specs.inner.Walks.{Walk}
+use Rattle.net_core.{proofs.Library.AllByRecursion, specs.declared.ids.LinkId.LinkId}
+use Rattle.plan_terms.{specs.Paths.{Leads, last_node, length_of, AreDifferent, IsPath}, specs.inner.Walks.Walk}
 
 -- what is closed under the joining links has each node that a walk from one of its own leads to
 pub closed_leads : (joins : ℕ → ℕ → ℕ → Type 0) (inside : ℕ → Type 0) → ((e x y : ℕ) → joins e x y → inside x → inside y) → (a : ℕ) (es : List LinkId) (cs : List ℕ) → Leads joins a es cs → inside a → inside (last_node a cs)

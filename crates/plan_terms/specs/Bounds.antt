@@ -1,6 +1,5 @@
 -- raw values, and bounds: rounded up to a multiple of the greatest common divisor of what links charge
-use Rattle.std.specs.Prelude.{◌≡◌, ◌≢◌, ℕ, ◌*◌, ◌≤◌, List, [], ◌∷◌, All, map, flat_map}
-use Rattle.std.specs.Int.{◌∣◌}
+use Rattle.std.{specs.Prelude.{◌≡◌, ◌≢◌, ℕ, ◌*◌, ◌≤◌, List, [], ◌∷◌, All, map, flat_map}, specs.Int.◌∣◌}
 use Rattle.net_core.specs.declared.network.Link.{Link}
 
 -- the fraction a / b is c / d in lowest terms

@@ -1,10 +1,6 @@
 -- counts of modules: the capacity that they install, what they cost, and whether they are able
-use Rattle.std.specs.Prelude.{◌≡◌, ℕ, ◌+◌, ◌*◌, ◌^◌, ◌<◌, ◌≤◌, Bool, if◌then◌else◌, nat_lt, List, All, length, map, sum_by, zip}
-use Rattle.std.specs.List.{AllZip, list_any}
-use Rattle.net_core.specs.declared.network.Module.{Module}
-use Rattle.net_core.specs.declared.network.Link.{Link}
-use Rattle.net_core.specs.declared.plan.Routing.{Routing}
-use Rattle.net_core.specs.Terms.{Case, graph_in, Joins}
+use Rattle.std.{specs.Prelude.{◌≡◌, ℕ, ◌+◌, ◌*◌, ◌^◌, ◌<◌, ◌≤◌, Bool, if◌then◌else◌, nat_lt, List, All, length, map, sum_by, zip}, specs.List.{AllZip, list_any}}
+use Rattle.net_core.{specs.declared.network.Module.Module, specs.declared.network.Link.Link, specs.declared.plan.Routing.Routing, specs.Terms.{Case, graph_in, Joins}}
 use Rattle.plan_terms.specs.Flows.{Carries}
 
 -- the capacity of counts of modules

@@ -1,13 +1,7 @@
 -- metric inequalities, and the lower bounds that they certify (Iri 1971; Onaga and Kakusho 1971; weak duality)
-use Rattle.std.specs.Prelude.{◌≡◌, ◌≢◌, ℕ, ◌-◌, ◌*◌, ◌^◌, ◌≤◌, ◌<◌, List, Option, None, Some, All, length, sum_by, zip, unwrap_or, slice_get, slice_index, slice_index_or}
-use Rattle.std.specs.Int.{◌∣◌}
-use Rattle.net_core.specs.declared.demand.Demand.{Demand}
-use Rattle.net_core.specs.declared.network.Link.{Link}
-use Rattle.net_core.specs.declared.plan.CutLine.{CutLine}
-use Rattle.net_core.specs.Terms.{Case, graph_in, Graph, Joins, Survives}
-use Rattle.plan_terms.specs.Bounds.{IsBound}
-use Rattle.plan_terms.specs.Capacities.{IsAble, total_cost}
-use Rattle.plan_terms.specs.Paths.{IsDistance}
+use Rattle.std.{specs.Prelude.{◌≡◌, ◌≢◌, ℕ, ◌-◌, ◌*◌, ◌^◌, ◌≤◌, ◌<◌, List, Option, None, Some, All, length, sum_by, zip, unwrap_or, slice_get, slice_index, slice_index_or}, specs.Int.◌∣◌}
+use Rattle.net_core.{specs.declared.demand.Demand.Demand, specs.declared.network.Link.Link, specs.declared.plan.CutLine.CutLine, specs.Terms.{Case, graph_in, Graph, Joins, Survives}}
+use Rattle.plan_terms.{specs.Bounds.IsBound, specs.Capacities.{IsAble, total_cost}, specs.Paths.IsDistance}
 
 -- lengths that a state keeps: one per link, 0 on each link that doesn't survive, no common divisor above 1
 -- (so that one is positive, since every number divides 0)

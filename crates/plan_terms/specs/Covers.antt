@@ -1,9 +1,7 @@
 -- the cheapest modules of a link for a need
 use Rattle.std.specs.Prelude.{◌≡◌, ℕ, ◌-◌, ◌*◌, ◌≤◌, ◌⊎◌, List, Some, count_by, map, nat_lt, length, slice_get}
-use Rattle.net_core.specs.declared.network.Module.{Module}
-use Rattle.net_core.specs.declared.network.Link.{Link}
-use Rattle.plan_terms.specs.Bounds.{IsGreatestDivisor}
-use Rattle.plan_terms.specs.Capacities.{link_cost, modules_capacity}
+use Rattle.net_core.{specs.declared.network.Module.Module, specs.declared.network.Link.Link}
+use Rattle.plan_terms.{specs.Bounds.IsGreatestDivisor, specs.Capacities.{link_cost, modules_capacity}}
 
 -- counts of a link's modules that reach a need
 pub record Reaches (modules : List Module) (need : ℕ) (counts : List ℕ) : Type 0 where

@@ -1,11 +1,6 @@
 -- edits of demands: what each is answered, and the demands after it
 use Rattle.std.specs.Prelude.{ℕ, ◌+◌, ◌-◌, ◌^◌, List, [], ◌∷◌, ◌++◌, Bool, Option, None, Some, cond, filter, length, map, min, nat_le, nat_lt, not, ◌&&◌, position, unwrap_or}
-use Rattle.net_core.specs.declared.demand.Demand.{Demand}
-use Rattle.net_core.specs.declared.journal.Edit.{Edit}
-use Rattle.net_core.specs.declared.journal.Edit.TheVariants.{Set, Add, Drop}
-use Rattle.net_core.specs.declared.journal.Reply.{Reply}
-use Rattle.net_core.specs.declared.journal.Reply.TheVariants.{Accepted, UnknownDemand, KnownDemand, UnknownNode, SelfDemand, TooMany, TooMuch}
-use Rattle.net_core.specs.Terms.{first_fault, are_same, is_named, total_need}
+use Rattle.net_core.{specs.declared.demand.Demand.Demand, specs.declared.journal.Edit.Edit, specs.declared.journal.Edit.TheVariants.{Set, Add, Drop}, specs.declared.journal.Reply.Reply, specs.declared.journal.Reply.TheVariants.{Accepted, UnknownDemand, KnownDemand, UnknownNode, SelfDemand, TooMany, TooMuch}, specs.Terms.{first_fault, are_same, is_named, total_need}}
 
 -- the reply, and the demands after the edit
 abbrev pub Answered : Type 0

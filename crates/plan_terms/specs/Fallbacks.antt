@@ -1,14 +1,7 @@
 -- the plan that takes one path for each demand that has a need, in each state, and covers the greatest load of each link
 use Rattle.std.specs.Prelude.{◌≡◌, ℕ, ◌+◌, ◌<◌, List, [], ◌∷◌, Some, All, AllPairs, Any, length, map, max, slice_get}
-use Rattle.net_core.specs.declared.demand.Demand.{Demand}
-use Rattle.net_core.specs.declared.plan.Flow.{Flow}
-use Rattle.net_core.specs.declared.plan.Routing.{Routing}
-use Rattle.net_core.specs.Terms.{Case, graph_in, Joins}
-use Rattle.plan_terms.specs.Capacities.{AreCounts, capacities, total_cost}
-use Rattle.plan_terms.specs.Covers.{CoverLoads}
-use Rattle.plan_terms.specs.Flows.{Carries, load}
-use Rattle.plan_terms.specs.LeastPaths.{IsLeastPath}
-use Rattle.plan_terms.specs.Prices.{ArePriceLengths}
+use Rattle.net_core.{specs.declared.demand.Demand.Demand, specs.declared.plan.Flow.Flow, specs.declared.plan.Routing.Routing, specs.Terms.{Case, graph_in, Joins}}
+use Rattle.plan_terms.{specs.Capacities.{AreCounts, capacities, total_cost}, specs.Covers.CoverLoads, specs.Flows.{Carries, load}, specs.LeastPaths.IsLeastPath, specs.Prices.ArePriceLengths}
 
 -- the whole need of a demand along the least of its shortest paths
 pub record IsLeastFlow (joins : ℕ → ℕ → ℕ → Type 0) (lengths : List ℕ) (demands : List Demand) (f : Flow) : Type 0 where

@@ -1,9 +1,6 @@
 -- routings that carry demands (multicommodity flow)
 use Rattle.std.specs.Prelude.{◌≡◌, ℕ, ◌*◌, ◌≤◌, ◌<◌, ◌==◌, if◌then◌else◌, List, All, Some, slice_get, slice_index, sum_by}
-use Rattle.net_core.specs.declared.demand.Demand.{Demand}
-use Rattle.net_core.specs.declared.plan.Flow.{Flow}
-use Rattle.net_core.specs.declared.plan.Routing.{Routing}
-use Rattle.net_core.specs.Terms.{names_link}
+use Rattle.net_core.{specs.declared.demand.Demand.Demand, specs.declared.plan.Flow.Flow, specs.declared.plan.Routing.Routing, specs.Terms.names_link}
 use Rattle.plan_terms.specs.Paths.{IsPath}
 
 -- what the flows of demand k sum to

@@ -1,6 +1,5 @@
 -- what a state keeps of lengths
-use Rattle.std.specs.Prelude.{◌≡◌, ◌≢◌, ℕ, ◌*◌, ◌<◌, List, length, slice_index}
-use Rattle.std.specs.Int.{◌∣◌}
+use Rattle.std.{specs.Prelude.{◌≡◌, ◌≢◌, ℕ, ◌*◌, ◌<◌, List, length, slice_index}, specs.Int.◌∣◌}
 use Rattle.net_core.specs.Terms.{Graph, Survives}
 
 -- no surviving link has a positive length

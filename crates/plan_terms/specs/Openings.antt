@@ -1,9 +1,7 @@
 -- the opening cuts of a state
-use Rattle.std.specs.Prelude.{◌≡◌, ◌==◌, ℕ, List, [], ◌∷◌, Option, None, Some, cond, length, replicate}
-use Rattle.std.specs.Cmp.Lexicographic.{pointwise}
+use Rattle.std.{specs.Prelude.{◌≡◌, ◌==◌, ℕ, List, [], ◌∷◌, Option, None, Some, cond, length, replicate}, specs.Cmp.Lexicographic.pointwise}
 use Rattle.net_core.specs.Terms.{Graph}
-use Rattle.plan_terms.specs.Keeping.{AreZero, Keeps}
-use Rattle.plan_terms.specs.Prices.{ArePriceLengths}
+use Rattle.plan_terms.{specs.Keeping.{AreZero, Keeps}, specs.Prices.ArePriceLengths}
 
 -- what the state keeps of lengths, and nothing where they are 0 on all surviving links
 abbrev pub MayKeep : Graph → List ℕ → Option (List ℕ) → Type 0

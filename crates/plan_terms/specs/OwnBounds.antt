@@ -1,12 +1,7 @@
 -- the bound that a cut gives alone, with its greatest valid multiplier
-use Rattle.std.specs.Prelude.{◌≡◌, ℕ, ◌-◌, ◌*◌, ◌≤◌, ◌<◌, List, Some, All, slice_get, slice_index}
-use Rattle.std.specs.Int.{◌∣◌}
-use Rattle.net_core.specs.declared.network.Link.{Link}
-use Rattle.net_core.specs.declared.plan.CutLine.{CutLine}
-use Rattle.net_core.specs.Terms.{Case}
-use Rattle.plan_terms.specs.Bounds.{IsBound}
-use Rattle.plan_terms.specs.Capacities.{IsAble, total_cost}
-use Rattle.plan_terms.specs.Certificates.{IsCut, fixed_along}
+use Rattle.std.{specs.Prelude.{◌≡◌, ℕ, ◌-◌, ◌*◌, ◌≤◌, ◌<◌, List, Some, All, slice_get, slice_index}, specs.Int.◌∣◌}
+use Rattle.net_core.{specs.declared.network.Link.Link, specs.declared.plan.CutLine.CutLine, specs.Terms.Case}
+use Rattle.plan_terms.{specs.Bounds.IsBound, specs.Capacities.{IsAble, total_cost}, specs.Certificates.{IsCut, fixed_along}}
 
 -- a multiplier of lengths is valid: no module's price exceeds its cost
 pub record IsValid (links : List Link) (lengths : List ℕ) (num den : ℕ) : Type 0 where

@@ -1,6 +1,5 @@
 -- paths along links: which link joins which nodes is said by `joins`
-use Rattle.std.specs.Prelude.{◌≡◌, ◌≢◌, ℕ, ◌+◌, ◌≤◌, List, [], ◌∷◌, Option, None, Some, slice_index}
-use Rattle.std.specs.List.{AllByRecursion}
+use Rattle.std.{specs.Prelude.{◌≡◌, ◌≢◌, ℕ, ◌+◌, ◌≤◌, List, [], ◌∷◌, Option, None, Some, slice_index}, specs.List.AllByRecursion}
 use Rattle.net_core.specs.declared.ids.LinkId.{LinkId}
 
 -- the links lead from a to each of these nodes in turn

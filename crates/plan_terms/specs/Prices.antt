@@ -1,7 +1,6 @@
 -- unit pairs, and price lengths: what a unit of capacity costs on each link, in sixteenths of the greatest such cost
 use Rattle.std.specs.Prelude.{◌≡◌, ◌≢◌, ℕ, ◌*◌, ◌/◌, ◌≤◌, ◌<◌, ◌⊎◌, List, [], Some, All, Any, Contains, length, slice_get, slice_index}
-use Rattle.net_core.specs.declared.network.Module.{Module}
-use Rattle.net_core.specs.declared.network.Link.{Link}
+use Rattle.net_core.{specs.declared.network.Module.Module, specs.declared.network.Link.Link}
 use Rattle.plan_terms.specs.Bounds.{IsLowest}
 
 -- a module of least cost per capacity

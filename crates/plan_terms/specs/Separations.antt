@@ -1,7 +1,6 @@
 -- demands whose ends a state separates
 use Rattle.std.specs.Prelude.{◌≡◌, ℕ, ◌≤◌, ◌<◌, Some, length, slice_get}
-use Rattle.net_core.specs.declared.demand.Demand.{Demand}
-use Rattle.net_core.specs.Terms.{Case, graph_in, Joins}
+use Rattle.net_core.{specs.declared.demand.Demand.Demand, specs.Terms.{Case, graph_in, Joins}}
 use Rattle.plan_terms.specs.Paths.{AreApart}
 
 -- demand k has a need, and no path of state s joins its ends

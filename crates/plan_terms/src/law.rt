@@ -1,5 +1,4 @@
-ghost use Rattle.plan_terms.specs.Certificates.{WeakDuality};
-ghost use Rattle.plan_terms.specs.OwnBounds.{OwnBoundHolds};
+ghost use Rattle.plan_terms.{specs.Certificates.WeakDuality, specs.OwnBounds.OwnBoundHolds};
 
 /// No able counts cost less than the bound of a certificate. The call does nothing, and takes no time.
 pub fn weak_duality()

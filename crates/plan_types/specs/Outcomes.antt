@@ -1,7 +1,6 @@
 -- what an outcome says
 use Rattle.std.specs.Prelude.{ℕ}
-use Rattle.plan_types.specs.declared.report.Outcome.{Outcome}
-use Rattle.plan_types.specs.declared.report.Outcome.TheVariants.{Planned, Unsurvivable}
+use Rattle.plan_types.{specs.declared.report.Outcome.Outcome, specs.declared.report.Outcome.TheVariants.{Planned, Unsurvivable}}
 
 -- the number of journal entries before it
 abbrev pub outcome_position : Outcome → ℕ

@@ -1,8 +1,7 @@
 -- what a sound plan is made of: routings that carry, a cost, and a certified bound
 use Rattle.std.specs.Prelude.{◌≡◌, ℕ, ◌+◌, List, Some, length, map, slice_get}
 use Rattle.plan_terms.specs.Terms.{Routing, Case, graph_in, Joins, IsBound, IsLowest, capacities, total_cost, CertificateLine, IsCertificate, raw_value, Carries}
-use Rattle.plan_types.specs.declared.certificate.Certificate.{Certificate}
-use Rattle.plan_types.specs.declared.plan.Plan.{Plan}
+use Rattle.plan_types.{specs.declared.certificate.Certificate.Certificate, specs.declared.plan.Plan.Plan}
 
 -- one routing for each state, which carries the demands there within the installed capacities
 pub record IsCarryingPlan (p : Case) (plan : Plan) : Type 0 where

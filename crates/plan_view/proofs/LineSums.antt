@@ -1,6 +1,5 @@
 -- sums over the lines of a certificate
-use Rattle.std.proofs.Common.{◌≡◌, ℕ, ◌+◌, ◌-◌, ◌*◌, ◌<◌, ◌≤◌, Bool, true, false, if◌then◌else◌, List, [], ◌∷◌, None, Option, get_or, length, map, take, refl, sym, subst, arith, sum_by}
-use Rattle.std.proofs.lemmas.List.Sums.{sum_by-cons, sum_by_more, sum_by_more_le_part}
+use Rattle.std.{proofs.Common.{◌≡◌, ℕ, ◌+◌, ◌-◌, ◌*◌, ◌<◌, ◌≤◌, Bool, true, false, if◌then◌else◌, List, [], ◌∷◌, None, Option, get_or, length, map, take, refl, sym, subst, arith, sum_by}, proofs.lemmas.List.Sums.{sum_by-cons, sum_by_more, sum_by_more_le_part}}
 use Rattle.plan_terms.specs.Terms.{CertificateLine, Link, asked, fixed_along, given, raw_value}
 use Rattle.plan_types.specs.Terms.{lines_of_certificate}
 use Rattle.plan_report.specs.Terms.{CertLine, Certificate}

@@ -1,22 +1,10 @@
 -- what is known of the routings of a sound plan
-use Rattle.std.proofs.Common.{◌≡◌, ℕ, ◌+◌, ◌*◌, ◌^◌, ◌<◌, ◌≤◌, ◌==◌, ◌&&◌, Bool, true, false, if◌then◌else◌, List, [], All, None, zip, get_or, length, sym, ap, ◌∙◌, subst, arith, slice_index, ⊎_elim, mul-le-mul, eq-eqb, ne_eqb}
-use Rattle.std.proofs.lemmas.List.Sums.{sum_by-le-sum_by}
-use Rattle.net_core.proofs.Library.{cases_eq, cases_lt, get_or-map, get_or_default, get_or-zip, get_or_past, length-zip, props, slice_get-get_or, ∥∥₁_elim, pointwise, modules_sound, all_at}
-use Rattle.net_core.specs.States.{IsStateList}
+use Rattle.std.{proofs.Common.{◌≡◌, ℕ, ◌+◌, ◌*◌, ◌^◌, ◌<◌, ◌≤◌, ◌==◌, ◌&&◌, Bool, true, false, if◌then◌else◌, List, [], All, None, zip, get_or, length, sym, ap, ◌∙◌, subst, arith, slice_index, ⊎_elim, mul-le-mul, eq-eqb, ne_eqb}, proofs.lemmas.List.Sums.sum_by-le-sum_by}
+use Rattle.net_core.{proofs.Library.{cases_eq, cases_lt, get_or-map, get_or_default, get_or-zip, get_or_past, length-zip, props, slice_get-get_or, ∥∥₁_elim, pointwise, modules_sound, all_at}, specs.States.IsStateList}
 use Rattle.module_choice.proofs.Pairs.{capacities_long, counts_long, counts_shape}
 use Rattle.plan_terms.specs.Terms.{AreDemands, Case, Carries, Flow, IsDemand, IsFlow, IsModule, IsNetwork, Joins, Link, Listed, Routing, capacities, graph_in, load, modules_capacity, raw_value, sent}
-use Rattle.plan_types.specs.Terms.{lines_of_certificate}
-use Rattle.plan_types.specs.declared.plan.Plan.{Plan}
-use Rattle.plan_view.specs.Loads.{IsFullestLink, den_in, load_in, routing_in}
-use Rattle.plan_view.specs.Parts.{paid_by}
-use Rattle.plan_view.specs.Reroutes.{brought, goes_as, rerouted}
-use Rattle.plan_view.specs.Rounding.{IsCeiling, IsNearest}
-use Rattle.plan_view.specs.Rows.{IsStateRow, IsUseOf, failed_links}
-use Rattle.plan_view.specs.Sound.{IsSoundPlan}
-use Rattle.plan_view.specs.declared.rows.StateRow.{StateRow}
-use Rattle.plan_view.specs.inner.Lines.{asked_among, given_among}
-use Rattle.plan_view.specs.inner.LowRoutings.{IsLowRouting}
-use Rattle.plan_view.proofs.LineSums.{asked_is, given_is}
+use Rattle.plan_types.{specs.Terms.lines_of_certificate, specs.declared.plan.Plan.Plan}
+use Rattle.plan_view.{specs.Loads.{IsFullestLink, den_in, load_in, routing_in}, specs.Parts.paid_by, specs.Reroutes.{brought, goes_as, rerouted}, specs.Rounding.{IsCeiling, IsNearest}, specs.Rows.{IsStateRow, IsUseOf, failed_links}, specs.Sound.IsSoundPlan, specs.declared.rows.StateRow.StateRow, specs.inner.Lines.{asked_among, given_among}, specs.inner.LowRoutings.IsLowRouting, proofs.LineSums.{asked_is, given_is}}
 
 abbrev no_routing : Routing
 no_routing = record { den = 0; flows = [] }

@@ -3,10 +3,7 @@ use Rattle.std.proofs.Common.{◌≡◌, ℕ, zero, suc, ◌+◌, List, [], ◌�
 use Rattle.net_core.proofs.Library.{slice_get_within}
 use Rattle.plan_terms.specs.Terms.{Case, Link, Routing}
 use Rattle.plan_types.specs.declared.plan.Plan.{Plan}
-use Rattle.plan_view.specs.Rows.{AreLinkRows, AreLoadRows, AreStateRows, IsLinkRow, IsLoadRow, IsRowAt, IsStateRow}
-use Rattle.plan_view.specs.declared.rows.LinkRow.{LinkRow}
-use Rattle.plan_view.specs.declared.rows.LoadRow.{LoadRow}
-use Rattle.plan_view.specs.declared.rows.StateRow.{StateRow}
+use Rattle.plan_view.{specs.Rows.{AreLinkRows, AreLoadRows, AreStateRows, IsLinkRow, IsLoadRow, IsRowAt, IsStateRow}, specs.declared.rows.LinkRow.LinkRow, specs.declared.rows.LoadRow.LoadRow, specs.declared.rows.StateRow.StateRow}
 
 -- what is at a place of a list with one item more
 pub pushed : {X : Type 0} (xs : List X) (x : X) (k : ℕ) (y : X) → slice_get (xs ++ x ∷ []) k ≡ Some y → (slice_get xs k ≡ Some y) ⊎ ((k ≡ length xs) × (x ≡ y))

@@ -1,7 +1,5 @@
 -- what of the demands goes other ways in a state than without failures
-use Rattle.std.specs.Prelude.{ℕ, ◌+◌, ◌-◌, ◌*◌, ◌==◌, ◌&&◌, if◌then◌else◌, Bool, List, [], ◌∷◌, sum_by}
-use Rattle.std.specs.Cmp.Lexicographic.{pointwise}
-use Rattle.std.specs.List.{list_any}
+use Rattle.std.{specs.Prelude.{ℕ, ◌+◌, ◌-◌, ◌*◌, ◌==◌, ◌&&◌, if◌then◌else◌, Bool, List, [], ◌∷◌, sum_by}, specs.Cmp.Lexicographic.pointwise, specs.List.list_any}
 use Rattle.plan_terms.specs.Terms.{Flow, Routing}
 
 -- both flows are of one demand and follow one path

@@ -1,17 +1,8 @@
 -- what the rows of a plan say: each number is a definition's
-use Rattle.std.specs.Prelude.{◌≡◌, ℕ, zero, suc, ◌+◌, ◌*◌, ◌/◌, List, [], Option, None, Some, length, slice_get, slice_index, sum_by}
-use Rattle.std.specs.Option.{option_map_or}
+use Rattle.std.{specs.Prelude.{◌≡◌, ℕ, zero, suc, ◌+◌, ◌*◌, ◌/◌, List, [], Option, None, Some, length, slice_get, slice_index, sum_by}, specs.Option.option_map_or}
 use Rattle.plan_terms.specs.Terms.{Case, Link, LinkId, Listed, Routing, capacities, link_cost, load, modules_capacity, raw_value, sum_below, total_cost}
-use Rattle.plan_types.specs.Terms.{lines_of_certificate}
-use Rattle.plan_types.specs.declared.plan.Plan.{Plan}
-use Rattle.plan_view.specs.Loads.{IsFirstOfGreatest, IsFullestLink, den_in, load_in, routing_in}
-use Rattle.plan_view.specs.Parts.{IsGap, paid_by}
-use Rattle.plan_view.specs.Reroutes.{rerouted}
-use Rattle.plan_view.specs.Rounding.{IsCeiling, IsNearest}
-use Rattle.plan_view.specs.declared.rows.LinkRow.{LinkRow}
-use Rattle.plan_view.specs.declared.rows.LoadRow.{LoadRow}
-use Rattle.plan_view.specs.declared.rows.PlanSummary.{PlanSummary}
-use Rattle.plan_view.specs.declared.rows.StateRow.{StateRow}
+use Rattle.plan_types.{specs.Terms.lines_of_certificate, specs.declared.plan.Plan.Plan}
+use Rattle.plan_view.{specs.Loads.{IsFirstOfGreatest, IsFullestLink, den_in, load_in, routing_in}, specs.Parts.{IsGap, paid_by}, specs.Reroutes.rerouted, specs.Rounding.{IsCeiling, IsNearest}, specs.declared.rows.LinkRow.LinkRow, specs.declared.rows.LoadRow.LoadRow, specs.declared.rows.PlanSummary.PlanSummary, specs.declared.rows.StateRow.StateRow}
 
 -- the row of link e, which is l with these counts: its greatest load is that of the first state of greatest load
 pub record IsLinkRow (plan : Plan) (l : Link) (counts : List ℕ) (e : ℕ) (row : LinkRow) : Type 0 where

@@ -1,8 +1,6 @@
 ghost use Rattle.std.specs.Prelude.{◌≡◌, ℕ, ◌+◌, ◌*◌, ◌<◌, ◌≤◌, ◌^◌, All, IfOk, length};
 ghost use Rattle.plan_terms.specs.Terms.{IsModule, capacities, case_of, modules_capacity};
-ghost use Rattle.plan_view.specs.Loads.{den_in, load_in};
-ghost use Rattle.plan_view.specs.Rows.{AreLinkRows, IsLinkRow, IsRowAt};
-ghost use Rattle.plan_view.specs.Sound.{IsSoundPlan};
+ghost use Rattle.plan_view.{specs.Loads.{den_in, load_in}, specs.Rows.{AreLinkRows, IsLinkRow, IsRowAt}, specs.Sound.IsSoundPlan};
 
 use crate::greatest::worst_state;
 use crate::loads::{use_of, whole_load};

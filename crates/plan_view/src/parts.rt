@@ -1,9 +1,7 @@
 ghost use Rattle.std.specs.Prelude.{◌≡◌, ◌-◌, ◌*◌, ◌^◌, ◌<◌, ◌≤◌, All, None, length, min};
 ghost use Rattle.plan_terms.specs.Terms.{raw_value};
 ghost use Rattle.plan_types.specs.Terms.{lines_of_certificate};
-ghost use Rattle.plan_view.specs.Parts.{IsGap, paid_by};
-ghost use Rattle.plan_view.specs.Rounding.{IsNearest};
-ghost use Rattle.plan_view.specs.inner.Lines.{asked_among, given_among, is_among};
+ghost use Rattle.plan_view.{specs.Parts.{IsGap, paid_by}, specs.Rounding.IsNearest, specs.inner.Lines.{asked_among, given_among, is_among}};
 
 use crate::fractions::thousandths;
 use metric_cut::fixed_along;

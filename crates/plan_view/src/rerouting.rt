@@ -1,7 +1,5 @@
-ghost use Rattle.std.specs.Prelude.{◌≡◌, ℕ, ◌+◌, ◌*◌, ◌^◌, ◌<◌, ◌≤◌, All, ◌∷◌, length};
-ghost use Rattle.std.specs.List.{list_any};
-ghost use Rattle.plan_view.specs.Reroutes.{brought_beyond, brought, goes_as, rerouted};
-ghost use Rattle.plan_view.specs.Rounding.{IsCeiling};
+ghost use Rattle.std.{specs.Prelude.{◌≡◌, ℕ, ◌+◌, ◌*◌, ◌^◌, ◌<◌, ◌≤◌, All, ◌∷◌, length}, specs.List.list_any};
+ghost use Rattle.plan_view.{specs.Reroutes.{brought_beyond, brought, goes_as, rerouted}, specs.Rounding.IsCeiling};
 
 use crate::fractions::is_less;
 use net_core::{Flow, Routing};

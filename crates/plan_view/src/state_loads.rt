@@ -1,9 +1,6 @@
 ghost use Rattle.std.specs.Prelude.{◌^◌, ◌<◌, ◌≤◌, All, IfOk, length};
 ghost use Rattle.plan_terms.specs.Terms.{capacities, case_of};
-ghost use Rattle.plan_view.specs.Loads.{routing_in};
-ghost use Rattle.plan_view.specs.Rows.{AreLoadRows, IsLoadRow};
-ghost use Rattle.plan_view.specs.Sound.{IsSoundPlan};
-ghost use Rattle.plan_view.specs.inner.LowRoutings.{IsLowRouting};
+ghost use Rattle.plan_view.{specs.Loads.routing_in, specs.Rows.{AreLoadRows, IsLoadRow}, specs.Sound.IsSoundPlan, specs.inner.LowRoutings.IsLowRouting};
 
 use crate::loads::{use_of, whole_load};
 use crate::rows::LoadRow;

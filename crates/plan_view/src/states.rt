@@ -1,9 +1,6 @@
 ghost use Rattle.std.specs.Prelude.{◌≡◌, ◌+◌, ◌<◌, ◌≤◌, ◌^◌, All, IfOk, IfSome, length, slice_index};
 ghost use Rattle.plan_terms.specs.Terms.{capacities, case_of, load};
-ghost use Rattle.plan_view.specs.Loads.{IsFirstIfAny, IsFullestLink};
-ghost use Rattle.plan_view.specs.Rows.{AreStateRows, IsStateRow, IsUseOf, failed_links};
-ghost use Rattle.plan_view.specs.Sound.{IsSoundPlan};
-ghost use Rattle.plan_view.specs.inner.LowRoutings.{IsLowRouting};
+ghost use Rattle.plan_view.{specs.Loads.{IsFirstIfAny, IsFullestLink}, specs.Rows.{AreStateRows, IsStateRow, IsUseOf, failed_links}, specs.Sound.IsSoundPlan, specs.inner.LowRoutings.IsLowRouting};
 
 use crate::greatest::fullest_link;
 use crate::loads::{load_of, use_of};

@@ -1,7 +1,6 @@
 ghost use Rattle.std.specs.Prelude.{◌≡◌, ℕ, ◌*◌, ◌<◌, ◌≤◌, ◌^◌, All, IfOk, length, sum_by};
 ghost use Rattle.plan_terms.specs.Terms.{case_of, load, sum_below};
-ghost use Rattle.plan_view.specs.Rows.{IsPlanSummary};
-ghost use Rattle.plan_view.specs.Sound.{IsSoundPlan};
+ghost use Rattle.plan_view.{specs.Rows.IsPlanSummary, specs.Sound.IsSoundPlan};
 
 use crate::fractions::ceiling;
 use crate::loads::load_of;

@@ -1,20 +1,13 @@
 -- the bound of the best candidate is certified, and at least the own bound of each
-use Rattle.std.proofs.Common.{◌≡◌, ℕ, suc, ◌-◌, ◌*◌, ◌^◌, ◌<◌, ◌≤◌, ⊎_elim, List, [], ◌∷◌, All, Some, get_or, length, slice_get, refl, sym, ap, subst, ◌∙◌, arith, mul-le-mul_left}
+use Rattle.std.{proofs.Common.{◌≡◌, ℕ, suc, ◌-◌, ◌*◌, ◌^◌, ◌<◌, ◌≤◌, ⊎_elim, List, [], ◌∷◌, All, Some, get_or, length, slice_get, refl, sym, ap, subst, ◌∙◌, arith, mul-le-mul_left}, proofs.lemmas.Nat.Gcd.le_of_dvd}
 use Rattle.net_core.proofs.Library.{◌∣◌, ∥∥₁_elim, ∥∥₁_map, props, All-nil, All-get_or, dvd-zero, get_or_from_slice_get, slice_get-get_or, slice_get_within, dvd-mul_left, eq-one_of_dvd-one, le_of_mul-le-mul_left, all_one, positive_factors}
-use Rattle.std.proofs.lemmas.Nat.Gcd.{le_of_dvd}
-use Rattle.plan_terms.specs.Terms.{Entry, Link, CutLine, Case, IsNetwork, IsBound, IsLowest, IsCertificate, fixed_along, IsBestOwn, IsOwnBound}
-use Rattle.plan_terms.proofs.Lemmas.{bound_same, lowest_positive, alone, certificate_alone, empty_certificate, empty_raw, own_bound_unique, product_below, raw_alone}
+use Rattle.plan_terms.{specs.Terms.{Entry, Link, CutLine, Case, IsNetwork, IsBound, IsLowest, IsCertificate, fixed_along, IsBestOwn, IsOwnBound}, proofs.Lemmas.{bound_same, lowest_positive, alone, certificate_alone, empty_certificate, empty_raw, own_bound_unique, product_below, raw_alone}}
 use Rattle.plan_report.specs.Terms.{IsCertificateLineInForm, IsSpotInForm, CertLine, Spot, Pool, Local}
 use Rattle.cut_pool.specs.Terms.{cut_of_line, cuts_of}
 use Rattle.metric_cut.specs.declared.certificate.OwnCertificate.{OwnCertificate}
-use Rattle.plan_rounds.specs.Terms.{IsSpotIn}
-use Rattle.plan_rounds.specs.declared.rounds.Worked.{Worked}
-use Rattle.planner.specs.SoundPlans.{IsOwnAtMost}
-use Rattle.planner.specs.inner.Candidates.{HaveBounds, IsBestBound, IsBoundOfBest, IsBoundOfCut, IsBoundOfNone, IsOwnCertificate}
-use Rattle.planner.specs.declared.own_bound.CertifiedBound.{CertifiedBound}
+use Rattle.plan_rounds.{specs.Terms.IsSpotIn, specs.declared.rounds.Worked.Worked, proofs.Bounding.has_bound}
 use Rattle.checked_fraction.proofs.Once.{divides_rest, shared_divisor}
-use Rattle.plan_rounds.proofs.Bounding.{has_bound}
-use Rattle.planner.proofs.Candidates.{AreCandidates, IsCandidate, IsCertifiedBound}
+use Rattle.planner.{specs.SoundPlans.IsOwnAtMost, specs.inner.Candidates.{HaveBounds, IsBestBound, IsBoundOfBest, IsBoundOfCut, IsBoundOfNone, IsOwnCertificate}, specs.declared.own_bound.CertifiedBound.CertifiedBound, proofs.Candidates.{AreCandidates, IsCandidate, IsCertifiedBound}}
 
 -- the bound of a cut at its place, where that is the first of greatest own bound
 pub best_of_cut : (links : List Link) (w : Worked) (k : ℕ) (lines : List CutLine) (spots : List Spot) → lines ≡ w.lines → spots ≡ w.spots → length w.spots ≡ length w.lines

@@ -4,10 +4,8 @@ use Rattle.plan_terms.specs.Terms.{Entry, CutLine, Case, IsBound, IsLowest, IsCe
 use Rattle.plan_types.specs.Terms.{lines_of_certificate}
 use Rattle.plan_report.specs.Terms.{IsCertificateInForm}
 use Rattle.cut_pool.specs.Terms.{cut_of_line}
-use Rattle.plan_rounds.specs.Terms.{IsSpotIn, StandAtSpots}
-use Rattle.plan_rounds.specs.declared.rounds.Worked.{Worked}
-use Rattle.planner.specs.SoundPlans.{IsLowestCertificate}
-use Rattle.planner.specs.declared.own_bound.CertifiedBound.{CertifiedBound}
+use Rattle.plan_rounds.{specs.Terms.{IsSpotIn, StandAtSpots}, specs.declared.rounds.Worked.Worked}
+use Rattle.planner.{specs.SoundPlans.IsLowestCertificate, specs.declared.own_bound.CertifiedBound.CertifiedBound}
 
 -- a cut of the case, with a right side below 2^84
 pub record IsCandidate (p : Case) (cut : CutLine) : Type 0 where

@@ -4,8 +4,7 @@ use Rattle.net_core.proofs.Library.{cases_lt, get_or_past, All-contains, get_or_
 use Rattle.plan_terms.specs.Terms.{MasterColumn, RouteColumn, LinkSlack, DemandSlack, WideKind, Number, Row, Product, Sum, Common, Value, Length, Demand, StateId, Caps, CutLine, Places, Listed, Case, AreDemands, Graph, IsCut, HasShortLengths}
 use Rattle.module_prices.specs.declared.cheapest.UnitPair.{UnitPair}
 use Rattle.simplex_law.specs.Terms.{AreNames, IsFeasible, HoldsNumber, ColumnOf, IsSlack}
-use Rattle.route_law.specs.Terms.{HasWideLength, HoldsOfRoute, IsRouteEvidence, IsCarrying, IsRouteColumn, route_bound, route_rows, route_slack}
-use Rattle.route_law.proofs.Lemmas.{beside_each}
+use Rattle.route_law.{specs.Terms.{HasWideLength, HoldsOfRoute, IsRouteEvidence, IsCarrying, IsRouteColumn, route_bound, route_rows, route_slack}, proofs.Lemmas.beside_each}
 use Rattle.master_law.specs.Terms.{HasWideRight, HoldsOfMaster, IsMasterEvidence, IsCutColumn, IsMasterColumn, master_bound, master_slack}
 use Rattle.plan_report.specs.Terms.{known_as, AreCapsInForm, AreLinkNumbers, IsKindInForm, IsMasterColumnInForm, IsMasterEvidenceInForm, IsRouteColumnInForm, IsRouteEvidenceInForm}
 use Rattle.planner.proofs.InForm.{of_list, path_in_form}

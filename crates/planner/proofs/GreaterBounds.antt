@@ -1,17 +1,11 @@
 -- the greater of two bounds, that of a best certificate and that of the best cut alone, is certified
 use Rattle.std.proofs.Common.{◌≡◌, ℕ, ◌*◌, ◌^◌, ◌<◌, ◌≤◌, ⊎_elim, List, [], ◌∷◌, ◌++◌, All, Some, get_or, length, map, slice_get, refl, sym, ap, subst, ◌∙◌, arith, mul-le-mul_left, length-append}
 use Rattle.net_core.proofs.Library.{◌∣◌, le_of_mul-le-mul_left, get_or_append_left, length-map, All-cons, All-head, All-map, All-nil, All-tail, get_or_from_slice_get, slice_get-get_or, slice_get_within}
-use Rattle.plan_terms.specs.Terms.{Entry, Link, CutLine, Case, IsBound, IsLowest, CertificateLine, IsCertificate, IsCut, raw_value, HasShortLengths}
-use Rattle.plan_terms.proofs.Lemmas.{lowest_positive}
+use Rattle.plan_terms.{specs.Terms.{Entry, Link, CutLine, Case, IsBound, IsLowest, CertificateLine, IsCertificate, IsCut, raw_value, HasShortLengths}, proofs.Lemmas.lowest_positive}
 use Rattle.plan_report.specs.Terms.{IsCertificateLineInForm, CertLine, Spot, Local}
 use Rattle.cut_pool.specs.Terms.{cut_of_line, cuts_of}
-use Rattle.plan_rounds.specs.Terms.{IsBestOf, cut_at, lines_of, Best, Multiplier, IsSpotIn}
-use Rattle.plan_rounds.specs.declared.rounds.Worked.{Worked}
-use Rattle.planner.specs.declared.own_bound.CertifiedBound.{CertifiedBound}
-use Rattle.planner.specs.inner.Candidates.{IsBestBound, IsBoundOfBest}
-use Rattle.planner.specs.inner.Finishing.{AreMultipliersOf, bound_made, line_at}
-use Rattle.planner.proofs.BestBounds.{lowest_small, spot_in_form}
-use Rattle.planner.proofs.Candidates.{AreCandidates, IsCandidate, IsCertifiedBound}
+use Rattle.plan_rounds.{specs.Terms.{IsBestOf, cut_at, lines_of, Best, Multiplier, IsSpotIn}, specs.declared.rounds.Worked.Worked}
+use Rattle.planner.{specs.declared.own_bound.CertifiedBound.CertifiedBound, specs.inner.Candidates.{IsBestBound, IsBoundOfBest}, specs.inner.Finishing.{AreMultipliersOf, bound_made, line_at}, proofs.BestBounds.{lowest_small, spot_in_form}, proofs.Candidates.{AreCandidates, IsCandidate, IsCertifiedBound}}
 
 -- what holds of all images holds of all items
 unmap : {X Y : Type 0} (P : Y → Type 0) (f : X → Y) (xs : List X) → All P (map f xs) → All (λ x. P (f x)) xs

@@ -2,8 +2,7 @@
 use Rattle.std.proofs.Common.{◌≡◌, ℕ, ◌+◌, ◌^◌, ◌≤◌, List, [], ◌∷◌, ◌++◌, Bool, true, false, Option, Some, None, cond, length, map, refl, ap, arith, nat_le, nat_lt, not, ◌&&◌}
 use Rattle.net_core.proofs.Library.{∥∥₁_elim, props, length-map}
 use Rattle.plan_terms.specs.Terms.{Demand, Edit, Set, Add, Drop, Entry, Edited, Pooled, Reply, Accepted, UnknownDemand, KnownDemand, UnknownNode, SelfDemand, TooMany, TooMuch, Case, are_same, is_named, Answered, added, edit_reply, is_demand, next_version, node_of, set_need, total_need, version_after, within_total, without}
-use Rattle.cut_pool.specs.declared.board.Board.{Board}
-use Rattle.cut_pool.specs.Terms.{Dated, cut_of_line, cuts_of, left_by, left_by_entry, version_left, line_of_pooled}
+use Rattle.cut_pool.{specs.declared.board.Board.Board, specs.Terms.{Dated, cut_of_line, cuts_of, left_by, left_by_entry, version_left, line_of_pooled}}
 pub use Rattle.plan_rounds.proofs.Lemmas.{cuts_both, get_after}
 
 -- ---- versions

@@ -1,8 +1,7 @@
 -- the plan of a fallback plan and a certified bound is in form and in lowest terms
 use Rattle.std.proofs.Common.{◌≡◌, ◌≢◌, ℕ, ◌+◌, ◌*◌, ◌^◌, ◌<◌, ◌≤◌, Bool, true, false, if◌then◌else◌, List, [], ◌∷◌, ◌++◌, All, AllPairs, Some, get_or, length, slice_get, sym, subst, arith, zip, append_assoc}
 use Rattle.net_core.proofs.Library.{◌∣◌, eq-one_of_dvd-one, All-weaker, All-head, All-tail, sum_by-cons, slice_get_within, get_or_from_slice_get, new_name}
-use Rattle.plan_terms.specs.Terms.{Demand, LinkId, Link, Module, Flow, Routing, AreDemands, IsDemand, Graph, Joins, IsLink, IsModule, IsNetwork, installs, link_cost, modules_cost, total_cost, IsLeastFlow, IsLeastRouting, IsPath, Leads, last_node}
-use Rattle.plan_terms.proofs.Lemmas.{path_links_known, product_below}
+use Rattle.plan_terms.{specs.Terms.{Demand, LinkId, Link, Module, Flow, Routing, AreDemands, IsDemand, Graph, Joins, IsLink, IsModule, IsNetwork, installs, link_cost, modules_cost, total_cost, IsLeastFlow, IsLeastRouting, IsPath, Leads, last_node}, proofs.Lemmas.{path_links_known, product_below}}
 use Rattle.module_choice.proofs.Carrying.{ordered_at}
 use Rattle.plan_report.specs.Terms.{IsDemandInForm, IsFlowInForm, IsPathInForm, IsRoutingInForm}
 use Rattle.route_law.specs.Terms.{IsLowestRouting}

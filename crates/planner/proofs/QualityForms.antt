@@ -1,17 +1,13 @@
 -- shares, capacities and routings are in form
 use Rattle.std.proofs.Common.{ℕ, ◌+◌, ◌*◌, ◌^◌, ◌<◌, ◌≤◌, ⊎_elim, List, [], ◌∷◌, All, get_or, length, arith}
 use Rattle.net_core.proofs.Library.{All-cons, All-contains, All-head, All-nil, All-tail, All-weaker, slice_get-get_or, slice_get_within}
-use Rattle.plan_terms.specs.Terms.{Demand, Link, Module, Caps, Flow, Routing, AreDemands, Graph, Joins, IsModule, IsNetwork, AreCounts, AreWithinLimits, capacities, IsFlow, IsUnitPair}
+use Rattle.plan_terms.{specs.Terms.{Demand, Link, Module, Caps, Flow, Routing, AreDemands, Graph, Joins, IsModule, IsNetwork, AreCounts, AreWithinLimits, capacities, IsFlow, IsUnitPair}, proofs.Lemmas.product_below}
 use Rattle.module_prices.specs.declared.cheapest.UnitPair.{UnitPair}
-use Rattle.plan_terms.proofs.Lemmas.{product_below}
 use Rattle.plan_report.specs.Terms.{AreCapsInForm, IsFlowInForm, IsRoutingInForm, IsShareInForm, Share}
-use Rattle.share_covers.specs.Terms.{IsRouted}
-use Rattle.master_law.specs.Terms.{AreUnitPairs, IsPairOfLink, share_capacities, share_caps}
-use Rattle.master_law.proofs.Capacities.{share_count}
-use Rattle.share_covers.specs.InstalledRoutes.{installed_caps}
-use Rattle.planner.proofs.BestBounds.{lowest_small}
-use Rattle.planner.proofs.InForm.{of_list, path_in_form}
+use Rattle.share_covers.{specs.Terms.IsRouted, specs.InstalledRoutes.installed_caps}
+use Rattle.master_law.{specs.Terms.{AreUnitPairs, IsPairOfLink, share_capacities, share_caps}, proofs.Capacities.share_count}
 use Rattle.module_choice.proofs.Pairs.{capacities_long}
+use Rattle.planner.{proofs.BestBounds.lowest_small, proofs.InForm.{of_list, path_in_form}}
 
 -- ---- routings
 

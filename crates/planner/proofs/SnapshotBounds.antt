@@ -1,26 +1,14 @@
 -- the bound of a plan of a snapshot: certified, and at least all own bounds
 use Rattle.std.proofs.Common.{◌≡◌, ℕ, ◌+◌, ◌*◌, ◌<◌, ◌≤◌, inl, inr, ⊎_elim, List, [], ◌∷◌, ◌++◌, All, Contains, ◌⊎◌, Option, Some, None, IfSome, get_or, length, map, slice_get, refl, sym, ap, subst, ◌∙◌, arith, append-nil, append_assoc}
 use Rattle.net_core.proofs.Library.{cases_eq, All-map, All-weaker, Contains-append_left, Contains-get_or, get_or_from_slice_get, slice_get-get_or, slice_get_within}
-use Rattle.plan_terms.specs.Terms.{Entry, CutLine, Case, IsNetwork, IsBound, CertificateLine, IsCut, raw_value, HasShortLengths}
-use Rattle.plan_terms.proofs.Lemmas.{bound_same}
+use Rattle.plan_terms.{specs.Terms.{Entry, CutLine, Case, IsNetwork, IsBound, CertificateLine, IsCut, raw_value, HasShortLengths}, proofs.Lemmas.bound_same}
 use Rattle.plan_types.specs.Terms.{lines_of_certificate}
 use Rattle.plan_report.specs.Terms.{CertLine, Spot, Pool, Local}
 use Rattle.cut_pool.specs.Terms.{cut_of_line, cuts_of}
-use Rattle.plan_rounds.specs.Terms.{Best, IsFullHistory, IsSpotIn, AreWorkedRounds, EndsBy, IsBestAt, IsBestOfLast}
-use Rattle.master_law.specs.Terms.{share_cost}
-use Rattle.master_law.proofs.Greatest.{greatest_raw}
-use Rattle.master_law.proofs.Own.{bound_rises}
-use Rattle.plan_law.specs.WorkedLists.{HasCut, Round, after_rounds}
-use Rattle.plan_law.proofs.Rounds.{worked_cuts}
-use Rattle.plan_rounds.specs.declared.rounds.Worked.{Worked}
-use Rattle.planner.specs.SnapshotPlans.{AreHeld}
-use Rattle.planner.specs.SoundPlans.{AreOpeningAtMost, IsAboveOwnBounds, IsOwnAtMost}
-use Rattle.planner.specs.declared.own_bound.CertifiedBound.{CertifiedBound}
-use Rattle.planner.specs.inner.Finishing.{AreMultipliersOf, IsBetterBound, IsBoundOfMaster, IsGreaterBound, IsShareFor, bound_made}
-use Rattle.planner.proofs.BestBounds.{best_certified, each_at_most}
-use Rattle.planner.proofs.Candidates.{AreCandidates, IsCertifiedBound}
-use Rattle.planner.proofs.GreaterBounds.{best_is_certified, best_multipliers, lines_of_best, lines_of_own, no_greater}
-use Rattle.planner.proofs.SnapshotQuality.{HasBest, best_there, if_some, scale_positive, share_for}
+use Rattle.plan_rounds.{specs.Terms.{Best, IsFullHistory, IsSpotIn, AreWorkedRounds, EndsBy, IsBestAt, IsBestOfLast}, specs.declared.rounds.Worked.Worked}
+use Rattle.master_law.{specs.Terms.share_cost, proofs.Greatest.greatest_raw, proofs.Own.bound_rises}
+use Rattle.plan_law.{specs.WorkedLists.{HasCut, Round, after_rounds}, proofs.Rounds.worked_cuts}
+use Rattle.planner.{specs.SnapshotPlans.AreHeld, specs.SoundPlans.{AreOpeningAtMost, IsAboveOwnBounds, IsOwnAtMost}, specs.declared.own_bound.CertifiedBound.CertifiedBound, specs.inner.Finishing.{AreMultipliersOf, IsBetterBound, IsBoundOfMaster, IsGreaterBound, IsShareFor, bound_made}, proofs.BestBounds.{best_certified, each_at_most}, proofs.Candidates.{AreCandidates, IsCertifiedBound}, proofs.GreaterBounds.{best_is_certified, best_multipliers, lines_of_best, lines_of_own, no_greater}, proofs.SnapshotQuality.{HasBest, best_there, if_some, scale_positive, share_for}}
 
 -- rounds only add to a list
 rounds_after : (start : List CutLine) (rounds : List Round) → (more : List CutLine) × (after_rounds start rounds ≡ start ++ more)

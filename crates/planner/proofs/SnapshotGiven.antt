@@ -3,22 +3,11 @@ use Rattle.std.proofs.Common.{◌≡◌, ℕ, ◌≤◌, List, All, IfSome, get_
 use Rattle.net_core.proofs.Library.{∥∥₁_elim, ∥∥₁_map, take-length, props, length-map}
 use Rattle.plan_terms.specs.Terms.{Entry, Network, CutLine, States, Case, graph_in, AreDemands, IsNetwork, case, IsCut, HasShortLengths}
 use Rattle.plan_types.specs.declared.plan.Plan.{Plan}
-use Rattle.cut_pool.specs.Terms.{cut_of_line, cuts_of, IsSnapshotOf, opening_case}
-use Rattle.cut_pool.specs.declared.board.Board.{Board}
-use Rattle.cut_pool.specs.declared.snapshot.Snapshot.{Snapshot}
-use Rattle.plan_rounds.specs.declared.rounds.Worked.{Worked}
-use Rattle.plan_rounds.proofs.Rights.{right_low}
+use Rattle.cut_pool.{specs.Terms.{cut_of_line, cuts_of, IsSnapshotOf, opening_case}, specs.declared.board.Board.Board, specs.declared.snapshot.Snapshot.Snapshot}
+use Rattle.plan_rounds.{specs.declared.rounds.Worked.Worked, proofs.Rights.right_low, specs.Terms.{IsSeenHistory, AreWorkedRounds, IsPoolOf}}
 use Rattle.share_covers.specs.declared.choice.Chosen.{Chosen}
 use Rattle.turn_lock.specs.Passes.{Seen}
-use Rattle.plan_rounds.specs.Terms.{IsSeenHistory, AreWorkedRounds, IsPoolOf}
-use Rattle.planner.specs.SnapshotPlans.{IsSnapshotIn, IsSnapshotPlan}
-use Rattle.planner.specs.declared.own_bound.CertifiedBound.{CertifiedBound}
-use Rattle.planner.specs.inner.Candidates.{HaveBounds}
-use Rattle.planner.specs.inner.Finishing.{AreMultipliersOf, AreWorkedOut, IsShareFor, plan_made}
-use Rattle.planner.proofs.BestBounds.{have_bounds}
-use Rattle.planner.proofs.Histories.{cuts_both, version_few}
-use Rattle.planner.proofs.SnapshotBounds.{IsWorkedFor, candidates_are, multipliers_are, shares_are}
-use Rattle.planner.proofs.SnapshotSound.{plan_sound}
+use Rattle.planner.{specs.SnapshotPlans.{IsSnapshotIn, IsSnapshotPlan}, specs.declared.own_bound.CertifiedBound.CertifiedBound, specs.inner.Candidates.HaveBounds, specs.inner.Finishing.{AreMultipliersOf, AreWorkedOut, IsShareFor, plan_made}, proofs.BestBounds.have_bounds, proofs.Histories.{cuts_both, version_few}, proofs.SnapshotBounds.{IsWorkedFor, candidates_are, multipliers_are, shares_are}, proofs.SnapshotSound.plan_sound}
 
 -- the first entries pool no more cuts than all
 first_few : (n : ℕ) (history : List Entry) → length (cuts_of (take n history)) ≤ length (cuts_of history)

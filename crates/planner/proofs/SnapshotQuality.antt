@@ -8,12 +8,8 @@ use Rattle.route_law.specs.Terms.{IsRouteEvidence}
 use Rattle.plan_rounds.specs.Terms.{IsBestOf, Best, EndsBy, IsBestAt, IsBestOfLast, IsCarriedAt, IsWideAt}
 use Rattle.master_law.specs.Terms.{IsLeastShare, share_caps, share_cost}
 use Rattle.plan_law.specs.Terms.{HasQuality, IsLooseByWidth, IsWideInState, KeepsUp, AreCarriedByShare, CostsAtMostCover, CostsRawValue, IsProperShare, Round, after_rounds, IsWorkedList}
-use Rattle.share_covers.specs.Choices.{IsQualityAfter, IsQualityOfShare, IsWideAtCovers}
-use Rattle.share_covers.specs.declared.choice.Chosen.{Chosen}
-use Rattle.planner.specs.inner.Finishing.{IsShareFor}
-use Rattle.planner.proofs.EvidenceForms.{master_evidence_form, route_evidence_form}
-use Rattle.planner.proofs.GreaterBounds.{keeps_up}
-use Rattle.planner.proofs.QualityForms.{installed_form, routed_form, share_caps_form}
+use Rattle.share_covers.{specs.Choices.{IsQualityAfter, IsQualityOfShare, IsWideAtCovers}, specs.declared.choice.Chosen.Chosen}
+use Rattle.planner.{specs.inner.Finishing.IsShareFor, proofs.EvidenceForms.{master_evidence_form, route_evidence_form}, proofs.GreaterBounds.keeps_up, proofs.QualityForms.{installed_form, routed_form, share_caps_form}}
 
 -- a best certificate of the first of some cuts
 pub record HasBest (p : Case) (lines : List CutLine) (best : Best) : Type 0 where

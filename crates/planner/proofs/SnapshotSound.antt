@@ -1,28 +1,16 @@
 -- a plan of a snapshot is sound
 use Rattle.std.proofs.Common.{◌≡◌, ℕ, ◌+◌, ◌^◌, ◌<◌, ◌≤◌, List, All, Option, Some, None, get_or, length, slice_get, refl, sym, ap, subst, arith}
 use Rattle.net_core.proofs.Library.{slice_get-get_or}
-use Rattle.plan_terms.specs.Terms.{Entry, Routing, Case, graph_in, AreDemands, Joins, IsNetwork, AreCounts, AreWithinLimits, capacities, total_cost, raw_value, IsFallback, raised, Carries, HasShortLengths}
-use Rattle.plan_terms.proofs.Lemmas.{lowest_positive, weak_duality}
+use Rattle.plan_terms.{specs.Terms.{Entry, Routing, Case, graph_in, AreDemands, Joins, IsNetwork, AreCounts, AreWithinLimits, capacities, total_cost, raw_value, IsFallback, raised, Carries, HasShortLengths}, proofs.Lemmas.{lowest_positive, weak_duality}}
 use Rattle.plan_types.specs.Terms.{lines_of_certificate}
 use Rattle.plan_report.specs.Terms.{known_to, IsPlanInForm, IsQualityInForm, IsRoutingInForm, Plan, Quality}
 use Rattle.route_law.specs.Terms.{IsLowestRouting}
 use Rattle.cut_pool.specs.declared.snapshot.Snapshot.{Snapshot}
 use Rattle.module_choice.specs.declared.fallback.Fallback.{Fallback}
-use Rattle.plan_rounds.specs.Terms.{Best, AreWorkedRounds}
+use Rattle.plan_rounds.{specs.Terms.{Best, AreWorkedRounds}, specs.declared.rounds.Worked.Worked}
 use Rattle.plan_law.specs.LoosePlans.{HasQuality}
-use Rattle.plan_rounds.specs.declared.rounds.Worked.{Worked}
-use Rattle.share_covers.specs.InstalledRoutes.{installed_caps}
-use Rattle.share_covers.specs.declared.choice.Chosen.{Chosen}
-use Rattle.planner.specs.SnapshotPlans.{IsSnapshotPlan}
-use Rattle.planner.specs.declared.own_bound.CertifiedBound.{CertifiedBound}
-use Rattle.planner.specs.inner.Finishing.{IsBetterBound, IsChosenFor, IsGreaterBound, plan_made}
-use Rattle.planner.proofs.Candidates.{IsCertifiedBound}
-use Rattle.planner.proofs.Carrying.{able}
-use Rattle.planner.proofs.GreaterBounds.{best_multipliers}
-use Rattle.planner.proofs.InForm.{cost_low, demands_in_form, lowest_whole, routing_in_form}
-use Rattle.planner.proofs.QualityForms.{routed_form}
-use Rattle.planner.proofs.SnapshotBounds.{EndsAs, IsWorkedFor, above_own, bound_certified, candidates_are, certificate_cuts, has_best, lines_are, lines_held, raw_at, raw_more}
-use Rattle.planner.proofs.SnapshotQuality.{form_none, form_some, quality_none, quality_some}
+use Rattle.share_covers.{specs.InstalledRoutes.installed_caps, specs.declared.choice.Chosen.Chosen}
+use Rattle.planner.{specs.SnapshotPlans.IsSnapshotPlan, specs.declared.own_bound.CertifiedBound.CertifiedBound, specs.inner.Finishing.{IsBetterBound, IsChosenFor, IsGreaterBound, plan_made}, proofs.Candidates.IsCertifiedBound, proofs.Carrying.able, proofs.GreaterBounds.best_multipliers, proofs.InForm.{cost_low, demands_in_form, lowest_whole, routing_in_form}, proofs.QualityForms.routed_form, proofs.SnapshotBounds.{EndsAs, IsWorkedFor, above_own, bound_certified, candidates_are, certificate_cuts, has_best, lines_are, lines_held, raw_at, raw_more}, proofs.SnapshotQuality.{form_none, form_some, quality_none, quality_some}}
 
 -- ---- the counts
 

@@ -3,14 +3,11 @@ use Rattle.std.specs.Prelude.{◌≡◌, ◌≤◌, ◌⊎◌, List, All, Contai
 use Rattle.plan_terms.specs.Terms.{Entry, CutLine, Case, IsCut, IsFirstSeparation}
 use Rattle.plan_types.specs.Terms.{IsCarryingPlan, IsCertifiedPlan, IsCostedPlan}
 use Rattle.plan_report.specs.Terms.{known_to, IsPlanInForm, Plan}
-use Rattle.cut_pool.specs.Terms.{cut_of_line, cuts_of}
-use Rattle.cut_pool.specs.declared.snapshot.Snapshot.{Snapshot}
+use Rattle.cut_pool.{specs.Terms.{cut_of_line, cuts_of}, specs.declared.snapshot.Snapshot.Snapshot}
 use Rattle.plan_law.specs.LoosePlans.{IsWorkedPlan}
 use Rattle.turn_lock.specs.Passes.{Seen}
 use Rattle.plan_rounds.specs.Terms.{IsFullHistory, IsSpotIn, IsWorkedAlone}
-use Rattle.planner.specs.SoundPlans.{IsAboveOwnBounds, IsBelowFallback, IsLowestPlan}
-use Rattle.planner.specs.declared.answer.PlanAnswer.{PlanAnswer}
-use Rattle.planner.specs.declared.answer.PlanAnswer.TheVariants.{Planned, NotSurvivable}
+use Rattle.planner.{specs.SoundPlans.{IsAboveOwnBounds, IsBelowFallback, IsLowestPlan}, specs.declared.answer.PlanAnswer.PlanAnswer, specs.declared.answer.PlanAnswer.TheVariants.{Planned, NotSurvivable}}
 
 -- a snapshot of the first entries of a history: its cuts are those that they pool, in their order, with right sides at its demands
 pub record IsSnapshotIn (p : Case) (history : List Entry) (snapshot : Snapshot) : Type 0 where

@@ -1,6 +1,5 @@
 -- what else makes a plan sound: its bound isn't below own bounds, its cost isn't above the fallback plan's, and it is in lowest terms
-use Rattle.std.specs.Prelude.{◌≡◌, ℕ, ◌≤◌, ◌<◌, List, [], All, length}
-use Rattle.std.specs.Int.{◌∣◌}
+use Rattle.std.{specs.Prelude.{◌≡◌, ℕ, ◌≤◌, ◌<◌, List, [], All, length}, specs.Int.◌∣◌}
 use Rattle.plan_terms.specs.Terms.{Routing, Case, graph_in, Joins, IsRight, IsFallback, AreOpening, IsOwnBound}
 use Rattle.plan_report.specs.Terms.{Certificate, Plan}
 use Rattle.route_law.specs.Terms.{IsLowestRouting}

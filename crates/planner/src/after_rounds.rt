@@ -1,8 +1,7 @@
 ghost use Rattle.std.specs.Prelude.{◌≡◌, ◌≤◌, IfOk, IfSome, OnOk, length};
 ghost use Rattle.plan_terms.specs.Terms.{case_of, IsSurvivable};
 ghost use Rattle.plan_rounds.specs.Terms.{SeesMore, IsPoolOf, IsWorkedAlone};
-ghost use Rattle.planner.specs.inner.Candidates.{HaveBounds};
-ghost use Rattle.planner.specs.inner.Finishing.{AreAfterRounds, AreMultipliersOf, AreWorkedOut, IsChosenAfter, IsShareFor};
+ghost use Rattle.planner.{specs.inner.Candidates.HaveBounds, specs.inner.Finishing.{AreAfterRounds, AreMultipliersOf, AreWorkedOut, IsChosenAfter, IsShareFor}};
 
 use crate::bound::better_bound;
 use crate::choose_counts::choose_counts;

@@ -1,6 +1,5 @@
 ghost use Rattle.std.specs.Prelude.{◌≡◌, ◌*◌, ◌<◌, ◌≤◌, All, IfOk, IfSome, IsTrue, false, length, map};
-ghost use Rattle.planner.specs.inner.Candidates.{HaveBounds};
-ghost use Rattle.planner.specs.inner.Finishing.{AreMultipliersOf, IsBetterBound, IsBoundOfMaster, line_at};
+ghost use Rattle.planner.{specs.inner.Candidates.HaveBounds, specs.inner.Finishing.{AreMultipliersOf, IsBetterBound, IsBoundOfMaster, line_at}};
 
 use crate::own_bound::{CertifiedBound, best_bound};
 use checked_fraction::cmp;

@@ -2,13 +2,9 @@
 use Rattle.std.proofs.Common.{ℕ, List, Option, Result, Ok, Err, inr}
 use Rattle.plan_terms.specs.Terms.{Problem, Notes, Case, case}
 use Rattle.outside_io.specs.Outside.{Files}
-use Rattle.planner_commands.specs.Run.{Ends}
-use Rattle.planner_commands.specs.inner.Steps.{HasCause}
-use Rattle.input_files.specs.Terms.{PlanWords, EndsAfterInputs, HasInputs, Stops}
-use Rattle.input_files.specs.declared.stop.Stop.{Stop}
-use Rattle.input_files.proofs.Stopping.{stop_map}
-use Rattle.check_answers.specs.declared.answer.Answer.{Answer}
-use Rattle.check_answers.specs.declared.status.Status.{Status}
+use Rattle.input_files.{specs.Terms.{PlanWords, EndsAfterInputs, HasInputs, Stops}, specs.declared.stop.Stop.Stop, proofs.Stopping.stop_map}
+use Rattle.check_answers.{specs.declared.answer.Answer.Answer, specs.declared.status.Status.Status}
+use Rattle.planner_commands.{specs.Run.Ends, specs.inner.Steps.HasCause}
 
 -- the input files are all read, and the run ends with this result
 module _ (files : Option Files) (w : PlanWords) (EndsWith : Case → Notes → Status → List ℕ → Type 0) (problem : Problem) (has : HasInputs files w problem.net problem.demands problem.states.listed) where

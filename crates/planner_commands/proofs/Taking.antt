@@ -1,6 +1,5 @@
 -- what a sink took so far
-use Rattle.std.proofs.Common.{◌≡◌, ℕ, ◌+◌, ◌-◌, ◌≤◌, List, ◌++◌, length, take, drop, Option, None, Some, sym, ◌∙◌, ap, subst, arith, append_assoc, take-append-drop, length-take, length-take-le, take-take}
-use Rattle.std.proofs.Math.Seq.{take-append-add}
+use Rattle.std.{proofs.Common.{◌≡◌, ℕ, ◌+◌, ◌-◌, ◌≤◌, List, ◌++◌, length, take, drop, Option, None, Some, sym, ◌∙◌, ap, subst, arith, append_assoc, take-append-drop, length-take, length-take-le, take-take}, proofs.Math.Seq.take-append-add}
 use Rattle.outside_io.specs.Outside.{Takes, TakesPrefix}
 
 -- so far and the next bytes

@@ -1,7 +1,5 @@
 -- commands, and the words that give them
-use Rattle.std.specs.Prelude.{◌≡◌, ℕ, ◌==◌, ◌≤◌, ◌<◌, ◌^◌, Bool, true, false, not, List, [], ◌∷◌, String, string_bytes, codes, All, length, map}
-use Rattle.std.specs.Global.{Global}
-use Rattle.std.specs.Str.Parse.{IsNumeral, digits_value}
+use Rattle.std.{specs.Prelude.{◌≡◌, ℕ, ◌==◌, ◌≤◌, ◌<◌, ◌^◌, Bool, true, false, not, List, [], ◌∷◌, String, string_bytes, codes, All, length, map}, specs.Global.Global, specs.Str.Parse.{IsNumeral, digits_value}}
 use Rattle.input_files.specs.InputWords.{PlanWords, default}
 
 -- a command: a plan for files; a session of a script; the check of a report; a trimmed plan for files; a plan for files with a branch tree of at most this

@@ -1,8 +1,7 @@
 ghost use Rattle.std.specs.Prelude.{◌≡◌, ◌≤◌, ◌<◌, ◌^◌, ◌==◌, ◌∷◌, [], ℕ, List, IsTrue, ◌↔◌, MatchOption, map, slice_index, string_bytes};
-ghost use Rattle.planner_commands.specs.Commands as commands;
-ghost use Rattle.planner_commands.specs.Commands.{AreFiles, AreFourFiles, AreProof, AreSample, IsCommand, IsNamed, IsNumberWord, MayBeFiles, may_be_file};
-ghost use Rattle.planner_commands.specs.inner.Steps.{asked_command};
 ghost use Rattle.input_files.specs.Terms.{PlanWords, named};
+ghost use Rattle.planner_commands.{specs.Commands.{AreFiles, AreFourFiles, AreProof, AreSample, IsCommand, IsNamed, IsNumberWord, MayBeFiles, may_be_file}, specs.inner.Steps.asked_command};
+ghost use Rattle.planner_commands.specs.Commands as commands;
 
 use crate::words::{Command, FourFiles, ProofWords, SampleWords};
 use input_files::{DEFAULT, PlanFiles};

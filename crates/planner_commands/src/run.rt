@@ -1,13 +1,11 @@
 ghost use Rattle.std.specs.Prelude.{◌≡◌, ℕ, List, ◌≤◌, IfOk, IsErrOf};
 ghost use Rattle.plan_terms.specs.Terms.{case};
 ghost use Rattle.sample_net.specs.Samples.{no_notes};
-ghost use Rattle.planner_commands.specs.Commands as commands;
-ghost use Rattle.planner_commands.specs.Commands.{usage};
 ghost use Rattle.command_answers.specs.Answers.{IsSummary, sample_case};
-ghost use Rattle.planner_commands.specs.Run.{Ends, EndsCheck, EndsCommand, PutsText};
 ghost use Rattle.input_files.specs.Terms.{KeepsShelf, named};
-ghost use Rattle.planner_commands.specs.inner.Steps.{HasCause};
 ghost use Rattle.check_answers.specs.declared.status.Status.{Status};
+ghost use Rattle.planner_commands.{specs.Commands.usage, specs.Run.{Ends, EndsCheck, EndsCommand, PutsText}, specs.inner.Steps.HasCause};
+ghost use Rattle.planner_commands.specs.Commands as commands;
 
 use crate::command::command_of;
 use crate::output::say;

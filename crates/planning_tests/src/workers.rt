@@ -1,6 +1,5 @@
 //! Tests of a separator for a caller at a desk, whose workers run in parallel.
-ghost use Rattle.std.specs.Prelude.{◌≡◌, ◌≤◌, ◌^◌, IfSome, length};
-ghost use Rattle.std.specs.Thread.{IsSync};
+ghost use Rattle.std.{specs.Prelude.{◌≡◌, ◌≤◌, ◌^◌, IfSome, length}, specs.Thread.IsSync};
 ghost use Rattle.hint_board.specs.Hints.{hint_links};
 ghost use Rattle.turn_lock.specs.Passes.{IsPassOf, opening_of, own_units};
 ghost use Rattle.board_desk.specs.Turns.{AreAtOneDesk, IsAtDesk, IsSameCaller, board_made, caller_units};

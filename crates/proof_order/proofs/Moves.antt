@@ -1,13 +1,10 @@
 -- the steps of walks that give new indices
-use Rattle.std.proofs.Common.{◌≡◌, ℕ, List, [], ◌∷◌, ◌++◌, map, ap, sym, ◌∙◌}
-use Rattle.std.proofs.lemmas.List.{append_assoc, map-append}
+use Rattle.std.{proofs.Common.{◌≡◌, ℕ, List, [], ◌∷◌, ◌++◌, map, ap, sym, ◌∙◌}, proofs.lemmas.List.{append_assoc, map-append}}
 use Rattle.master_bound.specs.declared.answer.Multiplier.{Multiplier}
 use Rattle.plan_terms.specs.Terms.{CutLine}
 use Rattle.line_check.specs.declared.line.Line.{Line}
 use Rattle.tree_check.specs.declared.proof.Node.{Node}
-use Rattle.proof_order.specs.Orders.{cuts_among, lines_among, moved_line, moved_multipliers, moved_node}
-use Rattle.proof_order.specs.declared.entry.Entry.{Entry}
-use Rattle.proof_order.proofs.Placed.{cuts_append, lines_append}
+use Rattle.proof_order.{specs.Orders.{cuts_among, lines_among, moved_line, moved_multipliers, moved_node}, specs.declared.entry.Entry.Entry, proofs.Placed.{cuts_append, lines_append}}
 
 -- ---- numerators
 

@@ -4,8 +4,7 @@ use Rattle.net_core.proofs.Library.{All-map, length-map, slice_get_within, optio
 use Rattle.plan_terms.specs.Terms.{Case, CutLine}
 use Rattle.line_check.specs.Terms.{AreNamedBy, WeightedLine, IsMadeFrom, Naming, Source, names_among, sources_of, Multiplier}
 use Rattle.tree_check.specs.Terms.{Inequality, Line, Divided, Table, Plain, Failing}
-use Rattle.proof_order.specs.Orders.{NamesAreKept, cuts_among, cuts_before, is_cut_entry, lines_among, lines_before, moved_line, moved_multipliers, place_of, source_of}
-use Rattle.proof_order.specs.declared.entry.Entry.{Entry}
+use Rattle.proof_order.{specs.Orders.{NamesAreKept, cuts_among, cuts_before, is_cut_entry, lines_among, lines_before, moved_line, moved_multipliers, place_of, source_of}, specs.declared.entry.Entry.Entry}
 use Rattle.proof_order.specs.declared.entry.Entry.TheVariants as entry
 
 -- ---- places

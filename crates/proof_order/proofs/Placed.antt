@@ -1,8 +1,7 @@
 -- the steps of a walk over entries that finds their places
 use Rattle.std.proofs.Common.{◌≡◌, ℕ, zero, suc, ◌+◌, ◌<◌, ◌≤◌, ⊎_elim, List, [], ◌∷◌, ◌++◌, Option, Some, get_or, length, length-append, slice_get, take, if◌then◌else◌, refl, ap, sym, ◌∙◌, arith}
 use Rattle.net_core.proofs.Library.{cases_lt, get_or_from_slice_get, get_or_past, slice_get-get_or, slice_get_past, take_more, option_map_or}
-use Rattle.proof_order.specs.Orders.{cuts_among, cuts_before, is_cut_entry, lines_among, lines_before, place_of}
-use Rattle.proof_order.specs.declared.entry.Entry.{Entry}
+use Rattle.proof_order.{specs.Orders.{cuts_among, cuts_before, is_cut_entry, lines_among, lines_before, place_of}, specs.declared.entry.Entry.Entry}
 use Rattle.proof_order.specs.declared.entry.Entry.TheVariants as entry
 
 pub cuts_append : (es fs : List Entry) → cuts_among (es ++ fs) ≡ cuts_among es ++ cuts_among fs

@@ -1,16 +1,10 @@
 -- entries of a search in the order of a proof: the cuts first, then the lines
-use Rattle.std.specs.Prelude.{◌≡◌, ℕ, ◌+◌, Bool, true, false, if◌then◌else◌, List, [], ◌∷◌, length, map, slice_get, take}
-use Rattle.std.specs.Option.{option_map_or}
-use Rattle.std.proofs.Common.{inl, inr}
+use Rattle.std.{specs.Prelude.{◌≡◌, ℕ, ◌+◌, Bool, true, false, if◌then◌else◌, List, [], ◌∷◌, length, map, slice_get, take}, specs.Option.option_map_or, proofs.Common.{inl, inr}}
 use Rattle.plan_terms.specs.Terms.{Case, CutLine}
 use Rattle.line_check.specs.Terms.{NamesLine, Source, sources_of, Multiplier}
-use Rattle.tree_check.specs.Terms.{Inequality, Line, Divided, Table}
-use Rattle.tree_check.specs.declared.proof.BoxCert.{BoxCert}
-use Rattle.tree_check.specs.declared.proof.Node.{Node}
-use Rattle.tree_check.specs.declared.proof.Node.TheVariants.{Split, Closed, Empty, Spent, Stuck}
-use Rattle.proof_order.specs.declared.entry.Entry.{Entry}
+use Rattle.tree_check.{specs.Terms.{Inequality, Line, Divided, Table}, specs.declared.proof.BoxCert.BoxCert, specs.declared.proof.Node.Node, specs.declared.proof.Node.TheVariants.{Split, Closed, Empty, Spent, Stuck}}
+use Rattle.proof_order.{specs.declared.entry.Entry.Entry, specs.declared.order.Ordered.Ordered}
 use Rattle.proof_order.specs.declared.entry.Entry.TheVariants as entry
-use Rattle.proof_order.specs.declared.order.Ordered.{Ordered}
 
 -- the source that an entry is
 abbrev pub source_of : Entry → Source

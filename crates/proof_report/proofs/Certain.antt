@@ -1,10 +1,8 @@
 -- a plan that is known to be certified is so where the cuts of its certificate are shown
 use Rattle.std.proofs.Common.{◌≡◌, ◌≢◌, ℕ, ◌*◌, ◌/◌, All, subst, sym}
 use Rattle.net_core.proofs.Library.{∥∥₁_elim, props, dvd-mul_right, mul-div_cancel', ◌∣◌}
-use Rattle.plan_terms.specs.Terms.{Case, IsCut, raw_value, IsBound, IsGreatestDivisor, charges}
-use Rattle.plan_terms.proofs.Bounds.{divisor_unique}
-use Rattle.plan_types.specs.Terms.{IsCertifiedPlan, lines_of_certificate}
-use Rattle.plan_types.specs.declared.plan.Plan.{Plan}
+use Rattle.plan_terms.{specs.Terms.{Case, IsCut, raw_value, IsBound, IsGreatestDivisor, charges}, proofs.Bounds.divisor_unique}
+use Rattle.plan_types.{specs.Terms.{IsCertifiedPlan, lines_of_certificate}, specs.declared.plan.Plan.Plan}
 use Rattle.tree_search.proofs.Lemmas.{divisor_exists}
 
 module _ (p : Case) (plan : Plan) (told : ∥ IsCertifiedPlan p plan ∥₁) where

@@ -1,10 +1,7 @@
 -- a tree without splits is its root alone
 use Rattle.std.proofs.Common.{◌≡◌, ◌+◌, ◌≤◌, ◌<◌, List, [], ◌∷◌, ◌++◌, arith, length, refl, subst, take}
 use Rattle.plan_terms.specs.Terms.{Case, Link}
-use Rattle.tree_search.specs.Terms.{HoldsAtNode, IsAcceptedProof, whole_box, IsWhole, TreeBox, boxes_left, sides_of, Node, Split, Closed, Empty, Spent, Stuck}
-use Rattle.tree_search.specs.Terms.{Proof}
-use Rattle.tree_search.specs.FewSplits.{split_number}
-use Rattle.tree_search.proofs.Lemmas.{splits_more}
+use Rattle.tree_search.{specs.Terms.{HoldsAtNode, IsAcceptedProof, whole_box, IsWhole, TreeBox, boxes_left, sides_of, Node, Split, Closed, Empty, Spent, Stuck, Proof}, specs.FewSplits.split_number, proofs.Lemmas.splits_more}
 
 -- the first node has no sides
 first_leaf : (node : Node) (nodes : List Node) (box : TreeBox) → split_number (node ∷ nodes) ≤ 0 → sides_of box node ≡ []

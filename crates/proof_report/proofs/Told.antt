@@ -3,8 +3,7 @@ use Rattle.std.proofs.Common.{ℕ, List, subst, sym}
 use Rattle.net_core.proofs.Library.{get_or_from_slice_get}
 use Rattle.plan_terms.specs.Terms.{Case, Evidence, Route, Master}
 use Rattle.report_comments.specs.ReportComments.{IsOfRouting}
-use Rattle.tree_search.specs.Terms.{Inequality, HoldsAtNode, HoldsNode, IsAcceptedProof, IsEvidenceAt, names_in_proof, TreeBox, Node, Split, Closed, Empty, Spent}
-use Rattle.tree_search.specs.Terms.{Stuck, Proof}
+use Rattle.tree_search.specs.Terms.{Inequality, HoldsAtNode, HoldsNode, IsAcceptedProof, IsEvidenceAt, names_in_proof, TreeBox, Node, Split, Closed, Empty, Spent, Stuck, Proof}
 use Rattle.tree_lines.specs.TreeLines.{IsToldNode, IsToldProof}
 
 evidence_told : (p : Case) (counts : List (List ℕ)) (e : Evidence) → IsEvidenceAt p counts e → IsOfRouting e

@@ -5,13 +5,13 @@ ghost use Rattle.tree_search.specs.FewSplits.{AreCharged};
 ghost use Rattle.proof_report.specs.ProvedReports.{IsLinedEnding, IsLinedReport, IsProofEnding, IsTrimmedOnce};
 
 use crate::handed_cuts::{handed_cuts, work_out};
-use tree_search::prove_instance;
-use tree_search::tree_check::Proof;
 use net_core::{CutLine, Entry, Instance, List, Name, NoMemory, Notes, StateId};
 use outside_io::Gate;
 use std::alloc::Global;
 use std::sync::Wait;
 use std::thread::Threads;
+use tree_search::prove_instance;
+use tree_search::tree_check::Proof;
 use trimmed_report::lone_plan::PlannedReport;
 use trimmed_report::{TrimEnding, trim_once};
 

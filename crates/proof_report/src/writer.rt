@@ -7,11 +7,11 @@ ghost use Rattle.tree_lines.specs.TreeLines.{IsToldProof, proof_lines};
 ghost use Rattle.proof_report.specs.ProvedReports.{IsLinedReport, proved_report, proof_text};
 
 use crate::ending::ProvedReport;
-use tree_search::tree_check::Proof;
 use net_core::{Bytes, Copied, Instance, NoMemory};
 use plan_report::write_report;
 use std::alloc::Global;
 use tree_lines::put_proof;
+use tree_search::tree_check::Proof;
 use trimmed_report::lone_plan::PlannedReport;
 
 /// The parts of a proved report: the report with the proof's plan, and the proof.

@@ -1,7 +1,7 @@
 use net_core::{Bytes, List, NoMemory, Problem};
-use tree_reader::{ReadTree, read_tree};
 use report_words::fault::ReportRefusal;
 use std::alloc::Global;
+use tree_reader::{ReadTree, read_tree};
 
 /// The last tokens of a report, before its tree.
 const REPORT: &[u8] = b"OUTCOMES ( )\n";

@@ -3,12 +3,12 @@ use crate::rows::worked;
 use crate::texts::{LINED_TREE, TREE, changed, read};
 use crate::tree_rows::{answer_of, plan_of};
 use net_core::{CutLine, Evidence, List, Problem, WideKind};
-use tree_reader::ReadTree;
 use std::alloc::Global;
 use tree_check::TreeAnswer::{Accepted, Rejected};
 use tree_check::{
     BoxCert, Line, Multiplier, Node, Proof, TableKind, TreeAnswer, Verdict, check_tree,
 };
+use tree_reader::ReadTree;
 
 /// A numerator with the index of its line.
 type TermRow = (u64, u32);

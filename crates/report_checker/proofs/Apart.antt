@@ -2,10 +2,8 @@
 use Rattle.std.proofs.Common.{ℕ, ◌≡◌, ◌<◌, ◌∙◌, List, Option, None, Some, Bool, length, refl, sym, ap, slice_get, subst, ◌↔◌, IsTrue, IfOk, Result, Ok, Err}
 use Rattle.net_core.proofs.Library.{slice_get_within}
 use Rattle.plan_terms.specs.Terms.{Demand, NoMemory, Case, graph_in, Joins, AreApart, IsDistance}
-use Rattle.plan_checker.specs.Terms.{HoldsNone}
-use Rattle.plan_checker.specs.declared.finding.Finding.TheVariants.{Survivable}
-use Rattle.report_checker.specs.Outcomes.{HoldsSurvivable, SeparatesNamed}
-use Rattle.report_checker.specs.inner.Said.{IsSaidSeparation}
+use Rattle.plan_checker.{specs.Terms.HoldsNone, specs.declared.finding.Finding.TheVariants.Survivable}
+use Rattle.report_checker.{specs.Outcomes.{HoldsSurvivable, SeparatesNamed}, specs.inner.Said.IsSaidSeparation}
 
 -- nodes are apart where there is no distance
 pub told_apart : (joins : ℕ → ℕ → ℕ → Type 0) (lengths : List ℕ) (a b : ℕ) (far : Option ℕ) (r : Bool) → (IsTrue r ↔ (far ≡ None)) → IsDistance joins lengths a b far → IsTrue r ↔ AreApart joins a b

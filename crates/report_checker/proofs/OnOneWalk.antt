@@ -1,22 +1,11 @@
 -- outcomes that are checked along a walk
-use Rattle.std.proofs.Common.{◌≡◌, ◌∙◌, ℕ, suc, ◌+◌, ◌<◌, ◌≤◌, All, None, Some, length, get_or, arith, ap, slice_get, subst, ⊎_elim, IfErr, OnOk, Result, Ok, Err}
+use Rattle.std.{proofs.Common.{◌≡◌, ◌∙◌, ℕ, suc, ◌+◌, ◌<◌, ◌≤◌, All, None, Some, length, get_or, arith, ap, slice_get, subst, ⊎_elim, IfErr, OnOk, Result, Ok, Err}, proofs.Math.Nat.min-le_right}
 use Rattle.net_core.proofs.Library.{⊤, cases_eq, get_or_from_slice_get, slice_get-get_or}
-use Rattle.std.proofs.Math.Nat.{min-le_right}
 use Rattle.plan_terms.specs.Terms.{Case}
 use Rattle.plan_report.specs.Terms.{Outcome, Report}
-use Rattle.plan_checker.specs.Terms.{HoldNone, StopsFirst, TellFirst}
-use Rattle.plan_checker.specs.declared.finding.CheckAnswer.TheVariants.{Rejected}
-use Rattle.plan_checker.specs.declared.finding.Finding.{Finding}
-use Rattle.plan_checker.specs.declared.stop.Stop.{Stop}
-use Rattle.plan_checker.proofs.Places.{holds_read}
-use Rattle.report_checker.specs.Outcomes.{IsAcceptedOutcome, case_at, outcome_findings}
-use Rattle.report_checker.specs.inner.Along.{AreChecked, AreSoundBefore, IsFirstAfterClean, IsSoundOutcome, outcome_place}
-use Rattle.report_checker.specs.inner.Outcomes.{IsFirstOfOutcomes, TellOutcomes}
-use Rattle.report_checker.specs.inner.Said.{IsSaid, findings_there}
+use Rattle.plan_checker.{specs.Terms.{HoldNone, StopsFirst, TellFirst}, specs.declared.finding.CheckAnswer.TheVariants.Rejected, specs.declared.finding.Finding.Finding, specs.declared.stop.Stop.Stop, proofs.Places.holds_read}
 use Rattle.plan_types.specs.Terms.{outcome_position}
-use Rattle.report_checker.specs.declared.outcomes_along.Checked.{Checked}
-use Rattle.report_checker.proofs.PoolLines.{some_item}
-use Rattle.report_checker.proofs.There.{accepted, all_there}
+use Rattle.report_checker.{specs.Outcomes.{IsAcceptedOutcome, case_at, outcome_findings}, specs.inner.Along.{AreChecked, AreSoundBefore, IsFirstAfterClean, IsSoundOutcome, outcome_place}, specs.inner.Outcomes.{IsFirstOfOutcomes, TellOutcomes}, specs.inner.Said.{IsSaid, findings_there}, specs.declared.outcomes_along.Checked.Checked, proofs.PoolLines.some_item, proofs.There.{accepted, all_there}}
 
 -- what the check of an outcome there shows
 pub sound_met : (p : Case) (r : Report) (o : Outcome) (place : ℕ) (t : Result ⊤ Stop) → TellFirst (findings_there p r o) t → OnOk t (IsSaid (case_at p r.entries (outcome_position o)) o)

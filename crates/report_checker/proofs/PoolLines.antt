@@ -2,8 +2,7 @@
 use Rattle.std.proofs.Common.{ℕ, ◌≡◌, ◌+◌, ◌<◌, List, [], ◌∷◌, Some, length, get_or, arith, slice_get}
 use Rattle.net_core.proofs.Library.{slice_get-get_or}
 use Rattle.plan_terms.specs.Terms.{CutLine, Case, graph_in, AreKept}
-use Rattle.plan_checker.specs.Terms.{HoldsAt}
-use Rattle.plan_checker.proofs.Places.{each_read, holds_read, none_read}
+use Rattle.plan_checker.{specs.Terms.HoldsAt, proofs.Places.{each_read, holds_read, none_read}}
 use Rattle.report_checker.specs.Pools.{IsBadCut}
 
 -- a list that has a place has an item for it

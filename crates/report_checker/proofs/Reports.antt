@@ -1,18 +1,12 @@
 -- answers on outcomes and on whole reports
 use Rattle.std.proofs.Common.{◌≡◌, zero, suc, All, subst, sym}
 use Rattle.net_core.proofs.Library.{All-weaker}
-use Rattle.plan_terms.specs.Terms.{Notes, Case}
-use Rattle.plan_terms.proofs.Lemmas.{weak_duality}
+use Rattle.plan_terms.{specs.Terms.{Notes, Case}, proofs.Lemmas.weak_duality}
 use Rattle.plan_types.specs.Terms.{lines_of_certificate}
 use Rattle.plan_report.specs.Terms.{Outcome, Planned, Unsurvivable, Report}
-use Rattle.plan_checker.specs.Terms.{HoldNone, StopsFirst}
-use Rattle.plan_checker.specs.declared.finding.CheckAnswer.{CheckAnswer}
-use Rattle.plan_checker.specs.declared.finding.CheckAnswer.TheVariants.{Accepted, NoMemory, Rejected}
-use Rattle.plan_checker.specs.declared.stop.Stop.{Stop}
+use Rattle.plan_checker.{specs.Terms.{HoldNone, StopsFirst}, specs.declared.finding.CheckAnswer.CheckAnswer, specs.declared.finding.CheckAnswer.TheVariants.{Accepted, NoMemory, Rejected}, specs.declared.stop.Stop.Stop}
+use Rattle.report_checker.{specs.Outcomes.{IsAcceptedOutcome, IsBelowAllAble, case_at}, specs.ReportFindings.{AnswersReport, whole_findings}, specs.inner.Outcomes.{TellOutcomes, answer_to}}
 use Rattle.plan_checker.specs.declared.stop.Stop.TheVariants as stops
-use Rattle.report_checker.specs.Outcomes.{IsAcceptedOutcome, IsBelowAllAble, case_at}
-use Rattle.report_checker.specs.ReportFindings.{AnswersReport, whole_findings}
-use Rattle.report_checker.specs.inner.Outcomes.{TellOutcomes, answer_to}
 
 -- a report without finding on the whole of it
 pub report_told : (notes : Notes) (p : Case) (r : Report) (a : CheckAnswer) → HoldNone (whole_findings notes p r) → TellOutcomes p r a → AnswersReport notes p r a

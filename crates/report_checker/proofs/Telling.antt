@@ -1,10 +1,8 @@
 -- that no finding of a kind holds
 use Rattle.std.proofs.Common.{ℕ, List, take}
 use Rattle.plan_terms.specs.Terms.{Entry, CutLine, Case}
-use Rattle.plan_checker.specs.Terms.{HoldsNone, HoldsAt, HasStaleRight}
-use Rattle.plan_checker.specs.declared.finding.Finding.TheVariants.{BadCut, EntryDiffers, PoolDiffers}
-use Rattle.report_checker.specs.Journals.{HoldsEntryDiffers, IsOtherEntry}
-use Rattle.report_checker.specs.Pools.{HoldsBadCut, HoldsPoolDiffers, IsBadCut}
+use Rattle.plan_checker.{specs.Terms.{HoldsNone, HoldsAt, HasStaleRight}, specs.declared.finding.Finding.TheVariants.{BadCut, EntryDiffers, PoolDiffers}}
+use Rattle.report_checker.{specs.Journals.{HoldsEntryDiffers, IsOtherEntry}, specs.Pools.{HoldsBadCut, HoldsPoolDiffers, IsBadCut}}
 
 pub no_entry : (p : Case) (entries : List Entry) → ((k : ℕ) → HoldsAt entries k (IsOtherEntry p (take k entries)) → ⊥) → HoldsNone (HoldsEntryDiffers p entries)
 no_entry p entries none (EntryDiffers position) h = none h.0 h.2.0

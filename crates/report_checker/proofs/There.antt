@@ -3,14 +3,9 @@ use Rattle.std.proofs.Common.{◌≡◌, ◌∙◌, List, length, nat_le, refl, 
 use Rattle.net_core.proofs.Library.{⊤}
 use Rattle.plan_terms.specs.Terms.{Demand, Case}
 use Rattle.plan_report.specs.Terms.{Outcome, Planned, Unsurvivable, Report}
-use Rattle.plan_checker.specs.Terms.{HoldsNone, TellFirst}
-use Rattle.plan_checker.specs.declared.stop.Stop.{Stop}
-use Rattle.plan_checker.proofs.Firsts.{told_later}
-use Rattle.report_checker.specs.Outcomes.{HoldsVersionDiffers, IsAcceptedOutcome, case_at, outcome_findings}
-use Rattle.report_checker.specs.inner.Said.{IsSaid, findings_there, outcome_version, said_findings}
+use Rattle.plan_checker.{specs.Terms.{HoldsNone, TellFirst}, specs.declared.stop.Stop.Stop, proofs.Firsts.told_later}
 use Rattle.plan_types.specs.Terms.{outcome_position}
-use Rattle.report_checker.specs.inner.Walks.{HasPassed}
-use Rattle.report_checker.specs.declared.walk.Walk.{Walk}
+use Rattle.report_checker.{specs.Outcomes.{HoldsVersionDiffers, IsAcceptedOutcome, case_at, outcome_findings}, specs.inner.Said.{IsSaid, findings_there, outcome_version, said_findings}, specs.inner.Walks.HasPassed, specs.declared.walk.Walk.Walk}
 
 -- the findings are those there
 pub all_there : (p : Case) (r : Report) (o : Outcome) → findings_there p r o ≡ outcome_findings p r o

@@ -2,10 +2,8 @@
 use Rattle.std.proofs.Common.{◌≡◌, ◌∙◌, ℕ, ◌+◌, ◌-◌, ◌^◌, ◌<◌, ◌≤◌, suc, Bool, List, [], ◌∷◌, ◌++◌, IsTrue, ◌↔◌, length, get_or, take, take-suc, nat_eq, sym, ap, subst, arith, IfOk, OnOk, Result, Ok, Err, eq-eqb, eqb-true, append-nil, length-append, length-take-le}
 use Rattle.net_core.proofs.Library.{flat_map-append}
 use Rattle.plan_terms.specs.Terms.{Edit, Entry, Edited, Pooled, Reply, StateId, NoMemory, Case, edit_reply, version_after}
-use Rattle.cut_pool.specs.Terms.{Dated, cuts_of, demands_left, left_by, left_by_entry, pooled_by, version_left}
-use Rattle.cut_pool.proofs.Growing.{left_more}
-use Rattle.report_checker.specs.inner.Walks.{HasPassed, Passes}
-use Rattle.report_checker.specs.declared.walk.Walk.{Walk}
+use Rattle.cut_pool.{specs.Terms.{Dated, cuts_of, demands_left, left_by, left_by_entry, pooled_by, version_left}, proofs.Growing.left_more}
+use Rattle.report_checker.{specs.inner.Walks.{HasPassed, Passes}, specs.declared.walk.Walk.Walk}
 
 -- what the opening demands are at first
 abbrev opening : Case → Dated

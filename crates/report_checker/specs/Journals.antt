@@ -2,9 +2,7 @@
 use Rattle.std.specs.Prelude.{◌≡◌, ◌≢◌, ℕ, ◌+◌, List, length, take}
 use Rattle.plan_terms.specs.Terms.{Entry, Edited, Pooled, Notes, Case, edit_reply}
 use Rattle.cut_pool.specs.Terms.{cuts_of, demands_left, version_left}
-use Rattle.plan_checker.specs.Terms.{HoldsAt, IsLeastPlace}
-use Rattle.plan_checker.specs.declared.finding.Finding.{Finding}
-use Rattle.plan_checker.specs.declared.finding.Finding.TheVariants.{EntryDiffers, NotesDiffer}
+use Rattle.plan_checker.{specs.Terms.{HoldsAt, IsLeastPlace}, specs.declared.finding.Finding.Finding, specs.declared.finding.Finding.TheVariants.{EntryDiffers, NotesDiffer}}
 
 -- the notes aren't the network's
 abbrev pub HoldsNotesDiffer : Notes → Notes → Finding → Type 0

@@ -3,9 +3,7 @@ use Rattle.std.specs.Prelude.{◌≡◌, ◌≢◌, ℕ, ◌<◌, ◌≤◌, ◌
 use Rattle.plan_terms.specs.Terms.{Entry, Case, IsAble, total_cost, Separates}
 use Rattle.plan_report.specs.Terms.{Outcome, Planned, Unsurvivable, Report}
 use Rattle.cut_pool.specs.Terms.{version_at, case_left}
-use Rattle.plan_checker.specs.Terms.{Kind, IsAcceptedPlan, plan_findings}
-use Rattle.plan_checker.specs.declared.finding.Finding.{Finding}
-use Rattle.plan_checker.specs.declared.finding.Finding.TheVariants.{Survivable, VersionDiffers}
+use Rattle.plan_checker.{specs.Terms.{Kind, IsAcceptedPlan, plan_findings}, specs.declared.finding.Finding.Finding, specs.declared.finding.Finding.TheVariants.{Survivable, VersionDiffers}}
 
 -- the case with the demands at a position of the journal
 abbrev pub case_at : Case → List Entry → ℕ → Case

@@ -2,9 +2,7 @@
 use Rattle.std.specs.Prelude.{◌≡◌, ◌≢◌, ℕ, ◌<◌, ◌⊎◌, List, length}
 use Rattle.plan_terms.specs.Terms.{Entry, CutLine, Case, graph_in, AreKept}
 use Rattle.cut_pool.specs.Terms.{cut_of_line, cuts_of}
-use Rattle.plan_checker.specs.Terms.{HoldsAt, IsLeastPlace, HasStaleRight}
-use Rattle.plan_checker.specs.declared.finding.Finding.{Finding}
-use Rattle.plan_checker.specs.declared.finding.Finding.TheVariants.{BadCut, PoolCount, PoolDiffers}
+use Rattle.plan_checker.{specs.Terms.{HoldsAt, IsLeastPlace, HasStaleRight}, specs.declared.finding.Finding.Finding, specs.declared.finding.Finding.TheVariants.{BadCut, PoolCount, PoolDiffers}}
 
 -- the pool has another number of lines than the journal has cuts
 abbrev pub HoldsPoolCount : List Entry → List CutLine → Finding → Type 0

@@ -2,14 +2,9 @@
 use Rattle.std.specs.Prelude.{ℕ, zero, suc, ◌<◌, List, [], ◌∷◌, All}
 use Rattle.plan_terms.specs.Terms.{Notes, Case}
 use Rattle.plan_types.specs.declared.report.Report.{Report}
-use Rattle.plan_checker.specs.Terms.{HoldNone, IsFirstFinding, Kind, HoldsAt}
-use Rattle.plan_checker.specs.declared.finding.CheckAnswer.{CheckAnswer}
-use Rattle.plan_checker.specs.declared.finding.CheckAnswer.TheVariants.{Accepted, NoMemory, Rejected}
-use Rattle.plan_checker.specs.declared.finding.Finding.{Finding}
-use Rattle.report_checker.specs.Journals.{HoldsEntryDiffers, HoldsNotesDiffer}
-use Rattle.report_checker.specs.Outcomes.{outcome_findings}
-use Rattle.report_checker.specs.Pools.{HoldsBadCut, HoldsPoolCount, HoldsPoolDiffers}
+use Rattle.plan_checker.{specs.Terms.{HoldNone, IsFirstFinding, Kind, HoldsAt}, specs.declared.finding.CheckAnswer.CheckAnswer, specs.declared.finding.CheckAnswer.TheVariants.{Accepted, NoMemory, Rejected}, specs.declared.finding.Finding.Finding}
 use Rattle.cut_pool.specs.Terms.{case_left}
+use Rattle.report_checker.{specs.Journals.{HoldsEntryDiffers, HoldsNotesDiffer}, specs.Outcomes.outcome_findings, specs.Pools.{HoldsBadCut, HoldsPoolCount, HoldsPoolDiffers}}
 
 -- the kinds of findings on the whole report, where these are the network's notes, and the case has the opening demands
 abbrev pub whole_findings : Notes → Case → Report → List Kind

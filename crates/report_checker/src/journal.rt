@@ -1,8 +1,7 @@
 ghost use Rattle.std.specs.Prelude.{◌≡◌, ◌≤◌, All, IfErr, IfOk, length};
 ghost use Rattle.plan_terms.specs.Terms.{case_of};
 ghost use Rattle.plan_checker.specs.Terms.{HoldsNone, StopsBy, Tells};
-ghost use Rattle.report_checker.specs.Journals.{HoldsEntryDiffers, HoldsNotesDiffer};
-ghost use Rattle.report_checker.specs.inner.Walks.{HasPassed, HasSmallNeed};
+ghost use Rattle.report_checker.{specs.Journals.{HoldsEntryDiffers, HoldsNotesDiffer}, specs.inner.Walks.{HasPassed, HasSmallNeed}};
 
 use crate::walk::{Walk, walk_from};
 use net_core::{Entry, Instance, Notes};

@@ -2,11 +2,8 @@ ghost use Rattle.std.specs.Prelude.{◌≡◌, ◌+◌, ◌<◌, ◌↔◌, IfEr
 ghost use Rattle.plan_terms.specs.Terms.{Joins, case_of, graph, AreApart};
 ghost use Rattle.plan_report.specs.Terms.{known_of, IsOutcomeInForm};
 ghost use Rattle.plan_checker.specs.Terms.{StopsFirst, TellFirst, Tells};
-ghost use Rattle.report_checker.specs.Outcomes.{HoldsSurvivable, HoldsVersionDiffers, SeparatesNamed, case_at, outcome_findings};
-ghost use Rattle.report_checker.specs.inner.Along.{IsSoundOutcome, outcome_place};
-ghost use Rattle.report_checker.specs.inner.Said.{IsSaidSeparation, IsSaid, findings_there, outcome_version, said_findings};
 ghost use Rattle.plan_types.specs.Terms.{outcome_position};
-ghost use Rattle.report_checker.specs.inner.Walks.{HasPassed};
+ghost use Rattle.report_checker.{specs.Outcomes.{HoldsSurvivable, HoldsVersionDiffers, SeparatesNamed, case_at, outcome_findings}, specs.inner.Along.{IsSoundOutcome, outcome_place}, specs.inner.Said.{IsSaidSeparation, IsSaid, findings_there, outcome_version, said_findings}, specs.inner.Walks.HasPassed};
 
 use crate::walk::Walk;
 use net_core::{CutLine, Demand, Instance, List, Name, NoMemory, StateId};

@@ -3,10 +3,7 @@ ghost use Rattle.plan_terms.specs.Terms.{Case, case_of};
 ghost use Rattle.plan_checker.specs.declared.finding.CheckAnswer.TheVariants.{Accepted};
 ghost use Rattle.plan_report.specs.Terms.{known_of, IsReportInForm};
 ghost use Rattle.plan_types.specs.declared.report.Report.{Report as Whole};
-ghost use Rattle.report_checker.specs.Outcomes.{IsAcceptedOutcome};
-ghost use Rattle.report_checker.specs.inner.Along.{AreChecked};
-ghost use Rattle.report_checker.specs.inner.Outcomes.{TellOutcomes};
-ghost use Rattle.report_checker.specs.inner.Walks.{HasPassed};
+ghost use Rattle.report_checker.{specs.Outcomes.IsAcceptedOutcome, specs.inner.Along.AreChecked, specs.inner.Outcomes.TellOutcomes, specs.inner.Walks.HasPassed};
 
 use crate::outcomes::check_outcome_if_here;
 use crate::walk::{Walk, walk_from};

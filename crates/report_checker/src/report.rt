@@ -2,9 +2,7 @@ ghost use Rattle.std.specs.Prelude.{◌≡◌, ◌≤◌, All, OnOk, length};
 ghost use Rattle.plan_terms.specs.Terms.{AreDemands, case, case_of};
 ghost use Rattle.plan_report.specs.Terms.{known_of, IsReportInForm};
 ghost use Rattle.plan_checker.specs.Terms.{TellFirst};
-ghost use Rattle.report_checker.specs.Outcomes.{IsAcceptedOutcome, IsBelowAllAble};
-ghost use Rattle.report_checker.specs.ReportFindings.{AnswersReport, whole_findings};
-ghost use Rattle.report_checker.specs.inner.Outcomes.{TellOutcomes, answer_to};
+ghost use Rattle.report_checker.{specs.Outcomes.{IsAcceptedOutcome, IsBelowAllAble}, specs.ReportFindings.{AnswersReport, whole_findings}, specs.inner.Outcomes.{TellOutcomes, answer_to}};
 
 use crate::journal::{check_entries, check_notes};
 use crate::outcomes_along::check_outcomes;

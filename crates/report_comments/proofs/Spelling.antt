@@ -2,8 +2,7 @@
 use Rattle.std.proofs.Common.{◌∷◌, [], ◌++◌, codes, flat_map}
 use Rattle.plan_report.specs.Terms.{KnownNames, entry_items, notes_items, numbered_from, outcome_items, pool_line_items, report_header, report_items, report_text, Report}
 use Rattle.text_kit.specs.Terms.{section, written}
-use Rattle.report_comments.specs.ReportComments.{ReportsTakeComments}
-use Rattle.report_comments.proofs.Endings.{EndsLine, comments_taken, ends_after, section_ends, written_after}
+use Rattle.report_comments.{specs.ReportComments.ReportsTakeComments, proofs.Endings.{EndsLine, comments_taken, ends_after, section_ends, written_after}}
 
 report_ends : (known : KnownNames) (r : Report) → EndsLine (report_text known r)
 report_ends known r =

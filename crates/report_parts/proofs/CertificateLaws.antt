@@ -2,15 +2,10 @@
 use Rattle.std.proofs.Common.{◌≡◌, ◌⊎◌, inl, inr, ℕ, ◌+◌, ◌^◌, ◌<◌, ◌≤◌, true, List, [], ◌∷◌, ◌++◌, length, All, Err, refl, sym, ap, subst, ◌∙◌, arith, append_assoc, codes, slice_get}
 use Rattle.net_core.proofs.Library.{slice_get-get_or}
 use Rattle.plan_terms.specs.Terms.{CutLine}
-use Rattle.text_kit.specs.Terms.{Item, Verbatim, Whole, Opening, Closing}
-use Rattle.text_kit.proofs.Beginnings.{AnyText}
-use Rattle.text_kit.proofs.Spelled.{Lawful}
+use Rattle.text_kit.{specs.Terms.{Item, Verbatim, Whole, Opening, Closing}, proofs.Beginnings.AnyText, proofs.Spelled.Lawful}
 use Rattle.plan_report.specs.Terms.{AreLinkNumbers, IsCertificateLineInForm, IsCutInForm, IsOfPool, line_lengths, line_state, certificate_items, certificate_line_items, spot_items, KnownNames, CertLine, Certificate, Spot, Pool, Local}
-use Rattle.report_words.specs.declared.fault.ReportKind.TheVariants.{Token}
-use Rattle.report_parts.specs.declared.spot_cut.SpotCut.{SpotCut}
-use Rattle.report_words.specs.Terms.{closing_at, has_room}
-use Rattle.report_parts.specs.ReadingParts.{certificate_at, certificate_line_at, local_spot_at, of_line, pool_spot_at, right_side_at, spot_at}
-use Rattle.report_words.proofs.Lemmas.{branches_law, either_form, lawful_branch, lawful_no_branch, field_law, few_law, MadeOf, law_made, made_last, made_then, numbers_law, closing_law, keyword_law, number_law, opening_law, opening_within_law}
+use Rattle.report_words.{specs.declared.fault.ReportKind.TheVariants.Token, specs.Terms.{closing_at, has_room}, proofs.Lemmas.{branches_law, either_form, lawful_branch, lawful_no_branch, field_law, few_law, MadeOf, law_made, made_last, made_then, numbers_law, closing_law, keyword_law, number_law, opening_law, opening_within_law}}
+use Rattle.report_parts.{specs.declared.spot_cut.SpotCut.SpotCut, specs.ReadingParts.{certificate_at, certificate_line_at, local_spot_at, of_line, pool_spot_at, right_side_at, spot_at}}
 
 module _ (names : KnownNames) (pool : List CutLine) where
   abbrev IsPlacedAt : Spot → SpotCut → Type 0

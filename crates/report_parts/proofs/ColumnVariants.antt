@@ -1,10 +1,10 @@
 -- What holds of each variant of columns, evidence and quality holds of all.
 use Rattle.std.proofs.Common.{ℕ, List}
 use Rattle.plan_terms.specs.Terms.{Evidence, Route, Master, MasterColumn, RouteColumn, WideKind, LinkId, StateId, Caps}
+use Rattle.plan_report.specs.Terms.{Wide, Cuts, Fractional, Quality, Tight, Loose}
 use Rattle.net_core.specs.declared.columns.MasterColumn.TheVariants as master
 use Rattle.net_core.specs.declared.columns.RouteColumn.TheVariants as route
 use Rattle.net_core.specs.declared.columns.WideKind.TheVariants as wide
-use Rattle.plan_report.specs.Terms.{Wide, Cuts, Fractional, Quality, Tight, Loose}
 
 pub route_cases : (M : RouteColumn → Type 0) → ((e : LinkId) → M (route.LinkSlack e)) → ((k : ℕ) → M (route.DemandSlack k)) → ((k : ℕ) (path : List LinkId) → M (route.Carry k path)) → (c : RouteColumn) → M c
 route_cases M link demand carry (route.LinkSlack e) = link e

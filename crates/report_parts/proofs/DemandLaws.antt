@@ -1,14 +1,10 @@
 -- The reading of the demands of a plan takes exactly their texts.
 use Rattle.std.proofs.Common.{◌≡◌, ◌≢◌, ℕ, ◌<◌, false, List, [], length, AllPairs, refl, codes, flat_map}
 use Rattle.plan_terms.specs.Terms.{Demand, Places, is_named}
-use Rattle.text_kit.specs.Terms.{ComeAfter, no_fault, Parenthesis, ends_items, section}
-use Rattle.text_kit.proofs.Beginnings.{AnyText}
-use Rattle.text_kit.proofs.Lemmas.{after_as, after_differ, lawful_list}
-use Rattle.text_kit.proofs.Spelled.{Lawful}
+use Rattle.text_kit.{specs.Terms.{ComeAfter, no_fault, Parenthesis, ends_items, section}, proofs.Beginnings.AnyText, proofs.Lemmas.{after_as, after_differ, lawful_list}, proofs.Spelled.Lawful}
 use Rattle.plan_report.specs.Terms.{IsDemandInForm, demand_items, node_name}
-use Rattle.report_words.specs.Terms.{closing_at}
+use Rattle.report_words.{specs.Terms.closing_at, proofs.Lemmas.{law_made, made_last, made_law, made_then, AreApart, amount_law, closing_law, keyword_law, new_demand_law, node_law, opening_law}}
 use Rattle.report_parts.specs.ReadingParts.{nodes_at, plan_demand_at, plan_demands_at}
-use Rattle.report_words.proofs.Lemmas.{law_made, made_last, made_law, made_then, AreApart, amount_law, closing_law, keyword_law, new_demand_law, node_law, opening_law}
 
 module _ (nodes : List (List ℕ)) (nodes_apart : AllPairs (λ x y. x ≢ y) nodes) where
   nodes_law : Lawful (nodes_at nodes) (λ e. ends_items (node_name nodes e.0) (node_name nodes e.1)) (λ e. (e.0.0 < length nodes) × (e.1.0 < length nodes)) AnyText

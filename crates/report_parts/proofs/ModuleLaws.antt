@@ -3,17 +3,10 @@ use Rattle.std.proofs.Common.{◌≡◌, ℕ, suc, ◌+◌, ◌*◌, ◌^◌, �
 use Rattle.net_core.proofs.Library.{and_parts, All-cons, All-nil, All-head, All-tail, sum_by-cons}
 use Rattle.plan_terms.specs.Terms.{Link, Module, AreCounts, AreWithinLimits, capacities, modules_capacity}
 use Rattle.snd_tokens.specs.Terms.{Text, WordAt, OpenAt, CloseAt, EndAt}
-use Rattle.text_kit.specs.Terms.{Closing, ComeAfter, Item, Verbatim, Whole, of_length, Parenthesis, word_at, section}
-use Rattle.text_kit.proofs.Beginnings.{AnyText, Starts}
-use Rattle.text_kit.proofs.Lemmas.{lawful_as, lawful_list, lawful_word}
-use Rattle.text_kit.proofs.Spelled.{Lawful}
+use Rattle.text_kit.{specs.Terms.{Closing, ComeAfter, Item, Verbatim, Whole, of_length, Parenthesis, word_at, section}, proofs.Beginnings.{AnyText, Starts}, proofs.Lemmas.{lawful_as, lawful_list, lawful_word}, proofs.Spelled.Lawful}
 use Rattle.plan_report.specs.Terms.{modules_items}
-use Rattle.report_words.specs.declared.fault.ReportKind.{ReportKind}
-use Rattle.report_words.specs.declared.fault.ReportKind.TheVariants.{Token, Ended, Limit}
-use Rattle.report_words.specs.Terms.{has_room, unknown_name, whole_within}
-use Rattle.report_parts.specs.ReadingParts.{all_counts_at, count_at, count_within, counts_at, modules_at, next_counts_at}
-use Rattle.report_parts.proofs.Counts.{capacity_none}
-use Rattle.report_words.proofs.Lemmas.{is_length, lawful_placed, length_is, placed_items, law_made, made_law, made_then, few_so_far, keyword_law, opening_law, room_so_far, room_takes, this_name_law, whole_again, whole_takes}
+use Rattle.report_words.{specs.declared.fault.ReportKind.ReportKind, specs.declared.fault.ReportKind.TheVariants.{Token, Ended, Limit}, specs.Terms.{has_room, unknown_name, whole_within}, proofs.Lemmas.{is_length, lawful_placed, length_is, placed_items, law_made, made_law, made_then, few_so_far, keyword_law, opening_law, room_so_far, room_takes, this_name_law, whole_again, whole_takes}}
+use Rattle.report_parts.{specs.ReadingParts.{all_counts_at, count_at, count_within, counts_at, modules_at, next_counts_at}, proofs.Counts.capacity_none}
 
 -- ---- capacities
 

@@ -2,16 +2,10 @@
 use Rattle.std.proofs.Common.{◌≡◌, ℕ, ◌+◌, ◌^◌, Bool, true, List, [], ◌∷◌, length, Option, None, Some, Err, refl, codes, slice_get}
 use Rattle.plan_terms.specs.Terms.{MasterColumn, RouteColumn, Demand, LinkId, Link, Places, CutLine, Flow, Routing}
 use Rattle.snd_tokens.specs.Terms.{EndAt}
-use Rattle.text_kit.specs.Terms.{no_fault, not_empty, of_length, Parenthesis}
-use Rattle.text_kit.proofs.Lemmas.{IsOnline, TakesSome, online_close, online_give, online_list, online_open, online_then, online_word, takes_some}
+use Rattle.text_kit.{specs.Terms.{no_fault, not_empty, of_length, Parenthesis}, proofs.Lemmas.{IsOnline, TakesSome, online_close, online_give, online_list, online_open, online_then, online_word, takes_some}}
 use Rattle.plan_report.specs.Terms.{KnownNames, CertLine}
-use Rattle.report_words.specs.declared.fault.ReportKind.TheVariants.{Token, Ended, Limit}
-use Rattle.report_words.specs.Terms.{Branches, branch_at, branch_within, has_room, link_at, link_of, unknown_name, whole_within}
-use Rattle.report_parts.specs.ReadingRoutings.{flow_at, path_at, routing_at, routings_at}
-use Rattle.report_parts.specs.ReadingQuality.{basis_at, caps_at, carry_at, evidence_at, fractional_at, left_at, loose_at, master_at, metric_at, price_at, quality_at, route_at, slack_at, tight_at, too_wide_at, wide_entry_at, wide_length_at, wide_number_at, wide_row_at, wide_sum_at, master_column_branches, master_wide_branches, route_column_branches, route_wide_branches}
-use Rattle.report_parts.specs.ReadingParts.{all_counts_at, certificate_at, certificate_line_at, count_at, count_within, counts_at, local_spot_at, modules_at, next_counts_at, nodes_at, plan_demand_at, plan_demands_at, pool_spot_at, right_side_at, spot_at}
-use Rattle.report_words.proofs.Branching.{AllOnline}
-use Rattle.report_words.proofs.Lemmas.{online_branch, field_online, column_some, numbers_online, opening_within_online}
+use Rattle.report_words.{specs.declared.fault.ReportKind.TheVariants.{Token, Ended, Limit}, specs.Terms.{Branches, branch_at, branch_within, has_room, link_at, link_of, unknown_name, whole_within}, proofs.Branching.AllOnline, proofs.Lemmas.{online_branch, field_online, column_some, numbers_online, opening_within_online}}
+use Rattle.report_parts.{specs.ReadingRoutings.{flow_at, path_at, routing_at, routings_at}, specs.ReadingQuality.{basis_at, caps_at, carry_at, evidence_at, fractional_at, left_at, loose_at, master_at, metric_at, price_at, quality_at, route_at, slack_at, tight_at, too_wide_at, wide_entry_at, wide_length_at, wide_number_at, wide_row_at, wide_sum_at, master_column_branches, master_wide_branches, route_column_branches, route_wide_branches}, specs.ReadingParts.{all_counts_at, certificate_at, certificate_line_at, count_at, count_within, counts_at, local_spot_at, modules_at, next_counts_at, nodes_at, plan_demand_at, plan_demands_at, pool_spot_at, right_side_at, spot_at}}
 
 -- ---- routings
 

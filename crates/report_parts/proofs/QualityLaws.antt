@@ -1,19 +1,13 @@
 -- The readings of how good a bound is take exactly their texts.
 use Rattle.std.proofs.Common.{◌≡◌, inl, inr, ℕ, ◌+◌, ◌^◌, ◌<◌, Bool, true, List, [], ◌∷◌, ◌++◌, length, All, Err, refl, sym, ap, arith, append_assoc, codes, flat_map}
 use Rattle.plan_terms.specs.Terms.{Evidence, Route, Master, MasterColumn, RouteColumn, WideKind, Demand, LinkId, Routing}
+use Rattle.text_kit.{specs.Terms.{Item, Verbatim, Whole, enclosed}, proofs.Beginnings.AnyText, proofs.Spelled.Lawful}
+use Rattle.plan_report.specs.Terms.{AreCapsInForm, AreRoutingsInForm, IsCauseInForm, IsEvidenceInForm, IsKindInForm, IsMasterColumnInForm, IsQualityInForm, IsRouteColumnInForm, IsShareInForm, cause_items, evidence_items, master_column_items, numbers_items, quality_items, route_column_items, routings_items, wide_items, KnownNames, Wide, Cuts, Fractional, Quality, Tight, Loose}
+use Rattle.report_words.{specs.declared.fault.ReportKind.TheVariants.Token, specs.Terms.{branch_at, branch_within, has_room}, proofs.Lemmas.{branches_law, either_form, lawful_branch, lawful_no_branch, exact_law, law_made, made_give, made_last, made_law, made_then, numbers_law, AreApart, demand_law, link_law, number_law}}
+use Rattle.report_parts.{specs.ReadingQuality.{master_column_branches, master_wide_branches, route_column_branches, route_wide_branches, basis_at, caps_at, carry_at, evidence_at, fractional_at, left_at, loose_at, master_at, metric_at, price_at, quality_at, route_at, slack_at, tight_at, too_wide_at, wide_entry_at, wide_length_at, wide_number_at, wide_row_at, wide_sum_at}, proofs.RoutingLaws.{AreLinksApart, path_law, routings_law}, proofs.ColumnVariants.{evidence_cases, master_cases, quality_cases, route_cases, wide_cases}}
 use Rattle.net_core.specs.declared.columns.MasterColumn.TheVariants as master
 use Rattle.net_core.specs.declared.columns.RouteColumn.TheVariants as route
 use Rattle.net_core.specs.declared.columns.WideKind.TheVariants as wide
-use Rattle.text_kit.specs.Terms.{Item, Verbatim, Whole, enclosed}
-use Rattle.text_kit.proofs.Beginnings.{AnyText}
-use Rattle.text_kit.proofs.Spelled.{Lawful}
-use Rattle.plan_report.specs.Terms.{AreCapsInForm, AreRoutingsInForm, IsCauseInForm, IsEvidenceInForm, IsKindInForm, IsMasterColumnInForm, IsQualityInForm, IsRouteColumnInForm, IsShareInForm, cause_items, evidence_items, master_column_items, numbers_items, quality_items, route_column_items, routings_items, wide_items, KnownNames, Wide, Cuts, Fractional, Quality, Tight, Loose}
-use Rattle.report_words.specs.declared.fault.ReportKind.TheVariants.{Token}
-use Rattle.report_words.specs.Terms.{branch_at, branch_within, has_room}
-use Rattle.report_parts.specs.ReadingQuality.{master_column_branches, master_wide_branches, route_column_branches, route_wide_branches, basis_at, caps_at, carry_at, evidence_at, fractional_at, left_at, loose_at, master_at, metric_at, price_at, quality_at, route_at, slack_at, tight_at, too_wide_at, wide_entry_at, wide_length_at, wide_number_at, wide_row_at, wide_sum_at}
-use Rattle.report_words.proofs.Lemmas.{branches_law, either_form, lawful_branch, lawful_no_branch, exact_law, law_made, made_give, made_last, made_law, made_then, numbers_law, AreApart, demand_law, link_law, number_law}
-use Rattle.report_parts.proofs.RoutingLaws.{AreLinksApart, path_law, routings_law}
-use Rattle.report_parts.proofs.ColumnVariants.{evidence_cases, master_cases, quality_cases, route_cases, wide_cases}
 
 module _ (names : KnownNames) (apart : AreLinksApart names.links) where
   -- ---- columns of a program that finds a certificate

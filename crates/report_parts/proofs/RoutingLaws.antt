@@ -1,15 +1,10 @@
 -- The readings of paths and routings take exactly their texts.
 use Rattle.std.proofs.Common.{◌≡◌, ◌≢◌, ℕ, ◌+◌, ◌^◌, ◌<◌, true, List, [], ◌∷◌, length, AllPairs, refl, ap, arith, codes}
 use Rattle.plan_terms.specs.Terms.{Demand, LinkId, Link, Flow, Routing}
-use Rattle.text_kit.specs.Terms.{Verbatim, of_length, enclosed}
-use Rattle.text_kit.proofs.Beginnings.{AnyText}
-use Rattle.text_kit.proofs.Lemmas.{all_after, after_all, lawful_some}
-use Rattle.text_kit.proofs.Spelled.{Lawful}
+use Rattle.text_kit.{specs.Terms.{Verbatim, of_length, enclosed}, proofs.Beginnings.AnyText, proofs.Lemmas.{all_after, after_all, lawful_some}, proofs.Spelled.Lawful}
 use Rattle.plan_report.specs.Terms.{AreRoutingsInForm, IsFlowInForm, IsPathInForm, IsRoutingInForm, flow_items, path_items, routing_items, routings_items, link_name, state_name, KnownNames}
-use Rattle.report_words.specs.declared.fault.ReportKind.TheVariants.{Token, Limit}
-use Rattle.report_words.specs.Terms.{has_room, link_at}
+use Rattle.report_words.{specs.declared.fault.ReportKind.TheVariants.{Token, Limit}, specs.Terms.{has_room, link_at}, proofs.Lemmas.{few_law, few_rooms, is_length, lawful_placed, length_is, numbered_items, rooms_few, law_made, made_last, made_law, made_then, AreApart, demand_within_law, keyword_within_law, link_law, number_law, opening_law, this_name_law, this_number_law}}
 use Rattle.report_parts.specs.ReadingRoutings.{flow_at, path_at, routing_at, routings_at}
-use Rattle.report_words.proofs.Lemmas.{few_law, few_rooms, is_length, lawful_placed, length_is, numbered_items, rooms_few, law_made, made_last, made_law, made_then, AreApart, demand_within_law, keyword_within_law, link_law, number_law, opening_law, this_name_law, this_number_law}
 
 -- ---- paths and flows
 

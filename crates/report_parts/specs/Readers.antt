@@ -2,8 +2,8 @@
 use Rattle.std.specs.Prelude.{List}
 use Rattle.plan_terms.specs.Terms.{Demand, Link}
 use Rattle.plan_report.specs.Terms.{KnownNames}
-use Rattle.report_parts.specs.declared.plan_reader.PlanReader.{PlanReader}
 use Rattle.report_words.specs.Terms.{known_in}
+use Rattle.report_parts.specs.declared.plan_reader.PlanReader.{PlanReader}
 
 -- the names of the network and of its states
 abbrev pub reader_names : PlanReader → KnownNames

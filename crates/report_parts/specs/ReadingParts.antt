@@ -3,10 +3,8 @@ use Rattle.std.specs.Prelude.{ℕ, ◌+◌, ◌^◌, nat_lt, ◌&&◌, List, [],
 use Rattle.plan_terms.specs.Terms.{Demand, NodeId, Link, Places, CutLine, modules_capacity}
 use Rattle.text_kit.specs.Terms.{Reading, ◌>>=◌, give, list_at, mapped, no_fault, of_length, Parenthesis, word_at}
 use Rattle.plan_report.specs.Terms.{line_lengths, line_state, KnownNames, CertLine, Certificate, Pool, Local}
-use Rattle.report_words.specs.declared.fault.ReportKind.{ReportKind}
-use Rattle.report_words.specs.declared.fault.ReportKind.TheVariants.{Token, Ended, Limit}
+use Rattle.report_words.{specs.declared.fault.ReportKind.ReportKind, specs.declared.fault.ReportKind.TheVariants.{Token, Ended, Limit}, specs.Terms.{amount_at, closing_at, has_room, keyword_at, new_demand, node_at, number_at, opening_at, opening_within, this_name_at, unknown_name, where_room, whole_within, field_at, branch_at, numbers_at}}
 use Rattle.report_parts.specs.declared.spot_cut.SpotCut.{SpotCut}
-use Rattle.report_words.specs.Terms.{amount_at, closing_at, has_room, keyword_at, new_demand, node_at, number_at, opening_at, opening_within, this_name_at, unknown_name, where_room, whole_within, field_at, branch_at, numbers_at}
 
 -- ---- demands
 

@@ -1,15 +1,13 @@
 -- Reading how good the bound of a plan is.
 use Rattle.std.specs.Prelude.{ℕ, ◌+◌, ◌^◌, List, [], ◌∷◌, length, codes}
 use Rattle.plan_terms.specs.Terms.{Evidence, Route, Master, MasterColumn, RouteColumn, WideKind, Demand, Link, Caps}
+use Rattle.text_kit.specs.Terms.{Reading, ◌>>=◌, give, list_at, mapped, of_length, Parenthesis}
+use Rattle.plan_report.specs.Terms.{KnownNames, Wide, Cuts, Fractional, Quality, Tight, Loose}
+use Rattle.report_words.{specs.declared.fault.ReportKind.ReportKind, specs.declared.fault.ReportKind.TheVariants.Limit, specs.Terms.{demand_at, has_room, link_at, number_at, opening_at, Branches, branch_at, branch_within, numbers_at}}
+use Rattle.report_parts.specs.ReadingRoutings.{path_at, routings_at}
 use Rattle.net_core.specs.declared.columns.MasterColumn.TheVariants as master
 use Rattle.net_core.specs.declared.columns.RouteColumn.TheVariants as route
 use Rattle.net_core.specs.declared.columns.WideKind.TheVariants as wide
-use Rattle.text_kit.specs.Terms.{Reading, ◌>>=◌, give, list_at, mapped, of_length, Parenthesis}
-use Rattle.plan_report.specs.Terms.{KnownNames, Wide, Cuts, Fractional, Quality, Tight, Loose}
-use Rattle.report_words.specs.declared.fault.ReportKind.{ReportKind}
-use Rattle.report_words.specs.declared.fault.ReportKind.TheVariants.{Limit}
-use Rattle.report_words.specs.Terms.{demand_at, has_room, link_at, number_at, opening_at, Branches, branch_at, branch_within, numbers_at}
-use Rattle.report_parts.specs.ReadingRoutings.{path_at, routings_at}
 
 -- ---- columns
 

@@ -3,9 +3,7 @@ use Rattle.std.specs.Prelude.{◌+◌, ◌^◌, List, [], length, codes}
 use Rattle.plan_terms.specs.Terms.{Demand, LinkId, Link, Flow, Routing}
 use Rattle.text_kit.specs.Terms.{Reading, ◌>>=◌, give, list_at, no_fault, not_empty, of_length, Parenthesis}
 use Rattle.plan_report.specs.Terms.{state_name, KnownNames}
-use Rattle.report_words.specs.declared.fault.ReportKind.{ReportKind}
-use Rattle.report_words.specs.declared.fault.ReportKind.TheVariants.{Token, Limit}
-use Rattle.report_words.specs.Terms.{demand_within, has_room, keyword_within, link_at, number_at, opening_at, this_name_at, this_number_at}
+use Rattle.report_words.{specs.declared.fault.ReportKind.ReportKind, specs.declared.fault.ReportKind.TheVariants.{Token, Limit}, specs.Terms.{demand_within, has_room, keyword_within, link_at, number_at, opening_at, this_name_at, this_number_at}}
 
 -- a path: one link or more
 unfoldable pub path_at : List Link → Reading ReportKind (List LinkId)

@@ -2,8 +2,7 @@ ghost use Rattle.std.specs.Prelude.{◌≡◌};
 ghost use Rattle.snd_tokens.specs.Terms.{left};
 ghost use Rattle.text_kit.specs.Terms.{ReadsAs};
 ghost use Rattle.report_words.specs.Terms.{branch_within};
-ghost use Rattle.report_parts.specs.ReadingQuality.{basis_at, carry_at, left_at, master_column_branches, metric_at, price_at, route_column_branches, slack_at};
-ghost use Rattle.report_parts.specs.Readers.{reader_demands, reader_links, reader_names};
+ghost use Rattle.report_parts.{specs.ReadingQuality.{basis_at, carry_at, left_at, master_column_branches, metric_at, price_at, route_column_branches, slack_at}, specs.Readers.{reader_demands, reader_links, reader_names}};
 
 use crate::plan_reader::PlanReader;
 use net_core::{List, MasterColumn, RouteColumn, StateId};

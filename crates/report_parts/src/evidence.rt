@@ -2,8 +2,7 @@ ghost use Rattle.std.specs.Prelude.{◌≡◌, ◌+◌, ◌<◌, ◌^◌, length
 ghost use Rattle.snd_tokens.specs.Terms.{left};
 ghost use Rattle.text_kit.specs.Terms.{ReadsAs};
 ghost use Rattle.report_words.specs.Terms.{branch_at, number_at};
-ghost use Rattle.report_parts.specs.ReadingQuality.{caps_at, evidence_at, master_at, master_column_branches, master_wide_branches, route_at, route_column_branches, route_wide_branches, wide_entry_at, wide_length_at, wide_number_at, wide_row_at, wide_sum_at};
-ghost use Rattle.report_parts.specs.Readers.{reader_demands, reader_links, reader_names};
+ghost use Rattle.report_parts.{specs.ReadingQuality.{caps_at, evidence_at, master_at, master_column_branches, master_wide_branches, route_at, route_column_branches, route_wide_branches, wide_entry_at, wide_length_at, wide_number_at, wide_row_at, wide_sum_at}, specs.Readers.{reader_demands, reader_links, reader_names}};
 
 use crate::plan_reader::PlanReader;
 use net_core::{Caps, Evidence, MasterColumn, RouteColumn, StateId, WideKind};

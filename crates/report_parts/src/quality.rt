@@ -1,8 +1,7 @@
 ghost use Rattle.std.specs.Prelude.{◌≡◌};
 ghost use Rattle.snd_tokens.specs.Terms.{left};
 ghost use Rattle.text_kit.specs.Terms.{ReadsAs};
-ghost use Rattle.report_parts.specs.ReadingQuality.{fractional_at, loose_at, quality_at, tight_at, too_wide_at};
-ghost use Rattle.report_parts.specs.Readers.{reader_demands, reader_names};
+ghost use Rattle.report_parts.{specs.ReadingQuality.{fractional_at, loose_at, quality_at, tight_at, too_wide_at}, specs.Readers.{reader_demands, reader_names}};
 
 use crate::plan_reader::PlanReader;
 use plan_types::{Cause, Fractional, Quality, Share};

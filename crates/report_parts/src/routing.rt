@@ -1,10 +1,9 @@
 ghost use Rattle.std.specs.Prelude.{◌≡◌, ◌≤◌, length};
 ghost use Rattle.snd_tokens.specs.Terms.{left};
 ghost use Rattle.text_kit.specs.Terms.{ReadsAs};
-ghost use Rattle.report_parts.specs.ReadingRoutings.{path_at, routings_at};
-ghost use Rattle.report_parts.specs.Readers.{reader_demands, reader_links, reader_names};
 ghost use Rattle.plan_report.specs.Terms.{state_name};
 ghost use Rattle.report_words.specs.Terms.{this_name_at};
+ghost use Rattle.report_parts.{specs.ReadingRoutings.{path_at, routings_at}, specs.Readers.{reader_demands, reader_links, reader_names}};
 
 use crate::plan_reader::PlanReader;
 use net_core::{Flow, LinkId, List, Path, Routing, States};

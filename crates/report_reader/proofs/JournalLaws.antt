@@ -2,20 +2,10 @@
 use Rattle.std.proofs.Common.{◌≡◌, inl, inr, ℕ, ◌+◌, ◌^◌, ◌<◌, ◌≤◌, Bool, true, false, List, [], ◌∷◌, ◌++◌, length, All, IfOk, Option, None, Some, Result, Ok, Err, refl, sym, ap, subst, ◌∙◌, arith, append-nil, append_assoc, codes, flat_map}
 use Rattle.plan_terms.specs.Terms.{are_same, Set, Add, Drop, Entry, Edited, Pooled, Reply, Accepted, UnknownDemand, KnownDemand, UnknownNode, SelfDemand, TooMany, TooMuch, Notes, Places, CutLine}
 use Rattle.snd_tokens.specs.Terms.{Text}
-use Rattle.text_kit.specs.Reading.{ended_or}
-use Rattle.text_kit.specs.Terms.{ReadsAs, Read, Reading, after, ◌>>=◌, Begins, Item, Verbatim, Closing, no_fault, past_ending, TheWord, IsEditInForm, edit_items, ends_items}
-use Rattle.text_kit.specs.declared.refusal.Refusal.{Refusal}
-use Rattle.text_kit.proofs.Beginnings.{AnyText, IsOther, begins_both, begins_parts, ending_again, ending_takes, is_same, no_ending}
-use Rattle.text_kit.proofs.Lemmas.{lawful_as}
-use Rattle.text_kit.proofs.Spelled.{Lawful, Spelled}
+use Rattle.text_kit.{specs.Reading.ended_or, specs.Terms.{ReadsAs, Read, Reading, after, ◌>>=◌, Begins, Item, Verbatim, Closing, no_fault, past_ending, TheWord, IsEditInForm, edit_items, ends_items}, specs.declared.refusal.Refusal.Refusal, proofs.Beginnings.{AnyText, IsOther, begins_both, begins_parts, ending_again, ending_takes, is_same, no_ending}, proofs.Lemmas.lawful_as, proofs.Spelled.{Lawful, Spelled}}
 use Rattle.plan_report.specs.Terms.{IsCutInForm, IsEditedInForm, IsReplyInForm, entry_items, event_items, note_items, notes_items, numbered_from, pool_line_items, reply_items, KnownNames}
-use Rattle.report_words.specs.declared.fault.ReportKind.{ReportKind}
-use Rattle.report_words.specs.declared.fault.ReportKind.TheVariants.{Token}
-use Rattle.report_words.specs.Terms.{branch_at, closing_at, has_room}
-use Rattle.report_reader.specs.ReadingJournal.{reply_branches, accepted_at, add_at, drop_at, edit_at, edited_at, entries_at, journal_entry_at, event_at, flag_at, notes_at, pool_at, pool_cut_at, pool_line_at, pooled_at, set_at, too_much_at, two_names_at}
-use Rattle.report_words.proofs.Making.{Made}
-use Rattle.report_words.proofs.Lemmas.{branches_law, either_form, lawful_branch, lawful_no_branch, few_rooms, lawful_placed, numbered_items, rooms_few, law_made, made_give, made_last, made_then, field_law, numbers_law, amount_law, closing_law, money_law, name_law, number_law, opening_law, opening_within_law, this_number_law}
-use Rattle.report_reader.proofs.Variants.{edit_cases, entry_cases, reply_cases}
+use Rattle.report_words.{specs.declared.fault.ReportKind.ReportKind, specs.declared.fault.ReportKind.TheVariants.Token, specs.Terms.{branch_at, closing_at, has_room}, proofs.Making.Made, proofs.Lemmas.{branches_law, either_form, lawful_branch, lawful_no_branch, few_rooms, lawful_placed, numbered_items, rooms_few, law_made, made_give, made_last, made_then, field_law, numbers_law, amount_law, closing_law, money_law, name_law, number_law, opening_law, opening_within_law, this_number_law}}
+use Rattle.report_reader.{specs.ReadingJournal.{reply_branches, accepted_at, add_at, drop_at, edit_at, edited_at, entries_at, journal_entry_at, event_at, flag_at, notes_at, pool_at, pool_cut_at, pool_line_at, pooled_at, set_at, too_much_at, two_names_at}, proofs.Variants.{edit_cases, entry_cases, reply_cases}}
 
 -- ---- notes
 

@@ -1,18 +1,11 @@
 -- The readings of outcomes take exactly their texts.
 use Rattle.std.proofs.Common.{◌≡◌, ◌≢◌, inl, inr, ℕ, ◌+◌, ◌≤◌, Bool, true, List, [], ◌∷◌, ◌++◌, length, All, AllPairs, Err, refl, ap, ◌∙◌, arith, codes, flat_map, slice_get}
 use Rattle.plan_terms.specs.Terms.{CutLine}
-use Rattle.text_kit.specs.Terms.{Item, Verbatim, Opening, Closing}
-use Rattle.text_kit.proofs.Beginnings.{AnyText}
-use Rattle.text_kit.proofs.Spelled.{Lawful}
+use Rattle.text_kit.{specs.Terms.{Item, Verbatim, Opening, Closing}, proofs.Beginnings.AnyText, proofs.Spelled.Lawful}
 use Rattle.plan_report.specs.Terms.{IsHeadInForm, IsOutcomeInForm, head_items, outcome_items, plan_items, state_name, KnownNames, Plan, Outcome, Planned, Unsurvivable}
-use Rattle.report_words.specs.declared.fault.ReportKind.TheVariants.{Token}
-use Rattle.report_reader.specs.declared.parts.Head.{Head}
-use Rattle.report_words.specs.Terms.{closing_at, has_room, branch_within}
-use Rattle.report_reader.specs.ReadingReport.{head_at, outcome_branches, outcomes_at, planned_at, separated_at, unsurvivable_at}
-use Rattle.report_words.proofs.Lemmas.{branches_law, either_form, lawful_branch, lawful_no_branch, field_law, few_law, law_made, made_last, made_then, closing_law, keyword_law, name_law, opening_law, this_name_law}
+use Rattle.report_words.{specs.declared.fault.ReportKind.TheVariants.Token, specs.Terms.{closing_at, has_room, branch_within}, proofs.Lemmas.{branches_law, either_form, lawful_branch, lawful_no_branch, field_law, few_law, law_made, made_last, made_then, closing_law, keyword_law, name_law, opening_law, this_name_law}}
 use Rattle.report_parts.proofs.Lemmas.{IsSound, IsPoolInForm, AreLinksApart}
-use Rattle.report_reader.proofs.PlanLaws.{IsPlanOf, form_plan, plan_form, plan_law}
-use Rattle.report_reader.proofs.Variants.{outcome_cases}
+use Rattle.report_reader.{specs.declared.parts.Head.Head, specs.ReadingReport.{head_at, outcome_branches, outcomes_at, planned_at, separated_at, unsurvivable_at}, proofs.PlanLaws.{IsPlanOf, form_plan, plan_form, plan_law}, proofs.Variants.outcome_cases}
 
 abbrev items_of : Head → List Item
 items_of h = head_items h.caller h.serial h.version h.position

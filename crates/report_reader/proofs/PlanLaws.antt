@@ -1,17 +1,11 @@
 -- The readings of plans take exactly their texts.
 use Rattle.std.proofs.Common.{◌≡◌, ◌≢◌, ℕ, ◌^◌, ◌<◌, ◌≤◌, List, [], ◌∷◌, ◌++◌, All, AllPairs, refl, sym, ap, ◌∙◌, arith, append_assoc, codes, flat_map, slice_get, zip}
 use Rattle.plan_terms.specs.Terms.{Demand, Places, CutLine, AreCounts, AreWithinLimits}
-use Rattle.text_kit.specs.Terms.{ComeAfter, Item, Verbatim, Whole, Money, section}
-use Rattle.text_kit.proofs.Beginnings.{AnyText}
-use Rattle.text_kit.proofs.Spelled.{Lawful}
+use Rattle.text_kit.{specs.Terms.{ComeAfter, Item, Verbatim, Whole, Money, section}, proofs.Beginnings.AnyText, proofs.Spelled.Lawful}
 use Rattle.plan_report.specs.Terms.{AreRoutingsInForm, IsDemandInForm, IsOfPool, IsPlanInForm, IsQualityInForm, certificate_items, demand_items, modules_items, plan_items, quality_items, routings_items, KnownNames, Plan, Quality}
-use Rattle.report_reader.specs.declared.parts.Head.{Head}
-use Rattle.report_reader.specs.declared.parts.PlanParts.{PlanParts}
-use Rattle.report_reader.specs.declared.parts.Routed.{Routed}
-use Rattle.report_reader.specs.declared.parts.Values.{Values}
-use Rattle.report_reader.specs.ReadingPlan.{plan_at, plan_of_parts, plan_parts_at, routed_at, values_at}
 use Rattle.report_words.proofs.Lemmas.{field_law, law_made, made_last, made_then, AreApart, keyword_law, money_law, number_law}
 use Rattle.report_parts.proofs.Lemmas.{IsSound, modules_law, quality_law, AreLinksApart, routings_law, IsCertificate, IsPoolInForm, certificate_law, demands_apart, demands_law}
+use Rattle.report_reader.{specs.declared.parts.Head.Head, specs.declared.parts.PlanParts.PlanParts, specs.declared.parts.Routed.Routed, specs.declared.parts.Values.Values, specs.ReadingPlan.{plan_at, plan_of_parts, plan_parts_at, routed_at, values_at}}
 
 -- ---- costs and bounds
 

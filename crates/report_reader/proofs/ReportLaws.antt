@@ -2,21 +2,11 @@
 use Rattle.std.proofs.Common.{◌≡◌, ◌≢◌, ℕ, ◌+◌, ◌^◌, ◌<◌, ◌≤◌, List, [], ◌∷◌, ◌++◌, length, map, All, AllPairs, Option, ⊎_elim, Result, Ok, Err, IfOk, IfErr, refl, sym, ap, subst, ◌∙◌, arith, append_assoc, codes, flat_map, slice_get}
 use Rattle.net_core.proofs.Library.{All-cons, All-nil, All-head, All-tail, cases_lt, slice_get-get_or, slice_get_past, props, ∥∥₁_elim}
 use Rattle.plan_terms.specs.Terms.{IsNetwork, Entry, Edited, Pooled, Link, Places, CutLine}
-use Rattle.text_kit.specs.Terms.{AnswersAs, ReadsAllAs, IsFileOf, IsNotTooEarly, SpellsBy, Item, Verbatim, Opening, section}
-use Rattle.text_kit.specs.declared.refusal.Refusal.{Refusal}
-use Rattle.text_kit.specs.declared.refusal.Refusal.TheVariants.{Bad, NoMemory}
-use Rattle.text_kit.proofs.Beginnings.{AnyText, IsEnd}
-use Rattle.text_kit.proofs.Lemmas.{first_spelled, found_spelled, only_spelled, lawful_key, lawful_open, lawful_whole, Spelled, spelled_law}
-use Rattle.text_kit.proofs.Spelled.{Lawful}
+use Rattle.text_kit.{specs.Terms.{AnswersAs, ReadsAllAs, IsFileOf, IsNotTooEarly, SpellsBy, Item, Verbatim, Opening, section}, specs.declared.refusal.Refusal.Refusal, specs.declared.refusal.Refusal.TheVariants.{Bad, NoMemory}, proofs.Beginnings.{AnyText, IsEnd}, proofs.Lemmas.{first_spelled, found_spelled, only_spelled, lawful_key, lawful_open, lawful_whole, Spelled, spelled_law}, proofs.Spelled.Lawful}
 use Rattle.plan_report.specs.Terms.{IsEntryInForm, IsReportInForm, line_lengths, entry_items, notes_items, numbered_from, outcome_items, pool_line_items, report_items, SpellsReport, report_header, KnownNames, Outcome, Report}
-use Rattle.report_words.specs.declared.fault.ReportKind.{ReportKind}
-use Rattle.report_words.specs.declared.fault.ReportKind.TheVariants.{Header, Section, Ended}
-use Rattle.report_reader.specs.ReadingReport.{filled, last_sections_at, report_at, report_of, section_at, sections_at}
-use Rattle.report_reader.proofs.JournalLaws.{IsPlain, entries_law, notes_law, pool_law}
-use Rattle.report_words.proofs.Lemmas.{law_made, made_last, made_law, made_then}
+use Rattle.report_words.{specs.declared.fault.ReportKind.ReportKind, specs.declared.fault.ReportKind.TheVariants.{Header, Section, Ended}, proofs.Lemmas.{law_made, made_last, made_law, made_then}}
 use Rattle.report_parts.proofs.Lemmas.{IsSound, AreLinksApart}
-use Rattle.report_reader.proofs.OutcomeLaws.{outcomes_law}
-use Rattle.report_reader.proofs.ReportOnline.{report_online}
+use Rattle.report_reader.{specs.ReadingReport.{filled, last_sections_at, report_at, report_of, section_at, sections_at}, proofs.JournalLaws.{IsPlain, entries_law, notes_law, pool_law}, proofs.OutcomeLaws.outcomes_law, proofs.ReportOnline.report_online}
 
 section_law : (w : List ℕ) → Lawful (section_at w) (λ x. Verbatim w ∷ Opening ∷ []) (λ x. Unit {0}) AnyText
 unfolding section_at

@@ -2,21 +2,11 @@
 use Rattle.std.proofs.Common.{◌≡◌, ℕ, ◌+◌, ◌^◌, Bool, true, false, cond, List, [], ◌∷◌, length, None, Some, Result, Ok, Err, refl, codes}
 use Rattle.plan_terms.specs.Terms.{are_same, Entry, Demand, Places, CutLine, Listed}
 use Rattle.snd_tokens.specs.Terms.{Text, WordAt, OpenAt, CloseAt, EndAt}
-use Rattle.text_kit.specs.Reading.{ended_or}
-use Rattle.text_kit.specs.Terms.{Read, Reading, after, ◌>>=◌, give, no_fault, Parenthesis}
-use Rattle.text_kit.proofs.Lemmas.{IsOnline, TakesSome, online_close, online_give, online_list, online_open, online_then, online_whole, online_word, takes_some}
+use Rattle.text_kit.{specs.Reading.ended_or, specs.Terms.{Read, Reading, after, ◌>>=◌, give, no_fault, Parenthesis}, proofs.Lemmas.{IsOnline, TakesSome, online_close, online_give, online_list, online_open, online_then, online_whole, online_word, takes_some}}
 use Rattle.plan_report.specs.Terms.{KnownNames, Outcome}
-use Rattle.report_words.specs.declared.fault.ReportKind.{ReportKind}
-use Rattle.report_words.specs.declared.fault.ReportKind.TheVariants.{Section, Token, Ended}
-use Rattle.report_reader.specs.declared.parts.Head.{Head}
-use Rattle.report_words.specs.ReportChoices.{branch_of}
-use Rattle.report_words.specs.Terms.{Branches, branch_at, branch_or, branch_within, closing_at, has_room}
-use Rattle.report_reader.specs.ReadingJournal.{accepted_at, add_at, drop_at, edit_at, edited_at, entries_at, journal_entry_at, event_at, flag_at, notes_at, pool_at, pool_cut_at, pool_line_at, pooled_at, set_at, too_much_at, two_names_at, reply_branches}
-use Rattle.report_reader.specs.ReadingPlan.{plan_at, plan_parts_at, routed_at, values_at}
-use Rattle.report_reader.specs.ReadingReport.{head_at, last_sections_at, separated_at, outcome_branches, outcomes_at, planned_at, report_at, section_at, sections_at, unsurvivable_at}
-use Rattle.report_words.proofs.Branching.{AllOnline, online_same}
-use Rattle.report_words.proofs.Lemmas.{online_branch, field_online, column_some, numbers_online, opening_within_online}
+use Rattle.report_words.{specs.declared.fault.ReportKind.ReportKind, specs.declared.fault.ReportKind.TheVariants.{Section, Token, Ended}, specs.ReportChoices.branch_of, specs.Terms.{Branches, branch_at, branch_or, branch_within, closing_at, has_room}, proofs.Branching.{AllOnline, online_same}, proofs.Lemmas.{online_branch, field_online, column_some, numbers_online, opening_within_online}}
 use Rattle.report_parts.proofs.PartsOnline.{certificate_online, modules_online, plan_demands_online, quality_online, routings_online}
+use Rattle.report_reader.{specs.declared.parts.Head.Head, specs.ReadingJournal.{accepted_at, add_at, drop_at, edit_at, edited_at, entries_at, journal_entry_at, event_at, flag_at, notes_at, pool_at, pool_cut_at, pool_line_at, pooled_at, set_at, too_much_at, two_names_at, reply_branches}, specs.ReadingPlan.{plan_at, plan_parts_at, routed_at, values_at}, specs.ReadingReport.{head_at, last_sections_at, separated_at, outcome_branches, outcomes_at, planned_at, report_at, section_at, sections_at, unsurvivable_at}}
 
 -- ---- the notes
 

@@ -3,12 +3,8 @@ use Rattle.std.proofs.Common.{◌≡◌, ℕ, Bool, true, cond, List, Result, Ok
 use Rattle.plan_terms.specs.Terms.{are_same}
 use Rattle.plan_report.specs.Terms.{report_header, KnownNames, Report}
 use Rattle.snd_tokens.specs.Terms.{first_line, trimmed, Text, WordAt, OpenAt, CloseAt, EndAt}
-use Rattle.text_kit.specs.Terms.{ReadsAllAs, ReadsAs, body, Read, after, end_at, give}
-use Rattle.text_kit.specs.declared.refusal.Refusal.{Refusal}
-use Rattle.text_kit.specs.declared.refusal.Refusal.TheVariants.{Bad, NoMemory}
-use Rattle.text_kit.proofs.Lemmas.{ok_parts}
-use Rattle.report_words.specs.declared.fault.ReportKind.{ReportKind}
-use Rattle.report_words.specs.declared.fault.ReportKind.TheVariants.{Header, Section}
+use Rattle.text_kit.{specs.Terms.{ReadsAllAs, ReadsAs, body, Read, after, end_at, give}, specs.declared.refusal.Refusal.Refusal, specs.declared.refusal.Refusal.TheVariants.{Bad, NoMemory}, proofs.Lemmas.ok_parts}
+use Rattle.report_words.{specs.declared.fault.ReportKind.ReportKind, specs.declared.fault.ReportKind.TheVariants.{Header, Section}}
 use Rattle.report_reader.specs.ReadingReport.{report_at, report_of, sections_at}
 
 end_is : (x y : Report) (text rest : Text) → after (end_at Section text) (λ u. give x) ≡ Ok (y, rest) → (at : ℕ) × (rest ≡ EndAt at)

@@ -1,11 +1,9 @@
 -- Reading the notes, the journal and the pool of a report.
 use Rattle.std.specs.Prelude.{ℕ, ◌+◌, ◌^◌, Bool, true, false, List, [], ◌∷◌, length, Ok, codes}
 use Rattle.plan_terms.specs.Terms.{Edit, Set, Add, Drop, Entry, Edited, Pooled, Reply, Accepted, UnknownDemand, KnownDemand, UnknownNode, SelfDemand, TooMany, TooMuch, Notes, Places, CutLine}
-use Rattle.text_kit.specs.Reading.{ended_or}
-use Rattle.text_kit.specs.Terms.{Reading, ◌>>=◌, give, list_at, mapped, no_fault, past_ending, Parenthesis, TheWord}
+use Rattle.text_kit.{specs.Reading.ended_or, specs.Terms.{Reading, ◌>>=◌, give, list_at, mapped, no_fault, past_ending, Parenthesis, TheWord}}
 use Rattle.plan_report.specs.Terms.{KnownNames}
-use Rattle.report_words.specs.declared.fault.ReportKind.{ReportKind}
-use Rattle.report_words.specs.Terms.{amount_at, closing_at, has_room, money_at, name_at, number_at, opening_at, opening_within, this_number_at, field_at, Branches, branch_at, numbers_at}
+use Rattle.report_words.{specs.declared.fault.ReportKind.ReportKind, specs.Terms.{amount_at, closing_at, has_room, money_at, name_at, number_at, opening_at, opening_within, this_number_at, field_at, Branches, branch_at, numbers_at}}
 
 -- ---- the notes: up to three words in order, and the closing parenthesis
 

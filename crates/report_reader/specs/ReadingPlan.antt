@@ -3,15 +3,9 @@ use Rattle.std.specs.Prelude.{◌^◌, List, codes}
 use Rattle.plan_terms.specs.Terms.{Demand, Places, CutLine}
 use Rattle.text_kit.specs.Terms.{Reading, ◌>>=◌, give}
 use Rattle.plan_report.specs.Terms.{KnownNames, Plan}
-use Rattle.report_words.specs.declared.fault.ReportKind.{ReportKind}
-use Rattle.report_reader.specs.declared.parts.Head.{Head}
-use Rattle.report_reader.specs.declared.parts.PlanParts.{PlanParts}
-use Rattle.report_reader.specs.declared.parts.Routed.{Routed}
-use Rattle.report_reader.specs.declared.parts.Values.{Values}
-use Rattle.report_words.specs.Terms.{keyword_at, money_at, number_at, field_at}
-use Rattle.report_parts.specs.ReadingQuality.{quality_at}
-use Rattle.report_parts.specs.ReadingRoutings.{routings_at}
-use Rattle.report_parts.specs.ReadingParts.{certificate_at, modules_at, plan_demands_at}
+use Rattle.report_words.{specs.declared.fault.ReportKind.ReportKind, specs.Terms.{keyword_at, money_at, number_at, field_at}}
+use Rattle.report_parts.{specs.ReadingQuality.quality_at, specs.ReadingRoutings.routings_at, specs.ReadingParts.{certificate_at, modules_at, plan_demands_at}}
+use Rattle.report_reader.{specs.declared.parts.Head.Head, specs.declared.parts.PlanParts.PlanParts, specs.declared.parts.Routed.Routed, specs.declared.parts.Values.Values}
 
 -- ---- costs and bounds
 

@@ -3,12 +3,8 @@ use Rattle.std.specs.Prelude.{ℕ, ◌+◌, List, [], ◌∷◌, length, map, sl
 use Rattle.plan_terms.specs.Terms.{Entry, Edited, Pooled, Notes, CutLine, Listed}
 use Rattle.text_kit.specs.Terms.{file_at, Read, Reading, ◌>>=◌, expected, give, list_at, no_fault, open_at, Parenthesis, whole_at, word_at}
 use Rattle.plan_report.specs.Terms.{line_lengths, line_state, state_name, report_header, KnownNames, Outcome, Planned, Unsurvivable, Report}
-use Rattle.report_words.specs.declared.fault.ReportKind.{ReportKind}
-use Rattle.report_words.specs.declared.fault.ReportKind.TheVariants.{Header, Section, Ended}
-use Rattle.report_reader.specs.declared.parts.Head.{Head}
-use Rattle.report_words.specs.Terms.{closing_at, has_room, keyword_at, name_at, opening_at, this_name_at, field_at, Branches, branch_within}
-use Rattle.report_reader.specs.ReadingJournal.{entries_at, notes_at, pool_at}
-use Rattle.report_reader.specs.ReadingPlan.{plan_at}
+use Rattle.report_words.{specs.declared.fault.ReportKind.ReportKind, specs.declared.fault.ReportKind.TheVariants.{Header, Section, Ended}, specs.Terms.{closing_at, has_room, keyword_at, name_at, opening_at, this_name_at, field_at, Branches, branch_within}}
+use Rattle.report_reader.{specs.declared.parts.Head.Head, specs.ReadingJournal.{entries_at, notes_at, pool_at}, specs.ReadingPlan.plan_at}
 
 -- ---- outcomes
 

@@ -1,16 +1,9 @@
 -- Readings that a word chooses take exactly what one of their branches takes after its word.
 use Rattle.std.proofs.Common.{◌≡◌, ◌⊎◌, inl, inr, ℕ, Bool, true, false, cond, List, [], ◌∷◌, Result, Ok, Err, refl, sym, ap, subst, ◌∙◌}
-use Rattle.net_core.specs.Terms.{are_same}
+use Rattle.net_core.{specs.Terms.are_same, proofs.Checks.same_is}
 use Rattle.snd_tokens.specs.Terms.{Text, WordAt, OpenAt, CloseAt, EndAt}
-use Rattle.text_kit.specs.Terms.{Item, Verbatim, Opening, Closing, Begins, Reading}
-use Rattle.text_kit.proofs.Beginnings.{AnyText}
-use Rattle.text_kit.proofs.Lemmas.{is_same, lawful_as, ok_parts, Spelled}
-use Rattle.text_kit.proofs.Spelled.{Lawful}
-use Rattle.report_words.specs.declared.fault.ReportKind.{ReportKind}
-use Rattle.report_words.specs.declared.fault.ReportKind.TheVariants.{Token, Limit}
-use Rattle.report_words.specs.ReportChoices.{Branches, branch_of, branch_or}
-use Rattle.report_words.proofs.Making.{Made, MadeOf}
-use Rattle.net_core.proofs.Checks.{same_is}
+use Rattle.text_kit.{specs.Terms.{Item, Verbatim, Opening, Closing, Begins, Reading}, proofs.Beginnings.AnyText, proofs.Lemmas.{is_same, lawful_as, ok_parts, Spelled}, proofs.Spelled.Lawful}
+use Rattle.report_words.{specs.declared.fault.ReportKind.ReportKind, specs.declared.fault.ReportKind.TheVariants.{Token, Limit}, specs.ReportChoices.{Branches, branch_of, branch_or}, proofs.Making.{Made, MadeOf}}
 
 -- a branch has this word
 abbrev pub has_word : {X : Type 0} → List ℕ → Branches X → Bool

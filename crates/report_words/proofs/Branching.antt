@@ -2,11 +2,8 @@
 use Rattle.std.proofs.Common.{◌≡◌, ℕ, zero, suc, Bool, true, false, cond, List, [], ◌∷◌, Result, Ok, Err, refl, sym, ◌∙◌}
 use Rattle.net_core.specs.Terms.{are_same}
 use Rattle.snd_tokens.specs.Terms.{Text, WordAt, OpenAt, CloseAt, EndAt}
-use Rattle.text_kit.specs.Terms.{Reading, after, ◌>>=◌, give, over_at, placed, step_at}
-use Rattle.text_kit.proofs.Lemmas.{IsOnline, online_give, online_over, online_step, online_then}
-use Rattle.report_words.specs.declared.fault.ReportKind.{ReportKind}
-use Rattle.report_words.specs.declared.fault.ReportKind.TheVariants.{Token, Ended, Limit}
-use Rattle.report_words.specs.ReportChoices.{Branches, branch_of, branch_or}
+use Rattle.text_kit.{specs.Terms.{Reading, after, ◌>>=◌, give, over_at, placed, step_at}, proofs.Lemmas.{IsOnline, online_give, online_over, online_step, online_then}}
+use Rattle.report_words.{specs.declared.fault.ReportKind.ReportKind, specs.declared.fault.ReportKind.TheVariants.{Token, Ended, Limit}, specs.ReportChoices.{Branches, branch_of, branch_or}}
 
 -- a reading that answers as another does is online where that one is
 pub online_same : {K X : Type 0} (r s : Reading K X) → ((t : Text) → r t ≡ s t) → IsOnline r → IsOnline s

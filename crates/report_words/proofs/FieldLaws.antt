@@ -1,13 +1,7 @@
 -- The reading of a field takes exactly its texts, and has no look at what comes after them.
 use Rattle.std.proofs.Common.{ℕ, ◌≤◌, ◌<◌, List, [], ◌∷◌, refl}
-use Rattle.text_kit.specs.Terms.{Verbatim, Whole}
-use Rattle.text_kit.proofs.Beginnings.{AnyText}
-use Rattle.text_kit.proofs.Lemmas.{IsOnline, online_then, online_word}
-use Rattle.text_kit.proofs.Spelled.{Lawful}
-use Rattle.report_words.specs.declared.fault.ReportKind.TheVariants.{Token, Ended}
-use Rattle.report_words.specs.ReportFields.{field_at}
-use Rattle.report_words.proofs.Making.{law_made, made_law, made_then}
-use Rattle.report_words.proofs.WordLaws.{keyword_law, number_law}
+use Rattle.text_kit.{specs.Terms.{Verbatim, Whole}, proofs.Beginnings.AnyText, proofs.Lemmas.{IsOnline, online_then, online_word}, proofs.Spelled.Lawful}
+use Rattle.report_words.{specs.declared.fault.ReportKind.TheVariants.{Token, Ended}, specs.ReportFields.field_at, proofs.Making.{law_made, made_law, made_then}, proofs.WordLaws.{keyword_law, number_law}}
 
 pub field_law : (w : List ℕ) (least limit : ℕ) → Lawful (field_at w least limit) (λ n. Verbatim w ∷ Whole n ∷ []) (λ n. (least ≤ n) × (n < limit)) AnyText
 unfolding field_at

@@ -1,15 +1,8 @@
 -- Lists between parentheses: of a length, of few elements, and of elements with their numbers.
 use Rattle.std.proofs.Common.{◌≡◌, ℕ, ◌+◌, ◌≤◌, ◌<◌, ◌==◌, true, false, cond, List, [], ◌∷◌, ◌++◌, length, All, Option, None, Some, refl, sym, ap, subst, ◌∙◌, arith, length-append, flat_map, eqb-true, eq-eqb}
-use Rattle.text_kit.specs.Terms.{ComeAfter, Item, Closing, Reading, ◌>>=◌, list_at, no_fault, of_length, Parenthesis, enclosed}
-use Rattle.text_kit.proofs.Beginnings.{AnyText, Starts}
-use Rattle.text_kit.proofs.Lemmas.{all_after, after_all, after_as, after_few, few_after, lawful_as, lawful_list, SpelledAfter, law_spelled, spelled_as, spelled_law, spelled_list}
-use Rattle.text_kit.proofs.Spelled.{Lawful}
+use Rattle.text_kit.{specs.Terms.{ComeAfter, Item, Closing, Reading, ◌>>=◌, list_at, no_fault, of_length, Parenthesis, enclosed}, proofs.Beginnings.{AnyText, Starts}, proofs.Lemmas.{all_after, after_all, after_as, after_few, few_after, lawful_as, lawful_list, SpelledAfter, law_spelled, spelled_as, spelled_law, spelled_list}, proofs.Spelled.Lawful}
 use Rattle.plan_report.specs.Terms.{numbered_from}
-use Rattle.report_words.specs.declared.fault.ReportKind.{ReportKind}
-use Rattle.report_words.specs.declared.fault.ReportKind.TheVariants.{Limit}
-use Rattle.report_words.specs.ReportWords.{has_room, opening_at}
-use Rattle.report_words.proofs.Making.{law_made, made_law, made_then}
-use Rattle.report_words.proofs.WordLaws.{few_so_far, opening_law, room_so_far}
+use Rattle.report_words.{specs.declared.fault.ReportKind.ReportKind, specs.declared.fault.ReportKind.TheVariants.Limit, specs.ReportWords.{has_room, opening_at}, proofs.Making.{law_made, made_law, made_then}, proofs.WordLaws.{few_so_far, opening_law, room_so_far}}
 
 -- ---- lengths
 

@@ -1,9 +1,8 @@
 -- Names that are found by their bytes, whatever holds them.
 use Rattle.std.proofs.Common.{◌≡◌, ℕ, suc, ◌+◌, Bool, true, false, cond, not, List, [], ◌∷◌, length, map, Option, Result, Ok, refl, sym, ap, ◌∙◌, position, ◌||◌}
-use Rattle.net_core.proofs.Library.{list_any, prefix_len, same_is}
-use mathlib.Core.Path.{fun_ext}
-use Rattle.net_core.specs.Terms.{are_same, is_named}
+use Rattle.net_core.{proofs.Library.{list_any, prefix_len, same_is}, specs.Terms.{are_same, is_named}}
 use Rattle.text_kit.proofs.Lemmas.{is_same}
+use mathlib.Core.Path.{fun_ext}
 
 same_both : (a b : List ℕ) (v w : Bool) → are_same a b ≡ v → are_same b a ≡ w → v ≡ w
 same_both a b true true p q = refl

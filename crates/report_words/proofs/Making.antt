@@ -1,9 +1,6 @@
 -- Readings whose answer is made of the parts that they read one after another.
 use Rattle.std.proofs.Common.{◌≡◌, List, [], ◌++◌, refl, sym, ap, subst, ◌∙◌, append-nil}
-use Rattle.text_kit.specs.Terms.{Item, Reading, ◌>>=◌, give}
-use Rattle.text_kit.proofs.Beginnings.{AnyText}
-use Rattle.text_kit.proofs.Spelled.{Lawful}
-use Rattle.text_kit.proofs.Lemmas.{Spelled, law_spelled, spelled_as, spelled_give, spelled_law, spelled_then}
+use Rattle.text_kit.{specs.Terms.{Item, Reading, ◌>>=◌, give}, proofs.Beginnings.AnyText, proofs.Spelled.Lawful, proofs.Lemmas.{Spelled, law_spelled, spelled_as, spelled_give, spelled_law, spelled_then}}
 
 -- x is made of parts in form
 pub record MadeOf {P X : Type 0} (value : P → X) (ok : P → Type 0) (x : X) : Type 0 where

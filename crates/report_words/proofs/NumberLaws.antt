@@ -1,14 +1,8 @@
 -- The reading of a list of numbers takes exactly its texts.
 use Rattle.std.proofs.Common.{◌≡◌, ℕ, ◌<◌, true, [], ◌∷◌, length, All, refl, arith}
-use Rattle.text_kit.specs.Terms.{Whole}
-use Rattle.text_kit.proofs.Beginnings.{AnyText}
-use Rattle.text_kit.proofs.Lemmas.{lawful_as}
-use Rattle.text_kit.proofs.Spelled.{Lawful}
+use Rattle.text_kit.{specs.Terms.Whole, proofs.Beginnings.AnyText, proofs.Lemmas.lawful_as, proofs.Spelled.Lawful}
 use Rattle.plan_report.specs.Terms.{numbers_items}
-use Rattle.report_words.specs.ReportWords.{has_room}
-use Rattle.report_words.specs.ReportChoices.{next_number_at, numbers_at}
-use Rattle.report_words.proofs.ListLaws.{exact_law}
-use Rattle.report_words.proofs.WordLaws.{number_within_law}
+use Rattle.report_words.{specs.ReportWords.has_room, specs.ReportChoices.{next_number_at, numbers_at}, proofs.ListLaws.exact_law, proofs.WordLaws.number_within_law}
 
 pub numbers_law : (n limit : ℕ) → Lawful (numbers_at n limit) numbers_items (λ ns. (length ns ≡ n) × All (λ k. k < limit) ns) AnyText
 unfolding numbers_at

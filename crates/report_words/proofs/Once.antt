@@ -1,8 +1,6 @@
 -- Names that are all different are new, one after another.
 use Rattle.std.proofs.Common.{◌≡◌, ◌≢◌, ℕ, suc, ◌<◌, Bool, true, false, List, ◌∷◌, ◌++◌, length, map, take, drop, get_or, AllPairs, sym, ap, subst, ◌∙◌, drop-cons, take-append-drop}
-use Rattle.net_core.proofs.Library.{∥∥₁_elim, props, new_name}
-use Rattle.net_core.specs.Terms.{IsNetwork, are_same, is_named}
-use Rattle.net_core.specs.declared.network.Link.{Link}
+use Rattle.net_core.{proofs.Library.{∥∥₁_elim, props, new_name}, specs.Terms.{IsNetwork, are_same, is_named}, specs.declared.network.Link.Link}
 use Rattle.report_words.proofs.Lookups.{any_map}
 
 -- of things with different names none before the i-th has its name

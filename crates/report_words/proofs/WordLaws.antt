@@ -1,24 +1,10 @@
 -- Which words say a number, an amount or a name of a report.
 use Rattle.std.proofs.Common.{◌≡◌, ◌≢◌, ℕ, ◌+◌, ◌^◌, ◌<◌, ◌≤◌, ◌&&◌, Bool, true, false, cond, nat_le, nat_lt, List, [], ◌∷◌, length, get_or, AllPairs, Result, Ok, Err, refl, sym, ap, subst, ◌∙◌, arith, position, leb-true, le-leb, ltb-true, ltb-false, lt-ltb, le-ltb}
-use Rattle.net_core.proofs.Library.{position_or_len, and_parts, position-Some, position_or_len_is, slice_get-get_or, differ, same_is}
-use Rattle.net_core.specs.Terms.{are_same, is_named}
-use Rattle.net_core.specs.declared.demand.Demand.{Demand}
-use Rattle.net_core.specs.declared.ids.LinkId.{LinkId}
-use Rattle.net_core.specs.declared.ids.NodeId.{NodeId}
-use Rattle.net_core.specs.declared.network.Link.{Link}
-use Rattle.net_core.specs.declared.places.Places.{Places}
-use Rattle.snd_tokens.specs.declared.amounts.NumberFault.{NumberFault}
-use Rattle.snd_tokens.specs.declared.whole_number.WholeFault.{WholeFault}
-use Rattle.snd_tokens.specs.declared.whole_number.WholeFault.TheVariants.{NotANumber, TooLarge}
-use Rattle.snd_tokens.specs.Terms.{money_of, Text, WordAt, OpenAt, CloseAt, EndAt, whole_of}
-use Rattle.text_kit.specs.Terms.{Verbatim, Whole, Money, Opening, Closing, Begins, number_or, expected, word_at}
-use Rattle.text_kit.proofs.Lemmas.{lawful_amount, number_takes, is_same, lawful_close, lawful_key, lawful_open, lawful_word, key_if, lawful_any_name, found_takes, ok_parts, if_ok, ok_is, unless_ok}
-use Rattle.text_kit.proofs.Beginnings.{AnyText}
-use Rattle.text_kit.proofs.Spelled.{Lawful}
+use Rattle.net_core.{proofs.Library.{position_or_len, and_parts, position-Some, position_or_len_is, slice_get-get_or, differ, same_is}, specs.Terms.{are_same, is_named}, specs.declared.demand.Demand.Demand, specs.declared.ids.LinkId.LinkId, specs.declared.ids.NodeId.NodeId, specs.declared.network.Link.Link, specs.declared.places.Places.Places}
+use Rattle.snd_tokens.{specs.declared.amounts.NumberFault.NumberFault, specs.declared.whole_number.WholeFault.WholeFault, specs.declared.whole_number.WholeFault.TheVariants.{NotANumber, TooLarge}, specs.Terms.{money_of, Text, WordAt, OpenAt, CloseAt, EndAt, whole_of}}
+use Rattle.text_kit.{specs.Terms.{Verbatim, Whole, Money, Opening, Closing, Begins, number_or, expected, word_at}, proofs.Lemmas.{lawful_amount, number_takes, is_same, lawful_close, lawful_key, lawful_open, lawful_word, key_if, lawful_any_name, found_takes, ok_parts, if_ok, ok_is, unless_ok}, proofs.Beginnings.AnyText, proofs.Spelled.Lawful}
 use Rattle.plan_report.specs.Terms.{demand_name, link_name, node_name}
-use Rattle.report_words.specs.declared.fault.ReportKind.{ReportKind}
-use Rattle.report_words.specs.declared.fault.ReportKind.TheVariants.{Token, Ended, Number, LimitName, DoubleName, Limit}
-use Rattle.report_words.specs.ReportWords.{amount_at, as_link, as_node, below, closing_at, demand_at, demand_of, demand_within, has_room, keyword_at, keyword_within, link_at, link_of, money_at, money_below, name_at, new_demand, node_at, node_of_word, number_at, opening_at, opening_within, passed, place_named, this_name, this_name_at, this_number, this_number_at, unknown_name, where_room, whole_within, within}
+use Rattle.report_words.{specs.declared.fault.ReportKind.ReportKind, specs.declared.fault.ReportKind.TheVariants.{Token, Ended, Number, LimitName, DoubleName, Limit}, specs.ReportWords.{amount_at, as_link, as_node, below, closing_at, demand_at, demand_of, demand_within, has_room, keyword_at, keyword_within, link_at, link_of, money_at, money_below, name_at, new_demand, node_at, node_of_word, number_at, opening_at, opening_within, passed, place_named, this_name, this_name_at, this_number, this_number_at, unknown_name, where_room, whole_within, within}}
 
 -- ---- room
 

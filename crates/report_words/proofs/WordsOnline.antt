@@ -1,11 +1,7 @@
 -- Numbers and branches are read without a look at what comes after them.
 use Rattle.std.proofs.Common.{ℕ, Bool, List, [], Ok, Err, refl}
-use Rattle.text_kit.specs.Terms.{of_length, Parenthesis}
-use Rattle.text_kit.proofs.Lemmas.{IsOnline, TakesSome, online_list, online_open, online_step, online_then, online_word, takes_some}
-use Rattle.report_words.specs.declared.fault.ReportKind.TheVariants.{Token, Ended, Limit}
-use Rattle.report_words.specs.ReportWords.{opening_within, where_room}
-use Rattle.report_words.specs.ReportChoices.{Branches, branch_within, next_number_at, numbers_at}
-use Rattle.report_words.proofs.Branching.{AllOnline, online_branch}
+use Rattle.text_kit.{specs.Terms.{of_length, Parenthesis}, proofs.Lemmas.{IsOnline, TakesSome, online_list, online_open, online_step, online_then, online_word, takes_some}}
+use Rattle.report_words.{specs.declared.fault.ReportKind.TheVariants.{Token, Ended, Limit}, specs.ReportWords.{opening_within, where_room}, specs.ReportChoices.{Branches, branch_within, next_number_at, numbers_at}, proofs.Branching.{AllOnline, online_branch}}
 
 -- ---- numbers and branches
 

@@ -3,9 +3,7 @@ use Rattle.std.specs.Prelude.{ℕ, Bool, true, if◌then◌else◌, List, [], �
 use Rattle.net_core.specs.Terms.{are_same}
 use Rattle.snd_tokens.specs.Terms.{WordAt, OpenAt, CloseAt, EndAt}
 use Rattle.text_kit.specs.Terms.{Reading, ◌>>=◌, list_at, of_length, Parenthesis, placed}
-use Rattle.report_words.specs.declared.fault.ReportKind.{ReportKind}
-use Rattle.report_words.specs.declared.fault.ReportKind.TheVariants.{Token, Ended, Limit}
-use Rattle.report_words.specs.ReportWords.{has_room, opening_at, room_number_at}
+use Rattle.report_words.{specs.declared.fault.ReportKind.ReportKind, specs.declared.fault.ReportKind.TheVariants.{Token, Ended, Limit}, specs.ReportWords.{has_room, opening_at, room_number_at}}
 
 -- words, each with the reading of what comes after it
 abbrev pub Branches : Type 0 → Type 0

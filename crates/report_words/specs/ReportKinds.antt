@@ -1,8 +1,7 @@
 -- how the kinds of faults of a report are written
 use Rattle.std.specs.Prelude.{ℕ, List, codes}
 use Rattle.text_kit.specs.Terms.{number_word}
-use Rattle.report_words.specs.declared.fault.ReportKind.{ReportKind}
-use Rattle.report_words.specs.declared.fault.ReportKind.TheVariants.{Header, Section, Token, Ended, Number, UnknownName, DoubleName, LimitName, Limit}
+use Rattle.report_words.{specs.declared.fault.ReportKind.ReportKind, specs.declared.fault.ReportKind.TheVariants.{Header, Section, Token, Ended, Number, UnknownName, DoubleName, LimitName, Limit}}
 
 -- the word of each kind
 abbrev pub report_kind_word : ReportKind → List ℕ

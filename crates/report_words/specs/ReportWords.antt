@@ -1,18 +1,10 @@
 -- What a word of a report says: numbers in their ranges, amounts, and names of what is known.
 use Rattle.std.specs.Prelude.{ℕ, ◌+◌, Bool, nat_le, nat_lt, ◌&&◌, if◌then◌else◌, List, length, position, Result, Ok, Err}
-use Rattle.net_core.specs.Terms.{are_same, is_named}
-use Rattle.net_core.specs.declared.demand.Demand.{Demand}
-use Rattle.net_core.specs.declared.ids.LinkId.{LinkId}
-use Rattle.net_core.specs.declared.ids.NodeId.{NodeId}
-use Rattle.net_core.specs.declared.network.Link.{Link}
-use Rattle.net_core.specs.declared.places.Places.{Places}
-use Rattle.snd_tokens.specs.declared.amounts.NumberFault.TheVariants as faults
-use Rattle.snd_tokens.specs.declared.whole_number.WholeFault.{WholeFault}
-use Rattle.snd_tokens.specs.declared.whole_number.WholeFault.TheVariants.{NotANumber, TooLarge}
-use Rattle.snd_tokens.specs.Terms.{amount_of, money_of, whole_of}
+use Rattle.net_core.{specs.Terms.{are_same, is_named}, specs.declared.demand.Demand.Demand, specs.declared.ids.LinkId.LinkId, specs.declared.ids.NodeId.NodeId, specs.declared.network.Link.Link, specs.declared.places.Places.Places}
+use Rattle.snd_tokens.{specs.declared.whole_number.WholeFault.WholeFault, specs.declared.whole_number.WholeFault.TheVariants.{NotANumber, TooLarge}, specs.Terms.{amount_of, money_of, whole_of}}
 use Rattle.text_kit.specs.Terms.{any_name, found_or, number_or, Reading, open_at, close_at, expected, step_at, word_at}
-use Rattle.report_words.specs.declared.fault.ReportKind.{ReportKind}
-use Rattle.report_words.specs.declared.fault.ReportKind.TheVariants.{Token, Ended, Number, UnknownName, DoubleName, LimitName, Limit}
+use Rattle.report_words.{specs.declared.fault.ReportKind.ReportKind, specs.declared.fault.ReportKind.TheVariants.{Token, Ended, Number, UnknownName, DoubleName, LimitName, Limit}}
+use Rattle.snd_tokens.specs.declared.amounts.NumberFault.TheVariants as faults
 
 -- ---- what may be too many or too much
 

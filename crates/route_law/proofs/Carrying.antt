@@ -1,14 +1,9 @@
 -- where an optimum meets all needs, the flows of its basis carry the demands
 use Rattle.std.proofs.Common.{◌≡◌, ℕ, zero, suc, ◌+◌, ◌*◌, ◌<◌, ◌≤◌, List, [], ◌∷◌, All, Bool, true, false, ◌||◌, cond, eqb, length, slice_index, refl, sym, ap, ◌∙◌, arith, subst, ⊎_elim, ne_eqb, ℤ, pos, ◌+ℤ◌, ◌*ℤ◌, ◌<ℤ◌, ◌≤ℤ◌}
 use Rattle.net_core.proofs.Library.{AllByRecursion, cases_lt, slice_get_within, get_or_from_slice_get, get_or-map, *ℤ-zero, pos-*ℤ-pos, ints, below-same, below-none, below-one, below-times, below-le}
-use Rattle.plan_terms.specs.Terms.{RouteColumn, LinkSlack, DemandSlack, Demand, LinkId, Caps, Routing, Graph, Joins, names_link, sum_below, sent, load, IsFlow, Carries}
-use Rattle.plan_terms.proofs.Lemmas.{path_links_inside}
-use Rattle.simplex_law.specs.Terms.{int_sum, dot, unit_vector, ColumnOf, IsSlack, IsOptimum}
-use Rattle.simplex_law.proofs.Lemmas.{le_times, lt_cancel, moved_out, distribute_left, sum-same, sum-le}
-use Rattle.route_law.specs.BasisFlows.{is_of_demand, runs_over, AreFlowsOf}
-use Rattle.route_law.specs.Laws.{BasisFlowsCarry}
-use Rattle.route_law.specs.RoutingPrograms.{scaled_need, total_scaled_need, IsCarrying, route_rows, route_bound, route_slack, IsRouteColumn}
-use Rattle.route_law.proofs.Rows.{beside_first, beside_after, beside_each, below-both, sum-pos}
+use Rattle.plan_terms.{specs.Terms.{RouteColumn, LinkSlack, DemandSlack, Demand, LinkId, Caps, Routing, Graph, Joins, names_link, sum_below, sent, load, IsFlow, Carries}, proofs.Lemmas.path_links_inside}
+use Rattle.simplex_law.{specs.Terms.{int_sum, dot, unit_vector, ColumnOf, IsSlack, IsOptimum}, proofs.Lemmas.{le_times, lt_cancel, moved_out, distribute_left, sum-same, sum-le}}
+use Rattle.route_law.{specs.BasisFlows.{is_of_demand, runs_over, AreFlowsOf}, specs.Laws.BasisFlowsCarry, specs.RoutingPrograms.{scaled_need, total_scaled_need, IsCarrying, route_rows, route_bound, route_slack, IsRouteColumn}, proofs.Rows.{beside_first, beside_after, beside_each, below-both, sum-pos}}
 
 -- numbers that are nowhere above others, and sum to no less, are the others
 all_met : (q : ℕ) (f g : ℕ → ℕ) → ((k : ℕ) → k < q → f k ≤ g k) → sum_below q g ≤ sum_below q f → (k : ℕ) → k < q → f k ≡ g k

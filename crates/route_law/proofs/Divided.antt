@@ -2,14 +2,8 @@
 use Rattle.std.proofs.Common.{◌≡◌, ℕ, zero, suc, ◌-◌, ◌*◌, ◌<◌, List, [], ◌∷◌, length, map, slice_index, refl, sym, ap, ◌∙◌, arith, subst, ⊎_elim, ℤ, pos, ◌*ℤ◌, ◌<ℤ◌}
 use Rattle.net_core.proofs.Library.{cases_lt}
 use Rattle.plan_terms.specs.Terms.{RouteColumn, WideKind, Number, Row, Product, Sum, Common, Value, Length, Demand, Caps, Graph, sum_below}
-use Rattle.simplex_law.specs.Terms.{dot, ColumnOf, slack_basis}
-use Rattle.simplex_law.proofs.Lemmas.{moved_out}
-use Rattle.route_law.specs.Divisions.{caps_times, DividedAreWide, DividedArePriced}
-use Rattle.route_law.specs.PricedLengths.{ArePricedLengths}
-use Rattle.route_law.specs.RouteEvidence.{HasWideLength, HoldsOfRoute, IsRouteEvidence}
-use Rattle.route_law.specs.RoutingPrograms.{scaled_need, total_scaled_need, route_rows, route_bound, route_slack, IsRouteColumn}
-use Rattle.route_law.proofs.Rows.{beside_first, beside_second}
-use Rattle.route_law.proofs.Scaled.{lt_times, dot_scaled, feasible_scaled, best_scaled, best_back, reached_scaled, number_scaled, sum_scaled}
+use Rattle.simplex_law.{specs.Terms.{dot, ColumnOf, slack_basis}, proofs.Lemmas.moved_out}
+use Rattle.route_law.{specs.Divisions.{caps_times, DividedAreWide, DividedArePriced}, specs.PricedLengths.ArePricedLengths, specs.RouteEvidence.{HasWideLength, HoldsOfRoute, IsRouteEvidence}, specs.RoutingPrograms.{scaled_need, total_scaled_need, route_rows, route_bound, route_slack, IsRouteColumn}, proofs.Rows.{beside_first, beside_second}, proofs.Scaled.{lt_times, dot_scaled, feasible_scaled, best_scaled, best_back, reached_scaled, number_scaled, sum_scaled}}
 
 pub index_times : (d : ℕ) (nums : List ℕ) (e : ℕ) → slice_index (map (λ n. d * n) nums) e ≡ d * slice_index nums e
 index_times d [] e = omega arith

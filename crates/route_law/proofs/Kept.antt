@@ -1,10 +1,8 @@
 -- what a state keeps of lengths is violated where the lengths are
 use Rattle.std.proofs.Common.{◌≡◌, ℕ, zero, suc, ◌*◌, ◌<◌, ◌≤◌, List, [], ◌∷◌, Some, None, Option, length, map, sum_by, zip, slice_index, slice_index_or, unwrap_or, refl, sym, ap, ◌∙◌, arith, subst, ⊎_elim, option_map, mul-le-mul_left}
 use Rattle.net_core.proofs.Library.{cases_eq, cases_lt, length-map, sum_by-cons}
-use Rattle.plan_terms.specs.Terms.{Demand, LinkId, Graph, Joins, IsRight, Keeps, IsDistance, Leads, length_of}
-use Rattle.plan_terms.proofs.Lemmas.{metric_inequality_listed}
-use Rattle.route_law.specs.Laws.{LinkPricesAreViolated, ViolatedCarriesNothing}
-use Rattle.route_law.proofs.LinkPrices.{prices_violate}
+use Rattle.plan_terms.{specs.Terms.{Demand, LinkId, Graph, Joins, IsRight, Keeps, IsDistance, Leads, length_of}, proofs.Lemmas.metric_inequality_listed}
+use Rattle.route_law.{specs.Laws.{LinkPricesAreViolated, ViolatedCarriesNothing}, proofs.LinkPrices.prices_violate}
 
 -- what capacities give along lengths
 abbrev along : List ℕ → List ℕ → ℕ

@@ -2,13 +2,8 @@
 use Rattle.std.proofs.Common.{◌≡◌, ℕ, zero, suc, ◌+◌, ◌*◌, ◌<◌, ◌≤◌, List, [], ◌∷◌, Some, None, Option, length, map, sum_by, zip, slice_get, slice_index, slice_index_or, get_or, unwrap_or, refl, sym, ap, ◌∙◌, arith, subst, inl, ⊎_elim, mul-le-mul_left, ℤ, pos, ◌+ℤ◌, ◌*ℤ◌, ◌<ℤ◌, ◌≤ℤ◌}
 use Rattle.net_core.proofs.Library.{cases_eq, cases_lt, get_or-map, sum_by-cons, slice_get-get_or, slice_get_within, *ℤ_comm, *ℤ-zero, pos-*ℤ-pos, ints, by_lt_z, below-same, below-none, below-first, below-times}
 use Rattle.plan_terms.specs.Terms.{RouteColumn, Carry, Demand, Caps, Graph, Joins, sum_below, IsRight, IsDistance, length_of}
-use Rattle.simplex_law.specs.Terms.{int_sum, dot, ColumnOf, IsBest}
-use Rattle.simplex_law.proofs.Lemmas.{le_times, distribute_left, sum-same, sum-le, sum-plus, sum-times, sum-split}
-use Rattle.route_law.specs.PricedLengths.{AreLinkPrices}
-use Rattle.route_law.specs.Routings.{AreJoined}
-use Rattle.route_law.specs.RoutingPrograms.{scaled_need, total_scaled_need, path_entry, IsCarrying, route_rows, route_bound, IsRouteColumn}
-use Rattle.route_law.proofs.PathPrices.{path_price}
-use Rattle.route_law.proofs.Rows.{beside_first, beside_after, sum-pos}
+use Rattle.simplex_law.{specs.Terms.{int_sum, dot, ColumnOf, IsBest}, proofs.Lemmas.{le_times, distribute_left, sum-same, sum-le, sum-plus, sum-times, sum-split}}
+use Rattle.route_law.{specs.PricedLengths.AreLinkPrices, specs.Routings.AreJoined, specs.RoutingPrograms.{scaled_need, total_scaled_need, path_entry, IsCarrying, route_rows, route_bound, IsRouteColumn}, proofs.PathPrices.path_price, proofs.Rows.{beside_first, beside_after, sum-pos}}
 
 -- what capacities give along lengths
 abbrev along : List ℕ → List ℕ → ℕ

@@ -2,11 +2,8 @@
 use Rattle.std.proofs.Common.{◌≡◌, ℕ, zero, suc, ◌+◌, ◌-◌, ◌*◌, ◌<◌, ◌≤◌, List, cond, length, slice_index, refl, sym, ap, ◌∙◌, arith, subst, ⊎_elim, ℤ, pos, ◌+ℤ◌, ◌*ℤ◌, ◌<ℤ◌, ◌≤ℤ◌}
 use Rattle.net_core.proofs.Library.{cases_lt, slice_get_within, pos-*ℤ-pos, ints, below-same, below-none}
 use Rattle.plan_terms.specs.Terms.{RouteColumn, LinkSlack, DemandSlack, Carry, Demand, Caps, Graph, names_link, sum_below}
-use Rattle.simplex_law.specs.Terms.{int_sum, unit_vector, ColumnOf, IsSlack, IsOptimum}
-use Rattle.simplex_law.proofs.Lemmas.{distribute_left, sum-plus, sum-times, sum-same, sum-none, sum-swapped, sum-one, unit-same, unit-other}
-use Rattle.route_law.specs.Laws.{basis_gain}
-use Rattle.route_law.specs.RoutingPrograms.{scaled_need, total_scaled_need, IsCarrying, route_rows, route_bound, route_slack, IsRouteColumn}
-use Rattle.route_law.proofs.Rows.{beside_first, beside_second, beside_after, sum-pos}
+use Rattle.simplex_law.{specs.Terms.{int_sum, unit_vector, ColumnOf, IsSlack, IsOptimum}, proofs.Lemmas.{distribute_left, sum-plus, sum-times, sum-same, sum-none, sum-swapped, sum-one, unit-same, unit-other}}
+use Rattle.route_law.{specs.Laws.basis_gain, specs.RoutingPrograms.{scaled_need, total_scaled_need, IsCarrying, route_rows, route_bound, route_slack, IsRouteColumn}, proofs.Rows.{beside_first, beside_second, beside_after, sum-pos}}
 
 -- 1 for the slack of a demand
 abbrev left_of : RouteColumn → ℕ

@@ -2,10 +2,7 @@
 use Rattle.std.proofs.Common.{◌≡◌, ℕ, ◌+◌, ◌*◌, ◌<◌, ◌≤◌, List, [], ◌∷◌, All, map, sum_by, zip, slice_index, ap, ◌∙◌, arith, ⊎_elim, mul-le-mul_left}
 use Rattle.net_core.proofs.Library.{cases_lt, sum_by-cons, recursion_from_All, All-from_recursion, AllByRecursion}
 use Rattle.plan_terms.specs.Terms.{Demand, Flow, Joins, load, IsFlow}
-use Rattle.route_law.specs.Divisions.{DividedAreCarried, DividedAreViolated}
-use Rattle.route_law.specs.Routings.{flow_times}
-use Rattle.route_law.proofs.Divided.{index_times}
-use Rattle.route_law.proofs.Lowest.{sent_times, load_times}
+use Rattle.route_law.{specs.Divisions.{DividedAreCarried, DividedAreViolated}, specs.Routings.flow_times, proofs.Divided.index_times, proofs.Lowest.{sent_times, load_times}}
 
 -- what capacities give along lengths
 abbrev along : List ℕ → List ℕ → ℕ

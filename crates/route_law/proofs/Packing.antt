@@ -3,10 +3,8 @@ use Rattle.std.proofs.Common.{◌≡◌, ℕ, ◌+◌, ◌-◌, ◌<◌, ◌≤�
 use Rattle.net_core.proofs.Library.{cases_lt, slice_get_within, ints}
 use Rattle.checked_fraction.specs.Terms.{IsNarrow}
 use Rattle.plan_terms.specs.Terms.{RouteColumn, LinkSlack, DemandSlack, Carry, Demand, LinkId, Caps, Graph, names_link}
-use Rattle.simplex_law.specs.Terms.{unit_vector, ColumnOf, IsSlack, IsProgramColumn, IsPacking}
-use Rattle.simplex_law.proofs.Lemmas.{unit-same}
-use Rattle.route_law.specs.RoutingPrograms.{scaled_need, path_entry, IsCarrying, route_rows, route_bound, route_slack, IsRouteColumn}
-use Rattle.route_law.proofs.Rows.{beside_first, beside_second, beside_after, beside_each}
+use Rattle.simplex_law.{specs.Terms.{unit_vector, ColumnOf, IsSlack, IsProgramColumn, IsPacking}, proofs.Lemmas.unit-same}
+use Rattle.route_law.{specs.RoutingPrograms.{scaled_need, path_entry, IsCarrying, route_rows, route_bound, route_slack, IsRouteColumn}, proofs.Rows.{beside_first, beside_second, beside_after, beside_each}}
 
 abbrev link_id : ℕ → LinkId
 link_id e = record { 0 = e }

@@ -1,12 +1,9 @@
 -- what a path costs at prices of the rows
 use Rattle.std.proofs.Common.{◌≡◌, ℕ, Bool, true, false, ◌+◌, ◌*◌, ◌<◌, List, cond, length, slice_index, ap, ◌∙◌, arith, ℤ, pos, ◌+ℤ◌, ◌*ℤ◌}
 use Rattle.net_core.proofs.Library.{*ℤ-zero, ints, below-times}
-use Rattle.plan_terms.specs.Terms.{LinkId, Graph, Joins, names_link, IsPath, length_of}
-use Rattle.plan_terms.proofs.Lemmas.{path_links_inside, path_links_differ, links_length}
-use Rattle.simplex_law.specs.Terms.{int_sum, dot, unit_vector}
-use Rattle.simplex_law.proofs.Lemmas.{sum-same, sum-unit, sum-split}
-use Rattle.route_law.specs.RoutingPrograms.{beside, path_entry}
-use Rattle.route_law.proofs.Rows.{beside_first, beside_after, sum-pos}
+use Rattle.plan_terms.{specs.Terms.{LinkId, Graph, Joins, names_link, IsPath, length_of}, proofs.Lemmas.{path_links_inside, path_links_differ, links_length}}
+use Rattle.simplex_law.{specs.Terms.{int_sum, dot, unit_vector}, proofs.Lemmas.{sum-same, sum-unit, sum-split}}
+use Rattle.route_law.{specs.RoutingPrograms.{beside, path_entry}, proofs.Rows.{beside_first, beside_after, sum-pos}}
 
 -- a path costs its length under the link prices, and its demand's price
 pub path_price : (g : Graph) (q : ℕ) (duals : ℕ → ℤ) (factor : ℕ) (lengths : List ℕ) → ((e : ℕ) → e < length g.links → duals e ≡ pos (factor * slice_index lengths e))

@@ -2,8 +2,7 @@
 use Rattle.std.proofs.Common.{◌≡◌, ℕ, zero, suc, ◌*◌, ◌<◌, ◌≤◌, inl, inr, sym, ap, ◌∙◌, arith, subst, ⊎_elim, unsigned_abs, mul-le-mul_left, ℤ, pos, ◌+ℤ◌, ◌*ℤ◌, ◌<ℤ◌, ◌≤ℤ◌}
 use Rattle.net_core.proofs.Library.{*ℤ-zero, ints}
 use Rattle.plan_terms.specs.Terms.{sum_below}
-use Rattle.simplex_law.specs.Terms.{dot, ColumnOf, IsFeasible, IsBest, AreGainingSteps, IsReached, IsWide, HoldsNumber, HoldsSum}
-use Rattle.simplex_law.proofs.Lemmas.{distribute_left, le_times, moved_out, times_nonneg, le_cancel, sum-same, sum-times}
+use Rattle.simplex_law.{specs.Terms.{dot, ColumnOf, IsFeasible, IsBest, AreGainingSteps, IsReached, IsWide, HoldsNumber, HoldsSum}, proofs.Lemmas.{distribute_left, le_times, moved_out, times_nonneg, le_cancel, sum-same, sum-times}}
 use Rattle.checked_fraction.proofs.Products.{size_times}
 
 wide_times : (d : ℕ) (z : ℤ) → 0 < d → IsWide z → IsWide (pos d *ℤ z)

@@ -1,11 +1,8 @@
 -- evidence of the slack basis, and evidence of the routing program from that of a packing program
 use Rattle.std.proofs.Common.{ℕ, ◌<◌, List, refl, inl, pos}
 use Rattle.plan_terms.specs.Terms.{RouteColumn, WideKind, Number, Row, Product, Sum, Common, Value, Length, Demand, Caps, Graph}
-use Rattle.simplex_law.specs.Terms.{unit_vector, ColumnOf, slack_basis, AreNames, HoldsKind, IsWide}
-use Rattle.simplex_law.proofs.Lemmas.{start_reached, started}
-use Rattle.route_law.specs.RouteEvidence.{HoldsOfRoute, IsRouteEvidence}
-use Rattle.route_law.specs.RoutingPrograms.{route_rows, route_bound, route_slack, IsCarrying, IsRouteColumn}
-use Rattle.route_law.proofs.Packing.{bound_nonneg}
+use Rattle.simplex_law.{specs.Terms.{unit_vector, ColumnOf, slack_basis, AreNames, HoldsKind, IsWide}, proofs.Lemmas.{start_reached, started}}
+use Rattle.route_law.{specs.RouteEvidence.{HoldsOfRoute, IsRouteEvidence}, specs.RoutingPrograms.{route_rows, route_bound, route_slack, IsCarrying, IsRouteColumn}, proofs.Packing.bound_nonneg}
 
 module _ (g : Graph) (demands : List Demand) (caps : Caps) where
   -- a bound that is too wide

@@ -2,12 +2,8 @@
 use Rattle.std.proofs.Common.{◌≡◌, ℕ, ◌+◌, ◌*◌, ◌<◌, List, [], ◌∷◌, Some, length, slice_get, slice_index, get_or, refl, sym, ap, ◌∙◌, arith, subst, inl, ⊎_elim, ℤ, pos, ◌+ℤ◌, ◌*ℤ◌, ◌<ℤ◌, ◌≤ℤ◌}
 use Rattle.net_core.proofs.Library.{cases_eq, get_or-map, slice_get-get_or, slice_get_within, *ℤ-zero, *ℤ_comm, pos-*ℤ-pos, ints, by_lt_z}
 use Rattle.plan_terms.specs.Terms.{RouteColumn, Carry, Demand, LinkId, Caps, Graph, Joins, AreZero, Leads, length_of}
-use Rattle.simplex_law.specs.Terms.{int_sum, dot, ColumnOf, IsBest}
-use Rattle.simplex_law.proofs.Lemmas.{le_times, sum-le, sum-none, sum-times, sum-split}
-use Rattle.route_law.specs.Routings.{AreJoined}
-use Rattle.route_law.specs.RoutingPrograms.{scaled_need, total_scaled_need, path_entry, IsCarrying, route_rows, route_bound, IsRouteColumn}
-use Rattle.route_law.proofs.PathPrices.{path_price}
-use Rattle.route_law.proofs.Rows.{beside_first, beside_after, sum-pos}
+use Rattle.simplex_law.{specs.Terms.{int_sum, dot, ColumnOf, IsBest}, proofs.Lemmas.{le_times, sum-le, sum-none, sum-times, sum-split}}
+use Rattle.route_law.{specs.Routings.AreJoined, specs.RoutingPrograms.{scaled_need, total_scaled_need, path_entry, IsCarrying, route_rows, route_bound, IsRouteColumn}, proofs.PathPrices.path_price, proofs.Rows.{beside_first, beside_after, sum-pos}}
 
 module _ (g : Graph) (demands : List Demand) (caps : Caps) (basis : ℕ → ColumnOf RouteColumn) (duals : ℕ → ℤ) (den : ℤ)
     (best : IsBest (route_rows g demands) (route_bound g demands caps) (IsRouteColumn g demands) basis duals den) (factor : ℕ) (lengths : List ℕ)

@@ -1,8 +1,7 @@
 -- sums of pairs of units, differences of rows, and bounds of sums by their terms
 use Rattle.std.proofs.Common.{◌≡◌, ℕ, zero, suc, ◌<◌, arith, ◌∙◌, ℤ, pos, ◌+ℤ◌, ◌-ℤ◌, ◌*ℤ◌, ◌≤ℤ◌}
 use Rattle.net_core.proofs.Library.{ints}
-use Rattle.simplex_law.specs.Terms.{int_sum, dot, unit_vector}
-use Rattle.simplex_law.proofs.Lemmas.{distribute_left, distribute_minus, sum-same, sum-plus, sum-minus, sum-unit}
+use Rattle.simplex_law.{specs.Terms.{int_sum, dot, unit_vector}, proofs.Lemmas.{distribute_left, distribute_minus, sum-same, sum-plus, sum-minus, sum-unit}}
 
 -- a row times a column with two ones
 pub dot-pair : (m i l : ℕ) (u : ℕ → ℤ) → i < m → l < m → dot m u (λ k. unit_vector i k +ℤ unit_vector l k) ≡ u i +ℤ u l

@@ -1,15 +1,9 @@
 -- each vector of zeros and ones with a one is priced: two nodes, a link for each number, and one demand
-use Rattle.std.proofs.Common.{◌≡◌, ◌≢◌, ℕ, zero, suc, ◌+◌, ◌-◌, ◌*◌, ◌<◌, ◌≤◌, ◌^◌, List, [], ◌∷◌, All, Some, true, false, ◌||◌, cond, eqb, length, map, get_or, slice_get, slice_index, refl, sym, ap, ◌∙◌, arith, subst, inl, inr, ⊎_elim, ℤ, pos, ◌+ℤ◌, ◌-ℤ◌, ◌*ℤ◌, ◌<ℤ◌, ◌≤ℤ◌, eq-eqb, ne_eqb}
+use Rattle.std.{proofs.Common.{◌≡◌, ◌≢◌, ℕ, zero, suc, ◌+◌, ◌-◌, ◌*◌, ◌<◌, ◌≤◌, ◌^◌, List, [], ◌∷◌, All, Some, true, false, ◌||◌, cond, eqb, length, map, get_or, slice_get, slice_index, refl, sym, ap, ◌∙◌, arith, subst, inl, inr, ⊎_elim, ℤ, pos, ◌+ℤ◌, ◌-ℤ◌, ◌*ℤ◌, ◌<ℤ◌, ◌≤ℤ◌, eq-eqb, ne_eqb}, proofs.lemmas.List.Kept.AllPairs-cons}
 use Rattle.net_core.proofs.Library.{range_with_len, zero-*ℤ, eq-one_of_dvd-one, ◌∣◌, ints, cases_eq, cases_lt, get_or_past, All-get_or, All-from_get_or, All-from_recursion, length-map-range_with_len, get_or-map-range_with_len, sum_by-cons, slice_get_within, slice_get-get_or, get_or_from_slice_get, no_pairs}
-use Rattle.std.proofs.lemmas.List.Kept.{AllPairs-cons}
 use Rattle.plan_terms.specs.Terms.{RouteColumn, Carry, Demand, LinkId, Link, Module, Caps, AreDemands, IsDemand, Graph, Joins, IsNetwork, IsLink, IsModule, names_link, IsPath, Leads, last_node}
-use Rattle.simplex_law.specs.Terms.{dot, unit_vector, ColumnOf, slack_basis, IsBest, IsFeasible}
-use Rattle.simplex_law.proofs.Lemmas.{times_nonneg, none_gains, part_of_sum, slack_is, unit-same, unit-other, dot-unit, dot-of-unit}
-use Rattle.route_law.specs.Laws.{ZerosAndOnesArePriced}
-use Rattle.route_law.specs.PricedLengths.{ArePricedLengths, ArePricedSomewhere}
-use Rattle.route_law.specs.RoutingPrograms.{scaled_need, path_entry, IsCarrying, route_rows, route_bound, route_slack, IsRouteColumn}
-use Rattle.route_law.proofs.Rows.{beside_first, beside_second, beside_each}
-use Rattle.route_law.proofs.TermSums.{dot-pair, dot-minus, sum_of_ones}
+use Rattle.simplex_law.{specs.Terms.{dot, unit_vector, ColumnOf, slack_basis, IsBest, IsFeasible}, proofs.Lemmas.{times_nonneg, none_gains, part_of_sum, slack_is, unit-same, unit-other, dot-unit, dot-of-unit}}
+use Rattle.route_law.{specs.Laws.ZerosAndOnesArePriced, specs.PricedLengths.{ArePricedLengths, ArePricedSomewhere}, specs.RoutingPrograms.{scaled_need, path_entry, IsCarrying, route_rows, route_bound, route_slack, IsRouteColumn}, proofs.Rows.{beside_first, beside_second, beside_each}, proofs.TermSums.{dot-pair, dot-minus, sum_of_ones}}
 
 abbrev link_id : ℕ → LinkId
 link_id e = record { 0 = e }

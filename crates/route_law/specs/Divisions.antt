@@ -1,9 +1,7 @@
 -- capacities over a divisor: scale and numbers of a state's program, all divided by one number, carry as much
 use Rattle.std.specs.Prelude.{ℕ, ◌*◌, ◌<◌, ◌↔◌, List, map}
 use Rattle.plan_terms.specs.Terms.{RouteColumn, WideKind, Demand, Caps, CutLine, Routing, Graph, Joins, Carries, Violates}
-use Rattle.route_law.specs.PricedLengths.{ArePricedLengths}
-use Rattle.route_law.specs.RouteEvidence.{IsRouteEvidence}
-use Rattle.route_law.specs.Routings.{flow_times}
+use Rattle.route_law.{specs.PricedLengths.ArePricedLengths, specs.RouteEvidence.IsRouteEvidence, specs.Routings.flow_times}
 
 -- these capacities over d times the scale
 abbrev pub caps_times : ℕ → Caps → Caps

@@ -2,10 +2,7 @@
 use Rattle.std.specs.Prelude.{◌≡◌, ℕ, ℤ, ◌*◌, ◌*ℤ◌, ◌≤ℤ◌, ◌<ℤ◌, ◌≤◌, List, All, pos, length, slice_index}
 use Rattle.plan_terms.specs.Terms.{RouteColumn, Demand, Caps, CutLine, Routing, Graph, Joins, AreKept, IsRight, IsFlow, Carries, Keeps, Violates}
 use Rattle.simplex_law.specs.Terms.{int_sum, dot, ColumnOf, IsOptimum}
-use Rattle.route_law.specs.BasisFlows.{AreFlowsOf}
-use Rattle.route_law.specs.PricedLengths.{ArePricedLengths, ArePricedSomewhere}
-use Rattle.route_law.specs.Routings.{AreJoined}
-use Rattle.route_law.specs.RoutingPrograms.{total_scaled_need, route_rows, route_bound, IsRouteColumn}
+use Rattle.route_law.{specs.BasisFlows.AreFlowsOf, specs.PricedLengths.{ArePricedLengths, ArePricedSomewhere}, specs.Routings.AreJoined, specs.RoutingPrograms.{total_scaled_need, route_rows, route_bound, IsRouteColumn}}
 
 -- what the amounts of a basis gain
 abbrev pub basis_gain : ℕ → (ℕ → ColumnOf RouteColumn) → (ℕ → ℕ) → ℤ

@@ -1,6 +1,5 @@
 -- lengths that are the link prices at an optimum of a routing program
-use Rattle.std.specs.Prelude.{◌≡◌, ℕ, ℤ, ◌*◌, ◌^◌, ◌<◌, ◌≤◌, List, All, pos, length, slice_index}
-use Rattle.std.specs.Int.{◌∣◌}
+use Rattle.std.{specs.Prelude.{◌≡◌, ℕ, ℤ, ◌*◌, ◌^◌, ◌<◌, ◌≤◌, List, All, pos, length, slice_index}, specs.Int.◌∣◌}
 use Rattle.plan_terms.specs.Terms.{RouteColumn, Demand, Caps, AreDemands, Graph, IsNetwork, AreStates}
 use Rattle.simplex_law.specs.Terms.{ColumnOf, IsBest}
 use Rattle.route_law.specs.RoutingPrograms.{route_rows, route_bound, IsRouteColumn}

@@ -2,8 +2,7 @@
 use Rattle.std.specs.Prelude.{ℕ, ℤ, ◌^◌, ◌≤◌, ◌*ℤ◌, ◌<ℤ◌, List, pos, length, slice_index}
 use Rattle.plan_terms.specs.Terms.{RouteColumn, WideKind, Length, Demand, Caps, Graph}
 use Rattle.simplex_law.specs.Terms.{dot, ColumnOf, IsBest, HoldsKind, IsReachedEvidence}
-use Rattle.route_law.specs.PricedLengths.{AreLinkPrices}
-use Rattle.route_law.specs.RoutingPrograms.{total_scaled_need, route_rows, route_bound, route_slack, IsRouteColumn}
+use Rattle.route_law.{specs.PricedLengths.AreLinkPrices, specs.RoutingPrograms.{total_scaled_need, route_rows, route_bound, route_slack, IsRouteColumn}}
 
 module _ (g : Graph) (demands : List Demand) (caps : Caps) where
   -- no column gains, the value is below what the demands need, and the price of link e is 2^32 or more as a whole number

@@ -1,6 +1,5 @@
 -- routings in lowest terms, and demands that some path carries
-use Rattle.std.specs.Prelude.{◌≡◌, ℕ, ◌*◌, ◌<◌, List, All, Some, map, slice_get}
-use Rattle.std.specs.Int.{◌∣◌}
+use Rattle.std.{specs.Prelude.{◌≡◌, ℕ, ◌*◌, ◌<◌, List, All, Some, map, slice_get}, specs.Int.◌∣◌}
 use Rattle.plan_terms.specs.Terms.{Demand, Flow, Routing, Graph, Joins, AreApart}
 
 -- 1 alone divides the denominator and each numerator

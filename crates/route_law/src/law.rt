@@ -1,5 +1,4 @@
-ghost use Rattle.route_law.specs.Divisions.{DividedAreCarried, DividedArePriced, DividedAreViolated, DividedAreWide};
-ghost use Rattle.route_law.specs.Laws.{BasisFlowsCarry, LinkPricesAreViolated, ViolatedCarriesNothing, ZerosAndOnesArePriced};
+ghost use Rattle.route_law.{specs.Divisions.{DividedAreCarried, DividedArePriced, DividedAreViolated, DividedAreWide}, specs.Laws.{BasisFlowsCarry, LinkPricesAreViolated, ViolatedCarriesNothing, ZerosAndOnesArePriced}};
 
 /// Where the value of a best basis of the routing program isn't below the sum of the needs, its flows carry the demands. The call does nothing, and
 /// takes no time.

@@ -1,8 +1,7 @@
 -- cuts of priced lengths that capacities violate in a state
 use Rattle.std.specs.Prelude.{ℕ, ℤ, List, length}
 use Rattle.plan_terms.specs.Terms.{Demand, Caps, Graph, Keeps}
-use Rattle.metric_cut.specs.Cuts.{IsCutOf}
-use Rattle.metric_cut.specs.declared.cut.Cut.{Cut}
+use Rattle.metric_cut.{specs.Cuts.IsCutOf, specs.declared.cut.Cut.Cut}
 use Rattle.route_law.specs.Terms.{ArePricedSomewhere}
 use Rattle.node_sets.specs.Boundaries.{IsViolatedAt}
 use Rattle.row_prices.specs.PathRows.{ArePricedNumbers}

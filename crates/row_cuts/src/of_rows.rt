@@ -1,8 +1,7 @@
 ghost use Rattle.std.specs.Prelude.{◌≡◌, ◌<◌, IfOk, IfSome, length};
 ghost use Rattle.plan_terms.specs.Terms.{graph_of};
 ghost use Rattle.row_prices.specs.PathRows.{ArePricedNumbers, path_row};
-ghost use Rattle.row_cuts.specs.FoundCuts.{IsRowCut};
-ghost use Rattle.row_cuts.specs.inner.Kept.{IsKeptCut};
+ghost use Rattle.row_cuts.{specs.FoundCuts.IsRowCut, specs.inner.Kept.IsKeptCut};
 
 use metric_cut::{Cut, are_narrow};
 use net_core::{Lengths, NoMemory, Path, RouteTask};

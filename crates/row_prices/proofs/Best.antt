@@ -2,18 +2,10 @@
 use Rattle.std.proofs.Common.{◌≡◌, ℕ, ◌+◌, ◌-◌, ◌<◌, List, Some, length, refl, sym, ap, ◌∙◌, arith, subst, inl, inr, ⊎_elim, slice_get, ℤ, pos, ◌-ℤ◌, ◌*ℤ◌, ◌<ℤ◌, ◌≤ℤ◌}
 use Rattle.net_core.proofs.Library.{ints, cases_lt, *ℤ-zero, slice_get_within}
 use Rattle.plan_terms.specs.Terms.{RouteColumn, LinkSlack, DemandSlack, Carry, LinkId, Demand, Graph, Caps}
-use Rattle.simplex_law.specs.Terms.{dot, int_sum, unit_vector, ColumnOf, IsRow, IsBest, IsFeasible}
-use Rattle.simplex_law.proofs.Lemmas.{minus_left, none_gains, dot-same, sum-same, sum-times, sum-swapped, unit-other, sum-unit, weights}
-use Rattle.key_law.specs.Keys.{IsBlockRow, IsSpread, key_part, block, left_target, key}
-use Rattle.key_law.specs.KeyRows.{full_kept, full_prices, full_key, key_nums}
-use Rattle.key_law.proofs.Kept.{inverse_full, prices_full, key_full, price_product}
-use Rattle.key_law.proofs.Owned.{owned_product, owned_target}
-use Rattle.key_law.proofs.Lemmas.{is_spread}
-use Rattle.route_law.specs.Terms.{IsCarrying, IsRouteColumn, AreLinkPrices, route_rows, route_bound, route_slack, ArePricedLengths}
-use Rattle.route_law.proofs.Lemmas.{beside_first, beside_after}
-use Rattle.row_prices.specs.KeyPaths.{on_path, row_along, beyond_key, IsBesideKeys, IsPathBasis, IsPathOf, HasShortestKeys}
-use Rattle.row_prices.proofs.Columns.{named, name_entry, name_gain, left_gain, path_link, path_demand, left_gain_is}
-use Rattle.row_prices.proofs.Exchanged.{same_place, same_roles, name_at, basis_at, key_name, at_block, block_there, block_named, key_columns, keys_are, row_at_entering, new_row, new_den, new_rows, new_over}
+use Rattle.simplex_law.{specs.Terms.{dot, int_sum, unit_vector, ColumnOf, IsRow, IsBest, IsFeasible}, proofs.Lemmas.{minus_left, none_gains, dot-same, sum-same, sum-times, sum-swapped, unit-other, sum-unit, weights}}
+use Rattle.key_law.{specs.Keys.{IsBlockRow, IsSpread, key_part, block, left_target, key}, specs.KeyRows.{full_kept, full_prices, full_key, key_nums}, proofs.Kept.{inverse_full, prices_full, key_full, price_product}, proofs.Owned.{owned_product, owned_target}, proofs.Lemmas.is_spread}
+use Rattle.route_law.{specs.Terms.{IsCarrying, IsRouteColumn, AreLinkPrices, route_rows, route_bound, route_slack, ArePricedLengths}, proofs.Lemmas.{beside_first, beside_after}}
+use Rattle.row_prices.{specs.KeyPaths.{on_path, row_along, beyond_key, IsBesideKeys, IsPathBasis, IsPathOf, HasShortestKeys}, proofs.Columns.{named, name_entry, name_gain, left_gain, path_link, path_demand, left_gain_is}, proofs.Exchanged.{same_place, same_roles, name_at, basis_at, key_name, at_block, block_there, block_named, key_columns, keys_are, row_at_entering, new_row, new_den, new_rows, new_over}}
 
 -- a row of the inverse takes its denominator of bounds that are what the columns take together
 value_is : (n : ℕ) (columns : ℕ → ℕ → ℤ) (bound nums : ℕ → ℤ) (den : ℤ) (i : ℕ) → i < n → IsRow n columns (unit_vector i) nums den

@@ -2,13 +2,9 @@
 use Rattle.std.proofs.Common.{◌≡◌, ℕ, ◌+◌, ◌<◌, List, cond, length, sym, ap, ◌∙◌, arith, subst, ⊎_elim, ℤ, pos, ◌-ℤ◌}
 use Rattle.net_core.proofs.Library.{ints, cases_eq}
 use Rattle.plan_terms.specs.Terms.{RouteColumn, LinkSlack, DemandSlack, Carry, LinkId, Graph, names_link}
-use Rattle.simplex_law.specs.Terms.{unit_vector, ColumnOf}
-use Rattle.simplex_law.proofs.Lemmas.{unit-other, unit-same}
-use Rattle.key_law.specs.Keys.{difference, left_target}
-use Rattle.key_law.proofs.Lemmas.{free_difference, owned_difference}
-use Rattle.key_law.proofs.Owned.{free_target, owned_target}
-use Rattle.route_law.specs.Terms.{path_entry}
-use Rattle.route_law.proofs.Lemmas.{beside_first, beside_after}
+use Rattle.simplex_law.{specs.Terms.{unit_vector, ColumnOf}, proofs.Lemmas.{unit-other, unit-same}}
+use Rattle.key_law.{specs.Keys.{difference, left_target}, proofs.Lemmas.{free_difference, owned_difference}, proofs.Owned.{free_target, owned_target}}
+use Rattle.route_law.{specs.Terms.path_entry, proofs.Lemmas.{beside_first, beside_after}}
 use Rattle.row_prices.specs.KeyPaths.{on_path, beyond_key}
 
 -- what a column gains

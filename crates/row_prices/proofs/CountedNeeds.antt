@@ -1,17 +1,10 @@
 -- the network with as many thousandths of each demand, and as much of each link, as columns of the exchanged basis take
-use Rattle.std.proofs.Common.{◌≡◌, ℕ, ◌+◌, ◌-◌, ◌*◌, ◌<◌, ◌≤◌, ◌^◌, List, [], Some, All, length, map, get_or, slice_get, slice_index, sym, ap, ◌∙◌, arith, subst, ℤ, pos}
+use Rattle.std.{proofs.Common.{◌≡◌, ℕ, ◌+◌, ◌-◌, ◌*◌, ◌<◌, ◌≤◌, ◌^◌, List, [], Some, All, length, map, get_or, slice_get, slice_index, sym, ap, ◌∙◌, arith, subst, ℤ, pos}, proofs.lemmas.List.Sums.sum_by-le}
 use Rattle.net_core.proofs.Library.{range_with_len, All-get_or, All-from_get_or, length-map-range_with_len, get_or-map-range_with_len, get_or-map, get_or_from_slice_get, slice_get-get_or, slice_get_within}
-use Rattle.std.proofs.lemmas.List.Sums.{sum_by-le}
 use Rattle.plan_terms.specs.Terms.{RouteColumn, LinkSlack, DemandSlack, Carry, Demand, LinkId, Caps, AreDemands, IsDemand, Graph, Joins, IsPath}
 use Rattle.simplex_law.specs.Terms.{int_sum, put}
-use Rattle.route_law.specs.Terms.{route_rows, route_bound, scaled_need}
-use Rattle.route_law.proofs.Lemmas.{beside_after, beside_each}
-use Rattle.row_prices.specs.KeyPaths.{row_along, IsPathOf, IsBesideKeys, IsPathBasis, HasShortestKeys}
-use Rattle.row_prices.specs.Laws.{RowsArePriced}
-use Rattle.row_prices.proofs.Columns.{name_entry}
-use Rattle.row_prices.proofs.Counts.{standing, standing_is, standing_most, some_standing, greatest_place}
-use Rattle.row_prices.proofs.Exchanged.{name_at}
-use Rattle.row_prices.proofs.Best.{priced_there}
+use Rattle.route_law.{specs.Terms.{route_rows, route_bound, scaled_need}, proofs.Lemmas.{beside_after, beside_each}}
+use Rattle.row_prices.{specs.KeyPaths.{row_along, IsPathOf, IsBesideKeys, IsPathBasis, HasShortestKeys}, specs.Laws.RowsArePriced, proofs.Columns.name_entry, proofs.Counts.{standing, standing_is, standing_most, some_standing, greatest_place}, proofs.Exchanged.name_at, proofs.Best.priced_there}
 
 abbrev no_demand : Demand
 no_demand = record { name = []; from = record { 0 = 0 }; to = record { 0 = 0 }; need = 0 }

@@ -2,10 +2,8 @@
 use Rattle.std.proofs.Common.{◌≡◌, ℕ, zero, suc, ◌+◌, ◌-◌, ◌<◌, ◌≤◌, List, Bool, true, false, cond, eqb, length, nat_lt, refl, sym, ap, ◌∙◌, arith, ⊎_elim, eq-eqb, ℤ, pos, ◌≤ℤ◌}
 use Rattle.net_core.proofs.Library.{cases_lt, ints, by_lt_z}
 use Rattle.plan_terms.specs.Terms.{RouteColumn, LinkSlack, DemandSlack, Carry, LinkId, Graph, names_link, sum_below}
-use Rattle.simplex_law.specs.Terms.{int_sum}
-use Rattle.simplex_law.proofs.Lemmas.{sum-same}
-use Rattle.route_law.specs.Terms.{beside}
-use Rattle.route_law.proofs.Lemmas.{below_term, beside_after, sum-pos}
+use Rattle.simplex_law.{specs.Terms.int_sum, proofs.Lemmas.sum-same}
+use Rattle.route_law.{specs.Terms.beside, proofs.Lemmas.{below_term, beside_after, sum-pos}}
 use Rattle.row_prices.proofs.Columns.{name_entry}
 
 abbrev one_if : Bool → ℕ

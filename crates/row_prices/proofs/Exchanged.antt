@@ -1,17 +1,12 @@
 -- the basis in which a demand's slack has taken the place of the column of a row, and the rows of its inverse
 use Rattle.std.proofs.Common.{◌≡◌, ◌≢◌, ℕ, ◌+◌, ◌<◌, List, true, false, cond, eqb, length, refl, sym, ap, ◌∙◌, arith, subst, ⊎_elim, eq-eqb, ne_eqb, ℤ, pos, ◌-ℤ◌, ◌*ℤ◌, ◌<ℤ◌}
 use Rattle.net_core.proofs.Library.{ints, cases_eq, *ℤ-zero, slice_get_within}
-use Rattle.checked_fraction.specs.Terms.{combined}
-use Rattle.checked_fraction.proofs.Products.{positive_product}
+use Rattle.checked_fraction.{specs.Terms.combined, proofs.Products.positive_product}
 use Rattle.plan_terms.specs.Terms.{RouteColumn, LinkSlack, DemandSlack, Carry, LinkId, Demand, Graph}
-use Rattle.simplex_law.specs.Terms.{dot, put, unit_vector, ColumnOf, IsRow}
-use Rattle.simplex_law.proofs.Lemmas.{distribute_minus, minus_left, dot-same, sum-same, sum-minus, sum-none, unit-other}
-use Rattle.simplex_law.proofs.Rows.{next_row, pivot_row}
+use Rattle.simplex_law.{specs.Terms.{dot, put, unit_vector, ColumnOf, IsRow}, proofs.Lemmas.{distribute_minus, minus_left, dot-same, sum-same, sum-minus, sum-none, unit-other}, proofs.Rows.{next_row, pivot_row}}
 use Rattle.key_law.specs.Keys.{AreRoles, AreKeys, key_part, block}
-use Rattle.route_law.specs.Terms.{beside}
-use Rattle.route_law.proofs.Lemmas.{beside_first, beside_after}
-use Rattle.row_prices.specs.KeyPaths.{on_path, row_along, beyond_key, IsBesideKeys, IsPathBasis}
-use Rattle.row_prices.proofs.Columns.{named, name_entry, IsThere, path_link, path_demand, left_is}
+use Rattle.route_law.{specs.Terms.beside, proofs.Lemmas.{beside_first, beside_after}}
+use Rattle.row_prices.{specs.KeyPaths.{on_path, row_along, beyond_key, IsBesideKeys, IsPathBasis}, proofs.Columns.{named, name_entry, IsThere, path_link, path_demand, left_is}}
 
 -- the product with 0 less each number
 minus_row : (m : ℕ) (u v : ℕ → ℤ) → dot m (λ k. pos 0 -ℤ u k) v ≡ pos 0 -ℤ dot m u v

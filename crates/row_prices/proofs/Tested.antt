@@ -2,17 +2,10 @@
 use Rattle.std.proofs.Common.{◌≡◌, ◌≢◌, ℕ, zero, suc, ◌*◌, ◌<◌, ◌≤◌, List, [], ◌∷◌, All, Bool, true, false, cond, length, slice_index, refl, sym, ap, ◌∙◌, arith, subst, ⊎_elim, eq-eqb, ne_eqb, ℤ, pos, ◌+ℤ◌, ◌-ℤ◌, ◌*ℤ◌, ◌<ℤ◌, ◌≤ℤ◌}
 use Rattle.net_core.proofs.Library.{∥∥₁_elim, props, ints, cases_eq, *ℤ-zero, eq-one_of_dvd-one, AllByRecursion, slice_get_within, All-get_or, get_or_from_slice_get, All-from_recursion, no_pairs}
 use Rattle.checked_fraction.specs.Terms.{num}
-use Rattle.plan_terms.specs.Terms.{RouteColumn, LinkSlack, DemandSlack, Carry, Demand, Link, LinkId, Listed, AreDemands, IsDemand, Graph, Joins, IsNetwork, IsDistance, length_of, names_link}
-use Rattle.plan_terms.proofs.Lemmas.{DistinctLinks, path_alike, path_links_differ, path_links_inside, links_length}
-use Rattle.simplex_law.specs.Terms.{int_sum, dot, unit_vector}
-use Rattle.simplex_law.proofs.Lemmas.{minus_left, distribute_left, dot-unit, dot-none-column, sum-same, sum-plus, sum-minus, sum-unit}
-use Rattle.route_law.specs.Terms.{AreLinkPrices}
-use Rattle.route_law.proofs.Lemmas.{sum-pos}
-use Rattle.row_prices.specs.KeyPaths.{on_path, row_along, beyond_key, IsPathOf, IsBesideKeys, IsPathBasis, HasShortestKeys}
-use Rattle.row_prices.specs.PathRows.{path_row, key_path, ArePricedNumbers}
-use Rattle.row_prices.specs.declared.path_row.PathRow.{PathRow}
-use Rattle.row_prices.specs.inner.Tests.{link_at, sum_over, product_at, IsTestedBasis, HasTestedKeys, IsTestedRow, AreLowestNumbers}
-use Rattle.row_prices.proofs.CountedNeeds.{rows_are_priced}
+use Rattle.plan_terms.{specs.Terms.{RouteColumn, LinkSlack, DemandSlack, Carry, Demand, Link, LinkId, Listed, AreDemands, IsDemand, Graph, Joins, IsNetwork, IsDistance, length_of, names_link}, proofs.Lemmas.{DistinctLinks, path_alike, path_links_differ, path_links_inside, links_length}}
+use Rattle.simplex_law.{specs.Terms.{int_sum, dot, unit_vector}, proofs.Lemmas.{minus_left, distribute_left, dot-unit, dot-none-column, sum-same, sum-plus, sum-minus, sum-unit}}
+use Rattle.route_law.{specs.Terms.AreLinkPrices, proofs.Lemmas.sum-pos}
+use Rattle.row_prices.{specs.KeyPaths.{on_path, row_along, beyond_key, IsPathOf, IsBesideKeys, IsPathBasis, HasShortestKeys}, specs.PathRows.{path_row, key_path, ArePricedNumbers}, specs.declared.path_row.PathRow.PathRow, specs.inner.Tests.{link_at, sum_over, product_at, IsTestedBasis, HasTestedKeys, IsTestedRow, AreLowestNumbers}, proofs.CountedNeeds.rows_are_priced}
 
 -- a sum from its first term on
 sum-first : (n : ℕ) (f : ℕ → ℤ) → int_sum (suc n) f ≡ f 0 +ℤ int_sum n (λ k. f (suc k))

@@ -1,8 +1,7 @@
 ghost use Rattle.std.specs.Prelude.{◌≡◌, ◌<◌, ◌<ℤ◌, ◌≤ℤ◌, IsTrue, length, pos};
 ghost use Rattle.checked_fraction.specs.Terms.{num};
 ghost use Rattle.plan_terms.specs.Terms.{AreDemands};
-ghost use Rattle.row_prices.specs.PathRows.{key_path};
-ghost use Rattle.row_prices.specs.inner.Tests.{AreFarBelow, HasLongKey, IsFar, sum_over};
+ghost use Rattle.row_prices.{specs.PathRows.key_path, specs.inner.Tests.{AreFarBelow, HasLongKey, IsFar, sum_over}};
 
 use crate::sums::{along, key_of};
 use net_core::{Demand, LinkId, Path};

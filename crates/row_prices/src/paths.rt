@@ -1,8 +1,6 @@
 ghost use Rattle.std.specs.Prelude.{◌≡◌, ◌<◌, IsTrue, length};
 ghost use Rattle.plan_terms.specs.Terms.{AreDemands, Joins, graph_of};
-ghost use Rattle.row_prices.specs.KeyPaths.{IsBesideKeys, IsPathOf};
-ghost use Rattle.row_prices.specs.PathRows.{path_row};
-ghost use Rattle.row_prices.specs.inner.Tests.{AreKeysBelow, ArePathRowsBelow, IsPathRow};
+ghost use Rattle.row_prices.{specs.KeyPaths.{IsBesideKeys, IsPathOf}, specs.PathRows.path_row, specs.inner.Tests.{AreKeysBelow, ArePathRowsBelow, IsPathRow}};
 
 use crate::path_row::PathRow;
 use crate::sums::key_of;

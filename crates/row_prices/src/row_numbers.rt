@@ -1,7 +1,6 @@
 ghost use Rattle.std.specs.Prelude.{◌≡◌, ◌<◌, IfOk, IfSome, IsTrue, length};
 ghost use Rattle.plan_terms.specs.Terms.{AreDemands, graph_of};
-ghost use Rattle.row_prices.specs.PathRows.{ArePricedNumbers, path_row};
-ghost use Rattle.row_prices.specs.inner.Tests.{HasTestedKeys, IsTestedBasis, IsTestedRow};
+ghost use Rattle.row_prices.{specs.PathRows.{ArePricedNumbers, path_row}, specs.inner.Tests.{HasTestedKeys, IsTestedBasis, IsTestedRow}};
 
 use crate::inverse::are_inverse;
 use crate::lengths::lowest_of;

@@ -1,7 +1,6 @@
 ghost use Rattle.std.specs.Prelude.{◌≡◌, ◌<◌, ◌-ℤ◌, IfSome, length};
 ghost use Rattle.checked_fraction.specs.Terms.{num};
-ghost use Rattle.row_prices.specs.PathRows.{key_path};
-ghost use Rattle.row_prices.specs.inner.Tests.{link_at, product_at, sum_over};
+ghost use Rattle.row_prices.{specs.PathRows.key_path, specs.inner.Tests.{link_at, product_at, sum_over}};
 
 use net_core::{LinkId, Path, RouteColumn};
 

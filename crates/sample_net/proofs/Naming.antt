@@ -1,7 +1,6 @@
 -- a letter and a number make a name
-use Rattle.std.proofs.Common.{◌≡◌, ◌≢◌, ℕ, ◌≤◌, ◌<◌, ◌^◌, ◌==◌, drop, true, false, not, arith, ap, refl, decimal, ne_eqb}
+use Rattle.std.{proofs.Common.{◌≡◌, ◌≢◌, ℕ, ◌≤◌, ◌<◌, ◌^◌, ◌==◌, drop, true, false, not, arith, ap, refl, decimal, ne_eqb}, proofs.lemmas.Fmt.decimal_injective}
 use Rattle.net_core.proofs.Library.{list_all, and_parts, length-decimal-le}
-use Rattle.std.proofs.lemmas.Fmt.{decimal_injective}
 use Rattle.plan_terms.specs.Terms.{IsName, begins_comment, is_word_byte}
 use Rattle.text_kit.proofs.Lemmas.{decimal_plain}
 use Rattle.sample_net.specs.Samples.{numbered}

@@ -1,9 +1,7 @@
 -- all pairs of nodes: how they grow row by row, how many there are, and that they are pairs of nodes
-use Rattle.std.proofs.Common.{◌≡◌, ℕ, zero, suc, ◌+◌, ◌-◌, ◌*◌, ◌/◌, ◌≤◌, ◌<◌, List, [], ◌∷◌, ◌++◌, map, length, All, arith, ap, refl, sym, subst, ◌∙◌, append-nil, append_assoc, length-append, flat_map}
+use Rattle.std.{proofs.Common.{◌≡◌, ℕ, zero, suc, ◌+◌, ◌-◌, ◌*◌, ◌/◌, ◌≤◌, ◌<◌, List, [], ◌∷◌, ◌++◌, map, length, All, arith, ap, refl, sym, subst, ◌∙◌, append-nil, append_assoc, length-append, flat_map}, proofs.lemmas.List.Concat.flat_map-append}
 use Rattle.net_core.proofs.Library.{range_with_len, All-append, All-nil, length-map-range_with_len, map-range_with_len_more, mul-le}
-use Rattle.std.proofs.lemmas.List.Concat.{flat_map-append}
-use Rattle.sample_net.specs.Samples.{pairs_of, sample_pairs}
-use Rattle.sample_net.proofs.Sequence.{all_made}
+use Rattle.sample_net.{specs.Samples.{pairs_of, sample_pairs}, proofs.Sequence.all_made}
 
 -- one pair more of node i
 pub pair_more : (before pairs : List (ℕ × ℕ)) (i j : ℕ) → i + 1 ≤ j → pairs ≡ before ++ map (λ k. (i, k)) (range_with_len (i + 1) (j - (i + 1)))

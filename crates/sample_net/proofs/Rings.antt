@@ -1,9 +1,7 @@
 -- a ring of nodes of which one link is missing still leads from each node to each later one
-use Rattle.std.proofs.Common.{◌≡◌, ◌≢◌, ℕ, zero, suc, ◌+◌, ◌-◌, ◌*◌, ◌%◌, ◌≤◌, ◌<◌, ⊎_elim, List, [], ◌∷◌, arith, ap, refl, subst, ◌∙◌}
+use Rattle.std.{proofs.Common.{◌≡◌, ◌≢◌, ℕ, zero, suc, ◌+◌, ◌-◌, ◌*◌, ◌%◌, ◌≤◌, ◌<◌, ⊎_elim, List, [], ◌∷◌, arith, ap, refl, subst, ◌∙◌}, proofs.lemmas.Nat.mod-mul-add}
 use Rattle.net_core.proofs.Library.{cases_lt}
-use Rattle.std.proofs.lemmas.Nat.{mod-mul-add}
-use Rattle.plan_terms.specs.Terms.{LinkId, AreApart, Leads, last_node}
-use Rattle.plan_terms.proofs.Lemmas.{shortcut}
+use Rattle.plan_terms.{specs.Terms.{LinkId, AreApart, Leads, last_node}, proofs.Lemmas.shortcut}
 
 -- links lead from a to b, along nodes that may be visited twice
 pub record Connected (joins : ℕ → ℕ → ℕ → Type 0) (a b : ℕ) : Type 0 where

@@ -1,13 +1,8 @@
 -- samples are networks, and their demands belong to them
-use Rattle.std.proofs.Common.{◌≡◌, ◌≢◌, ℕ, zero, suc, ◌+◌, ◌-◌, ◌*◌, ◌/◌, ◌%◌, ◌≤◌, ◌<◌, ◌==◌, not, false, ◌⊎◌, inl, inr, ⊎_elim, List, [], ◌∷◌, map, length, get_or, All, arith, ap, refl, sym, subst, ◌∙◌, length-append, div-add-mod'}
+use Rattle.std.{proofs.Common.{◌≡◌, ◌≢◌, ℕ, zero, suc, ◌+◌, ◌-◌, ◌*◌, ◌/◌, ◌%◌, ◌≤◌, ◌<◌, ◌==◌, not, false, ◌⊎◌, inl, inr, ⊎_elim, List, [], ◌∷◌, map, length, get_or, All, arith, ap, refl, sym, subst, ◌∙◌, length-append, div-add-mod'}, proofs.lemmas.List.Sums.sum_by-le}
 use Rattle.net_core.proofs.Library.{list_any, range_with_len, All-append, All-cons, All-nil, list_any_none, length-map-range_with_len, mod_below}
-use Rattle.std.proofs.lemmas.List.Sums.{sum_by-le}
 use Rattle.plan_terms.specs.Terms.{AreDemands, IsDemand, IsLink, IsModule, IsNetwork, Demand, Link, Module}
-use Rattle.sample_net.specs.Draws.{nth_draw, nth_number}
-use Rattle.sample_net.specs.Samples.{chord_count, chord_ends, demands_between, links_between, numbered, ring_ends, sample_demand, sample_ends, sample_link, sample_links, sample_modules, sample_nodes, sample_pairs}
-use Rattle.sample_net.proofs.Naming.{numbered_differ}
-use Rattle.sample_net.proofs.Pairs.{AreOrdered, pairs_few, pairs_ordered}
-use Rattle.sample_net.proofs.Sequence.{all_made, draw_below, pairs_made, steps_add}
+use Rattle.sample_net.{specs.Draws.{nth_draw, nth_number}, specs.Samples.{chord_count, chord_ends, demands_between, links_between, numbered, ring_ends, sample_demand, sample_ends, sample_link, sample_links, sample_modules, sample_nodes, sample_pairs}, proofs.Naming.numbered_differ, proofs.Pairs.{AreOrdered, pairs_few, pairs_ordered}, proofs.Sequence.{all_made, draw_below, pairs_made, steps_add}}
 
 -- ---- the ends of links
 

@@ -3,12 +3,9 @@ use Rattle.std.proofs.Common.{◌≡◌, ℕ, ◌<◌, ◌^◌, ◌==◌, ◌||�
 use Rattle.net_core.proofs.Library.{AllByRecursion, list_any, ∥∥₁_elim, props, All-from_recursion, All-head, All-tail}
 use Rattle.snd_tokens.specs.Terms.{amount_of, units_of}
 use Rattle.plan_terms.specs.Terms.{AreDemands, IsDemand, IsNetwork, Demand, Link, Network, Notes, Places, Three}
-use Rattle.text_kit.specs.Terms.{IsFileOf, SpellsBy, ComeAfter, AreSpelled, Item, Verbatim, Closing, AddsItems, IsShortItem, money_word, section}
-use Rattle.text_kit.proofs.Lemmas.{writable, amount_again, number_takes, written_is_read, money_again}
-use Rattle.sndlib_reader.specs.Terms.{IsReadWith, Spells, IsPartAfter, IsShortLink, NodeName, NodePart, SpellsDemand, SpellsPart, SpellsParts, header, link_items, notes_of, parts_of}
-use Rattle.sndlib_reader.proofs.ItsPlaces.{three_spelled}
+use Rattle.text_kit.{specs.Terms.{IsFileOf, SpellsBy, ComeAfter, AreSpelled, Item, Verbatim, Closing, AddsItems, IsShortItem, money_word, section}, proofs.Lemmas.{writable, amount_again, number_takes, written_is_read, money_again}}
+use Rattle.sndlib_reader.{specs.Terms.{IsReadWith, Spells, IsPartAfter, IsShortLink, NodeName, NodePart, SpellsDemand, SpellsPart, SpellsParts, header, link_items, notes_of, parts_of}, proofs.ItsPlaces.three_spelled, proofs.Nodes.all_names}
 use Rattle.sample_net.specs.Texts.{HasWritableNotes, costless, costless_items, network_items, unit_demand_items}
-use Rattle.sndlib_reader.proofs.Nodes.{all_names}
 
 -- what is told of a network's check is so
 network_told : (nodes : List (List ℕ)) (links : List Link) → ∥ IsNetwork nodes links ∥₁ → IsNetwork nodes links

@@ -1,15 +1,9 @@
 -- samples are survivable: a ring without one of its links leads from each node to each other
 use Rattle.std.proofs.Common.{◌≡◌, ◌≢◌, ℕ, zero, suc, ◌+◌, ◌*◌, ◌%◌, ◌<◌, List, [], ◌∷◌, map, length, get_or, All, Some, false, slice_get, inl, arith, ap, refl, subst, ◌∙◌, ne_eqb}
 use Rattle.net_core.proofs.Library.{range_with_len, get_or_append_left, get_or-map-range_with_len, length-map-range_with_len, get_or_from_slice_get, slice_get-get_or, slice_get_within}
-use Rattle.plan_terms.specs.Terms.{graph_in, Joins, fails, Demand, Link, IsSurvivable}
-use Rattle.plan_terms.proofs.Lemmas.{joins_turned}
+use Rattle.plan_terms.{specs.Terms.{graph_in, Joins, fails, Demand, Link, IsSurvivable}, proofs.Lemmas.joins_turned}
 use Rattle.model_reader.specs.Failures.{single_states, singles_from}
-use Rattle.sample_net.specs.Draws.{nth_draw, nth_number}
-use Rattle.sample_net.specs.Samples.{chord_count, chord_ends, demands_between, ring_ends, sample_demand, sample_ends, sample_link, sample_links, sample_pairs, with_single_failures}
-use Rattle.sample_net.proofs.Pairs.{AreOrdered, pairs_ordered}
-use Rattle.sample_net.proofs.Rings.{HasRing, not_apart, ring_connects}
-use Rattle.sample_net.proofs.Sequence.{all_made}
-use Rattle.sample_net.proofs.Sound.{ends_long}
+use Rattle.sample_net.{specs.Draws.{nth_draw, nth_number}, specs.Samples.{chord_count, chord_ends, demands_between, ring_ends, sample_demand, sample_ends, sample_link, sample_links, sample_pairs, with_single_failures}, proofs.Pairs.{AreOrdered, pairs_ordered}, proofs.Rings.{HasRing, not_apart, ring_connects}, proofs.Sequence.all_made, proofs.Sound.ends_long}
 
 -- a link's own state fails no other
 fails_alone : (at : ℕ) (links : List Link) (i e : ℕ) → at + i ≢ e → fails (singles_from at links) (suc i) e ≡ false

@@ -1,9 +1,7 @@
 -- what a link and a demand take from the sequence
 use Rattle.std.proofs.Common.{◌≡◌, ℕ, ◌+◌, ◌*◌, arith, ap, ◌∙◌}
 use Rattle.plan_terms.specs.Terms.{Demand, Link}
-use Rattle.sample_net.specs.Draws.{nth_draw, nth_number}
-use Rattle.sample_net.specs.Samples.{sample_demand, sample_link}
-use Rattle.sample_net.proofs.Sequence.{draw_later, steps_add}
+use Rattle.sample_net.{specs.Draws.{nth_draw, nth_number}, specs.Samples.{sample_demand, sample_link}, proofs.Sequence.{draw_later, steps_add}}
 
 -- link e, after the two draws of each earlier one
 pub link_taken : (x y e : ℕ) (ends : ℕ × ℕ) (l : Link) → y ≡ nth_number x (2 * e) → l ≡ sample_link e ends (nth_draw y 0 80) (nth_draw y 1 200)

@@ -1,6 +1,5 @@
 -- the sample network of a seed with n nodes: first come the draws of the chords, then those of the modules, then those of the needs
-use Rattle.std.specs.Prelude.{ℕ, ◌+◌, ◌-◌, ◌*◌, ◌/◌, ◌%◌, List, [], ◌∷◌, ◌++◌, false, flat_map, length, map, slice_index_or, decimal}
-use Rattle.std.specs.List.{range_with_len}
+use Rattle.std.{specs.Prelude.{ℕ, ◌+◌, ◌-◌, ◌*◌, ◌/◌, ◌%◌, List, [], ◌∷◌, ◌++◌, false, flat_map, length, map, slice_index_or, decimal}, specs.List.range_with_len}
 use Rattle.plan_terms.specs.Terms.{Case, Demand, Link, Module, Notes, Three}
 use Rattle.model_reader.specs.Failures.{single_states}
 use Rattle.sample_net.specs.Draws.{nth_draw, nth_number}

@@ -1,9 +1,7 @@
 -- the text of a network with three places and its demands, in SNDlib's native format
-use Rattle.std.specs.Prelude.{◌≡◌, ℕ, ◌==◌, not, false, List, [], ◌∷◌, ◌++◌, flat_map, codes}
-use Rattle.std.specs.List.{list_any}
+use Rattle.std.{specs.Prelude.{◌≡◌, ℕ, ◌==◌, not, false, List, [], ◌∷◌, ◌++◌, flat_map, codes}, specs.List.list_any}
 use Rattle.plan_terms.specs.Terms.{Demand, Link, Network, Three}
-use Rattle.sndlib_reader.specs.declared.costs.CostedLink.{CostedLink}
-use Rattle.sndlib_reader.specs.Spelling.{node_pair_items, header, link_items}
+use Rattle.sndlib_reader.{specs.declared.costs.CostedLink.CostedLink, specs.Spelling.{node_pair_items, header, link_items}}
 use Rattle.text_kit.specs.Terms.{Item, Verbatim, money_word, written, section}
 
 -- A file can be written that gives these notes: the costs that links keep are those of modules and of setup.

@@ -1,7 +1,5 @@
-ghost use Rattle.std.specs.Prelude.{◌≡◌, ◌≤◌, ◌+◌, ◌++◌, IfOk, OnOk, map};
-ghost use Rattle.std.specs.List.{range_with_len};
-ghost use Rattle.sample_net.specs.Draws.{nth_number};
-ghost use Rattle.sample_net.specs.Samples.{chord_count, chord_ends, pairs_of, ring_ends, sample_ends, sample_pairs};
+ghost use Rattle.std.{specs.Prelude.{◌≡◌, ◌≤◌, ◌+◌, ◌++◌, IfOk, OnOk, map}, specs.List.range_with_len};
+ghost use Rattle.sample_net.{specs.Draws.nth_number, specs.Samples.{chord_count, chord_ends, pairs_of, ring_ends, sample_ends, sample_pairs}};
 
 use crate::draws::Draws;
 use net_core::{List, NoMemory};

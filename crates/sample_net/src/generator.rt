@@ -1,8 +1,6 @@
 ghost use Rattle.std.specs.Prelude.{◌≡◌, ◌≤◌, ◌+◌, ◌-◌, ◌*◌, ◌/◌, IfOk, OnOk, length};
 ghost use Rattle.plan_terms.specs.Terms.{AreDemands, IsNetwork, IsSurvivable};
-ghost use Rattle.sample_net.specs.Draws.{nth_number};
-ghost use Rattle.sample_net.specs.Samples.{chord_count, demands_between, no_notes, sample_demands, sample_links, sample_nodes, sample_pairs, with_single_failures};
-ghost use Rattle.sample_net.specs.Texts.{HasWritableNotes};
+ghost use Rattle.sample_net.{specs.Draws.nth_number, specs.Samples.{chord_count, demands_between, no_notes, sample_demands, sample_links, sample_nodes, sample_pairs, with_single_failures}, specs.Texts.HasWritableNotes};
 
 use crate::demands::demands_between;
 use crate::draws::Draws;

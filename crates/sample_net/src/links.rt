@@ -1,6 +1,5 @@
 ghost use Rattle.std.specs.Prelude.{◌≡◌, ◌≤◌, ◌*◌, IfOk, OnOk, length};
-ghost use Rattle.sample_net.specs.Draws.{nth_draw, nth_number};
-ghost use Rattle.sample_net.specs.Samples.{sample_link, sample_modules, links_between};
+ghost use Rattle.sample_net.{specs.Draws.{nth_draw, nth_number}, specs.Samples.{sample_link, sample_modules, links_between}};
 
 use crate::draws::Draws;
 use crate::ends::Ends;

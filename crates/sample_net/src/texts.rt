@@ -1,5 +1,4 @@
-ghost use Rattle.std.specs.Prelude.{◌≡◌, ◌<◌, ◌==◌, ◌↔◌, ◌∷◌, ◌++◌, [], All, IfOk, IsTrue, OnOk, codes, flat_map, length, not};
-ghost use Rattle.std.specs.List.{list_any};
+ghost use Rattle.std.{specs.Prelude.{◌≡◌, ◌<◌, ◌==◌, ◌↔◌, ◌∷◌, ◌++◌, [], All, IfOk, IsTrue, OnOk, codes, flat_map, length, not}, specs.List.list_any};
 ghost use Rattle.plan_terms.specs.Terms.{AreDemands, IsDemand, IsLink};
 ghost use Rattle.text_kit.specs.Terms.{Verbatim, AddsItems, section};
 ghost use Rattle.sndlib_reader.specs.Terms.{node_pair_items, module_items, Spells};

@@ -2,8 +2,7 @@
 use Rattle.std.proofs.Common.{◌≡◌, ℕ, ◌<◌, List, Option, None, Some, get_or, length, refl, slice_get, subst, sym}
 use Rattle.net_core.proofs.Library.{slice_get_read}
 use Rattle.plan_terms.specs.Terms.{AreApart, AreDemands, Case, Demand, IsDemand, IsDistance, Joins, Separates, graph_in}
-use Rattle.short_paths.specs.DistanceTables.{distance_at}
-use Rattle.short_paths.specs.declared.distance_table.DistanceTable.{DistanceTable}
+use Rattle.short_paths.{specs.DistanceTables.distance_at, specs.declared.distance_table.DistanceTable.DistanceTable}
 use Rattle.separation_texts.specs.inner.SeparationsSoFar.{IsTableOf}
 
 -- nodes that are apart have no distance

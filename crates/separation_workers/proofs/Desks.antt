@@ -1,18 +1,15 @@
 -- callers at a desk with a board
 use denote.RattleType.{RattleType}
 use denote.Struct.Tuple.{Tuple}
-use Rattle.std.proofs.Common.{◌≡◌, [], ◌∷◌, Option, None, Some, refl}
+use Rattle.std.{proofs.Common.{◌≡◌, [], ◌∷◌, Option, None, Some, refl}, specs.Coded.{coded_option, ×_prop}}
 use Rattle.net_core.proofs.Library.{∥∥₁_elim, Coded-set}
-use Rattle.std.specs.Coded.{coded_option, ×_prop}
 use Rattle.atomic_table.specs.Seated.{table_id_coded}
+use Rattle.board_desk.{specs.declared.caller.Caller.Caller, specs.Turns.{IsAtDesk, IsPassThere, IsSameCaller}, proofs.Passes.{BoardDesk, BoardPass}}
+use Rattle.separation_workers.specs.Callers.{caller_frame}
 use Rattle.net_core.specs.contracts.demand.Demand as demand
 use Rattle.net_core.specs.contracts.list.List as list
 use Rattle.net_core.specs.contracts.network.Network as network
 use Rattle.net_core.specs.contracts.states.States as states
-use Rattle.board_desk.specs.declared.caller.Caller.{Caller}
-use Rattle.board_desk.specs.Turns.{IsAtDesk, IsPassThere, IsSameCaller}
-use Rattle.board_desk.proofs.Passes.{BoardDesk, BoardPass}
-use Rattle.separation_workers.specs.Callers.{caller_frame}
 
 -- the origin of a board, as a type of the language
 abbrev origin : RattleType

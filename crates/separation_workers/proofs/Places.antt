@@ -1,10 +1,8 @@
 -- the items at places of a history
-use Rattle.std.proofs.Common.{◌≡◌, ◌∙◌, ℕ, zero, suc, ◌+◌, ◌<◌, ◌≤◌, List, [], ◌∷◌, ◌++◌, drop, take, length, true, inl, inr, refl, sym, ap, subst, arith, append_assoc, length-append}
+use Rattle.std.{proofs.Common.{◌≡◌, ◌∙◌, ℕ, zero, suc, ◌+◌, ◌<◌, ◌≤◌, List, [], ◌∷◌, ◌++◌, drop, take, length, true, inl, inr, refl, sym, ap, subst, arith, append_assoc, length-append}, proofs.lemmas.List.Concat.flat_map-append}
 use Rattle.net_core.proofs.Library.{range_with_len, drop-append-le, front_rest}
-use Rattle.std.proofs.lemmas.List.Concat.{flat_map-append}
-use Rattle.turn_lock.specs.Terms.{are_places, items_at}
+use Rattle.turn_lock.{specs.Terms.{are_places, items_at}, proofs.Places.first_place}
 use Rattle.separator.specs.Separators.{IsPartOf}
-use Rattle.turn_lock.proofs.Places.{first_place}
 
 module _ {I : Type 0} where
   -- ---- parts of a list

@@ -4,20 +4,11 @@ use Rattle.net_core.proofs.Library.{range_with_len, front_rest}
 use Rattle.plan_terms.specs.Terms.{Entry, NoMemory}
 use Rattle.metric_cut.specs.declared.cut.Cut.{Cut}
 use Rattle.plan_types.specs.declared.certificate.Spot.{Spot}
-use Rattle.cut_pool.specs.declared.answers.AdmitAnswer.{AdmitAnswer}
-use Rattle.cut_pool.specs.declared.board.Board.{Board}
-use Rattle.cut_pool.specs.Terms.{cuts_of}
+use Rattle.cut_pool.{specs.declared.answers.AdmitAnswer.AdmitAnswer, specs.declared.board.Board.Board, specs.Terms.cuts_of}
 use Rattle.turn_lock.specs.Passes.{items_at}
-use Rattle.board_desk.specs.declared.caller.Caller.{Caller}
-use Rattle.board_desk.specs.Turns.{AdmitsInTurn, HasTurn, IsSameCaller, caller_places, caller_seen}
-use Rattle.board_desk.proofs.Passes.{own_at, placed_in}
-use Rattle.separator.specs.inner.Working.{PoolsMore, state_and_lengths}
-use Rattle.separator.specs.Terms.{IsSpotAfter, IsSpotIn, SeesMore, cuts_since}
-use Rattle.separator.proofs.Admitting.{admit_pools, admit_spot}
-use Rattle.separation_workers.specs.Callers.{SeesOn}
-use Rattle.separation_workers.specs.inner.Turns.{PoolsAtMost}
-use Rattle.separation_workers.proofs.Places.{items_after, part_end}
-use Rattle.separation_workers.proofs.Seen.{seen_after_turn}
+use Rattle.board_desk.{specs.declared.caller.Caller.Caller, specs.Turns.{AdmitsInTurn, HasTurn, IsSameCaller, caller_places, caller_seen}, proofs.Passes.{own_at, placed_in}}
+use Rattle.separator.{specs.inner.Working.{PoolsMore, state_and_lengths}, specs.Terms.{IsSpotAfter, IsSpotIn, SeesMore, cuts_since}, proofs.Admitting.{admit_pools, admit_spot}}
+use Rattle.separation_workers.{specs.Callers.SeesOn, specs.inner.Turns.PoolsAtMost, proofs.Places.{items_after, part_end}, proofs.Seen.seen_after_turn}
 
 -- the caller's own entries grow by what the board grows by
 module _ (old new : Caller) (found left : Board) (turn : HasTurn old found left new) (cuts : List (ℕ × List ℕ)) (pools : PoolsMore found left cuts) where

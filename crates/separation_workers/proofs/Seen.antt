@@ -2,16 +2,11 @@
 use Rattle.std.proofs.Common.{◌≡◌, ◌∙◌, List, Option, None, Some, ap, subst, sym}
 use Rattle.net_core.proofs.Library.{∥∥₁_map}
 use Rattle.plan_terms.specs.Terms.{Entry}
-use Rattle.cut_pool.specs.declared.board.Board.{Board}
-use Rattle.cut_pool.specs.Terms.{origin_of}
+use Rattle.cut_pool.{specs.declared.board.Board.Board, specs.Terms.origin_of}
 use Rattle.turn_lock.specs.Passes.{opening_of, own_places, seen_by}
-use Rattle.board_desk.specs.declared.caller.Caller.{Caller}
-use Rattle.board_desk.specs.Turns.{HasTurn, IsSameCaller, board_made, caller_seen, seen_in}
-use Rattle.board_desk.proofs.Passes.{BoardDesk, BoardPass}
-use Rattle.separator.specs.Separators.{IsPartOf, IsSeenHistory}
-use Rattle.separator.specs.inner.Seen.{board_is_seen}
-use Rattle.separation_workers.specs.Callers.{HasSeenHistory}
-use Rattle.separation_workers.proofs.Places.{items_among}
+use Rattle.board_desk.{specs.declared.caller.Caller.Caller, specs.Turns.{HasTurn, IsSameCaller, board_made, caller_seen, seen_in}, proofs.Passes.{BoardDesk, BoardPass}}
+use Rattle.separator.{specs.Separators.{IsPartOf, IsSeenHistory}, specs.inner.Seen.board_is_seen}
+use Rattle.separation_workers.{specs.Callers.HasSeenHistory, proofs.Places.items_among}
 
 -- a board tells that its entries are such a history
 board_seen : (b : Board) (own : List Entry) → IsPartOf own b.entries → ∥ IsSeenHistory b.net.now b.states.now (record { history = b.entries; own = own }) ∥₁

@@ -1,7 +1,6 @@
 -- lengths that are shown
-use Rattle.std.proofs.Common.{◌≡◌, ℕ, ◌≤◌, List, All, Contains, length, slice_index, arith, ⊎_elim}
+use Rattle.std.{proofs.Common.{◌≡◌, ℕ, ◌≤◌, List, All, Contains, length, slice_index, arith, ⊎_elim}, proofs.lemmas.List.Elements.at_from_Contains}
 use Rattle.net_core.proofs.Library.{cases_lt, get_or_past, All-get_or}
-use Rattle.std.proofs.lemmas.List.Elements.{at_from_Contains}
 use Rattle.hint_board.specs.Priced.{AreHintLengths}
 use Rattle.route_law.specs.Terms.{ZerosAndOnesArePriced}
 

@@ -3,18 +3,11 @@ use Rattle.std.proofs.Common.{◌≡◌, ◌∙◌, ℕ, ◌+◌, ◌≤◌, ⊎
 use Rattle.net_core.proofs.Library.{∥∥₁_elim, props, front_rest}
 use Rattle.plan_terms.specs.Terms.{Entry, Caps, Case}
 use Rattle.plan_types.specs.declared.certificate.Spot.{Spot}
-use Rattle.board_desk.specs.declared.caller.Caller.{Caller}
-use Rattle.board_desk.specs.Turns.{IsSameCaller, caller_seen}
-use Rattle.board_desk.proofs.Passes.{BoardDesk}
+use Rattle.board_desk.{specs.declared.caller.Caller.Caller, specs.Turns.{IsSameCaller, caller_seen}, proofs.Passes.BoardDesk}
 use Rattle.turn_lock.specs.Passes.{opening_of}
 use Rattle.cut_pool.specs.Terms.{cuts_of}
-use Rattle.separator.specs.declared.answers.StateAnswer.{StateAnswer}
-use Rattle.separator.specs.Separators.{IsAnswerOf, IsSpotIn, cut_answered, cuts_since}
-use Rattle.separator.specs.inner.Working.{AddsCut, AreAnswersBelow, AreCutsAnswered, AreCutsBelow, AreCutsOf, AreOtherAnswers, ContinueTo, IsCutAnswer}
-use Rattle.separator.proofs.Lemmas.{answers_more, cuts_more, cuts_none, cuts_weaker, no_cuts, cuts_both, sees_both, sees_none, spot_later, among_none, answered_later, answered_wider, cut_more, cuts_unanswered, others_more}
-use Rattle.separation_workers.specs.declared.round.Round.{Round}
-use Rattle.separation_workers.specs.Callers.{SeesOn}
-use Rattle.separation_workers.specs.inner.Rounds.{IsInRound, IsPutApart}
+use Rattle.separator.{specs.declared.answers.StateAnswer.StateAnswer, specs.Separators.{IsAnswerOf, IsSpotIn, cut_answered, cuts_since}, specs.inner.Working.{AddsCut, AreAnswersBelow, AreCutsAnswered, AreCutsBelow, AreCutsOf, AreOtherAnswers, ContinueTo, IsCutAnswer}, proofs.Lemmas.{answers_more, cuts_more, cuts_none, cuts_weaker, no_cuts, cuts_both, sees_both, sees_none, spot_later, among_none, answered_later, answered_wider, cut_more, cuts_unanswered, others_more}}
+use Rattle.separation_workers.{specs.declared.round.Round.Round, specs.Callers.SeesOn, specs.inner.Rounds.{IsInRound, IsPutApart}}
 
 abbrev pub cuts_pooled : Caller → Caller → List (ℕ × List ℕ)
 cuts_pooled a b = cuts_since (caller_seen a) (caller_seen b)

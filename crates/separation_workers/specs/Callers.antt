@@ -1,6 +1,5 @@
 -- what a caller has seen at its desk
-use Rattle.board_desk.specs.declared.caller.Caller.{Caller}
-use Rattle.board_desk.specs.Turns.{IsSameCaller, board_made, caller_seen, caller_units}
+use Rattle.board_desk.{specs.declared.caller.Caller.Caller, specs.Turns.{IsSameCaller, board_made, caller_seen, caller_units}}
 use Rattle.separator.specs.Separators.{Frame, IsSeenHistory, SeesMore}
 use Rattle.separation_workers.specs.declared.workers.DeskMark.{DeskMark}
 

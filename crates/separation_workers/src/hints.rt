@@ -1,7 +1,6 @@
 ghost use Rattle.std.specs.Prelude.{◌≡◌, ◌<◌, ◌≤◌, ◌+◌, ◌^◌, All, Contains, IfOk, IfSome, IsTrue, length};
 ghost use Rattle.plan_terms.specs.Terms.{graph_in, AreDemands, case_of};
-ghost use Rattle.hint_board.specs.Hints.{hint_links};
-ghost use Rattle.hint_board.specs.Priced.{AreHintLengths};
+ghost use Rattle.hint_board.{specs.Hints.hint_links, specs.Priced.AreHintLengths};
 ghost use Rattle.route_law.specs.Terms.{ArePricedSomewhere};
 ghost use Rattle.separator.specs.Findings.{IsFoundCutOf};
 

@@ -1,6 +1,5 @@
 ghost use Rattle.std.specs.Prelude.{◌<◌, ◌≤◌, ◌+◌, All, IfOk, OnOk, length};
-ghost use Rattle.separation_workers.specs.inner.Rounds.{AreFound, IsFoundOf, IsStateFound};
-ghost use Rattle.separation_workers.specs.inner.Together.{AreOfBoth};
+ghost use Rattle.separation_workers.{specs.inner.Rounds.{AreFound, IsFoundOf, IsStateFound}, specs.inner.Together.AreOfBoth};
 
 use crate::hints::hinted_cut;
 use crate::lent_columns::{is_begun, lend};

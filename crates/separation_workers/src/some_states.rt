@@ -1,10 +1,8 @@
 ghost use Rattle.std.specs.Prelude.{◌≡◌, ◌≤◌, ◌<◌, ◌+◌, [], All, Contains, IfOk, OnOk, length};
 ghost use Rattle.plan_terms.specs.Terms.{case_of};
 ghost use Rattle.board_desk.specs.Turns.{caller_seen};
-ghost use Rattle.separator.specs.Terms.{AreAnswersUntilCut, cuts_answered, cuts_since, HasRoomOver};
-ghost use Rattle.separator.specs.inner.Working.{AddsCut, AreCutsAnswered, AreCutsBelow, AreCutsOf, AreOtherAnswers, ContinueTo};
-ghost use Rattle.separation_workers.specs.Callers.{SeesOn};
-ghost use Rattle.separation_workers.specs.inner.Rounds.{AreFound, IsInRound, IsPutApart};
+ghost use Rattle.separator.{specs.Terms.{AreAnswersUntilCut, cuts_answered, cuts_since, HasRoomOver}, specs.inner.Working.{AddsCut, AreCutsAnswered, AreCutsBelow, AreCutsOf, AreOtherAnswers, ContinueTo}};
+ghost use Rattle.separation_workers.{specs.Callers.SeesOn, specs.inner.Rounds.{AreFound, IsInRound, IsPutApart}};
 
 use crate::parallel_search::find_states;
 use crate::round::{Lead, Round, StateFound};

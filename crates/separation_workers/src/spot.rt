@@ -2,10 +2,8 @@ ghost use Rattle.std.specs.Prelude.{IfOk};
 ghost use Rattle.plan_terms.specs.Terms.{graph};
 ghost use Rattle.metric_cut.specs.Cuts.{IsCutOf};
 ghost use Rattle.board_desk.specs.Turns.{IsAtDesk, board_made, caller_seen};
-ghost use Rattle.separator.specs.inner.Working.{state_and_lengths};
-ghost use Rattle.separator.specs.Separators.{IsSpotIn};
-ghost use Rattle.separation_workers.specs.Callers.{SeesOn};
-ghost use Rattle.separation_workers.specs.inner.Turns.{PoolsAtMost};
+ghost use Rattle.separator.{specs.inner.Working.state_and_lengths, specs.Separators.IsSpotIn};
+ghost use Rattle.separation_workers.{specs.Callers.SeesOn, specs.inner.Turns.PoolsAtMost};
 
 use board_desk::Caller;
 use metric_cut::Cut;

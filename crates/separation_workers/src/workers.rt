@@ -1,11 +1,9 @@
 ghost use Rattle.std.specs.Prelude.{◌≡◌, ℕ, ◌≤◌, ◌<◌, ◌+◌, All, Contains, IfOk, IfSome, Some, length, slice_get};
 ghost use Rattle.plan_terms.specs.Terms.{graph_in, case_of, IsSurvivable};
-ghost use Rattle.separator.specs.Terms.{IsFoundCutOf, IsAnswerOf, cut_answered, cuts_since};
+ghost use Rattle.separator.{specs.Terms.{IsFoundCutOf, IsAnswerOf, cut_answered, cuts_since}, specs.inner.Working.{AreAnswersBelow, AreCutsBelow, AreCutsOf}};
 ghost use Rattle.board_desk.specs.Turns.{IsAtDesk, board_made, caller_seen};
-ghost use Rattle.separator.specs.inner.Working.{AreAnswersBelow, AreCutsBelow, AreCutsOf};
 ghost use Rattle.hint_board.specs.Hints.{hint_links};
-ghost use Rattle.separation_workers.specs.Callers.{HasSeenHistory, SeesOn, caller_frame};
-ghost use Rattle.separation_workers.specs.inner.Rounds.{AreFound, IsFoundOf, IsInRound, IsStateFound};
+ghost use Rattle.separation_workers.{specs.Callers.{HasSeenHistory, SeesOn, caller_frame}, specs.inner.Rounds.{AreFound, IsFoundOf, IsInRound, IsStateFound}};
 
 use crate::hints::post;
 use crate::hold::Hold;

@@ -2,16 +2,10 @@
 use Rattle.std.proofs.Common.{IfOk, OnErr, Ok, Err, Result, [], inl, inr, subst, sym}
 use Rattle.plan_terms.specs.Terms.{NoMemory}
 use Rattle.metric_cut.specs.declared.cut.Cut.{Cut}
-use Rattle.plan_types.specs.declared.certificate.Spot.{Spot}
-use Rattle.plan_types.specs.declared.certificate.Spot.TheVariants.{Pool, Local}
-use Rattle.cut_pool.specs.declared.answers.AdmitAnswer.{AdmitAnswer}
+use Rattle.plan_types.{specs.declared.certificate.Spot.Spot, specs.declared.certificate.Spot.TheVariants.{Pool, Local}}
+use Rattle.cut_pool.{specs.declared.answers.AdmitAnswer.AdmitAnswer, specs.declared.board.Board.Board, specs.Terms.AnswersAdmit}
+use Rattle.separator.{specs.Separators.IsSpotIn, specs.Spots.IsSpotAfter, specs.inner.Working.{PoolsMore, PoolsOnly, state_and_lengths}, proofs.Pooling.{pooled_spot, pools_one, pools_same}}
 use Rattle.cut_pool.specs.declared.answers.AdmitAnswer.TheVariants as admitting
-use Rattle.cut_pool.specs.declared.board.Board.{Board}
-use Rattle.cut_pool.specs.Terms.{AnswersAdmit}
-use Rattle.separator.specs.Separators.{IsSpotIn}
-use Rattle.separator.specs.Spots.{IsSpotAfter}
-use Rattle.separator.specs.inner.Working.{PoolsMore, PoolsOnly, state_and_lengths}
-use Rattle.separator.proofs.Pooling.{pooled_spot, pools_one, pools_same}
 
 module _ (old new : Board) (cut : Cut) where
   -- the board pools nothing more, or the cut

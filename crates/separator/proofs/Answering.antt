@@ -1,24 +1,11 @@
 -- what is answered of the states, one after another
-use Rattle.std.proofs.Common.{◌≡◌, ◌≢◌, ◌∙◌, ℕ, ◌+◌, ◌*◌, ◌<◌, ◌≤◌, ◌⊎◌, inl, inr, ⊎_elim, List, [], ◌∷◌, ◌++◌, All, AllPairs, Contains, None, Some, drop, get_or, length, slice_get, refl, sym, ap, subst, arith, sum_by, zip, append-nil, length-append}
+use Rattle.std.{proofs.Common.{◌≡◌, ◌≢◌, ◌∙◌, ℕ, ◌+◌, ◌*◌, ◌<◌, ◌≤◌, ◌⊎◌, inl, inr, ⊎_elim, List, [], ◌∷◌, ◌++◌, All, AllPairs, Contains, None, Some, drop, get_or, length, slice_get, refl, sym, ap, subst, arith, sum_by, zip, append-nil, length-append}, proofs.lemmas.List.Concat.flat_map-append}
 use Rattle.net_core.proofs.Library.{drop-append-le, All-append, All-cons, All-nil, All-weaker, Contains-append_left, Contains-append_right, front_rest, all_pairs_push}
-use Rattle.std.proofs.lemmas.List.Concat.{flat_map-append}
 use Rattle.plan_terms.specs.Terms.{Demand, Entry, Caps, Network, CutLine, States, Case, graph_in, IsCut, Keeps}
-use Rattle.metric_cut.specs.Cuts.{IsLineAt}
-use Rattle.metric_cut.specs.declared.cut.Cut.{Cut}
-use Rattle.metric_cut.proofs.Lines.{line_is_cut}
+use Rattle.metric_cut.{specs.Cuts.IsLineAt, specs.declared.cut.Cut.Cut, proofs.Lines.line_is_cut}
 use Rattle.plan_types.specs.declared.certificate.Spot.{Spot}
-use Rattle.cut_pool.specs.declared.board.Board.{Board}
-use Rattle.cut_pool.specs.Terms.{origin_of, cut_of_line, cuts_of}
-use Rattle.separator.specs.declared.answers.Separated.{Separated}
-use Rattle.separator.specs.declared.answers.Separated.TheVariants.{Routed, Violated, Wide}
-use Rattle.separator.specs.declared.answers.StateAnswer.{StateAnswer}
-use Rattle.separator.specs.Findings.{IsFoundCutOf}
-use Rattle.separator.specs.declared.one_by_one.Beginning.{Beginning}
-use Rattle.separator.specs.Separators.{Frame, IsAnswerOf, IsSeparatingCut, IsSpotIn, SeparatesAt, SeesMore, cut_answered, cuts_answered, cuts_after}
-use Rattle.separator.specs.inner.Seen.{drop_is_part}
-use Rattle.separator.specs.inner.Working.{AreAnswersBelow, AreCutsBelow, AreCutsOf, PoolsBelow, PoolsMore, PoolsOf, PoolsOnly, state_and_lengths}
-use Rattle.separator.proofs.Pooling.{pools_both, pools_none, pools_since, spot_later}
-use Rattle.separator.proofs.Seeing.{get_more}
+use Rattle.cut_pool.{specs.declared.board.Board.Board, specs.Terms.{origin_of, cut_of_line, cuts_of}}
+use Rattle.separator.{specs.declared.answers.Separated.Separated, specs.declared.answers.Separated.TheVariants.{Routed, Violated, Wide}, specs.declared.answers.StateAnswer.StateAnswer, specs.Findings.IsFoundCutOf, specs.declared.one_by_one.Beginning.Beginning, specs.Separators.{Frame, IsAnswerOf, IsSeparatingCut, IsSpotIn, SeparatesAt, SeesMore, cut_answered, cuts_answered, cuts_after}, specs.inner.Seen.drop_is_part, specs.inner.Working.{AreAnswersBelow, AreCutsBelow, AreCutsOf, PoolsBelow, PoolsMore, PoolsOf, PoolsOnly, state_and_lengths}, proofs.Pooling.{pools_both, pools_none, pools_since, spot_later}, proofs.Seeing.get_more}
 
 -- ---- the cut of a state
 

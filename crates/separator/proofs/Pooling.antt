@@ -3,12 +3,9 @@ use Rattle.std.proofs.Common.{◌≡◌, ◌∙◌, ℕ, ◌<◌, ⊎_elim, List
 use Rattle.net_core.proofs.Library.{flat_map-append, All-append, All-nil, All-push, front_rest, get_front}
 use Rattle.plan_terms.specs.Terms.{Entry, Pooled}
 use Rattle.metric_cut.specs.declared.cut.Cut.{Cut}
-use Rattle.plan_types.specs.declared.certificate.Spot.{Spot}
-use Rattle.plan_types.specs.declared.certificate.Spot.TheVariants.{Pool, Local}
-use Rattle.cut_pool.specs.declared.board.Board.{Board}
-use Rattle.cut_pool.specs.Terms.{GrowsBy, IsSameBoard, cuts_of, pooled_by}
-use Rattle.separator.specs.Separators.{IsCutEntry, IsFullHistory, IsSpotIn, cuts_after}
-use Rattle.separator.specs.inner.Working.{PoolsMore, state_and_lengths}
+use Rattle.plan_types.{specs.declared.certificate.Spot.Spot, specs.declared.certificate.Spot.TheVariants.{Pool, Local}}
+use Rattle.cut_pool.{specs.declared.board.Board.Board, specs.Terms.{GrowsBy, IsSameBoard, cuts_of, pooled_by}}
+use Rattle.separator.{specs.Separators.{IsCutEntry, IsFullHistory, IsSpotIn, cuts_after}, specs.inner.Working.{PoolsMore, state_and_lengths}}
 
 -- ---- lists
 

@@ -2,12 +2,10 @@
 use Rattle.std.proofs.Common.{◌≡◌, ◌≢◌, ℕ, zero, suc, ◌<◌, ◌≤◌, ◌⊎◌, inl, inr, ⊎_elim, List, [], ◌∷◌, ◌++◌, All, Some, None, length, slice_get, refl, sym, ap, subst, ◌∙◌, arith, append_assoc, append-nil, length-append}
 use Rattle.net_core.proofs.Library.{nil_from_length, All-append, All-nil, get_front}
 use Rattle.plan_terms.specs.Terms.{Entry}
-use Rattle.plan_types.specs.declared.certificate.Spot.{Spot}
-use Rattle.plan_types.specs.declared.certificate.Spot.TheVariants.{Pool, Local}
+use Rattle.plan_types.{specs.declared.certificate.Spot.Spot, specs.declared.certificate.Spot.TheVariants.{Pool, Local}}
 use Rattle.cut_pool.specs.Terms.{cuts_of}
 use Rattle.turn_lock.specs.Passes.{Seen}
-use Rattle.separator.specs.Separators.{IsCutEntry, IsPartOf, IsSpotIn, SeesMore}
-use Rattle.separator.proofs.Pooling.{cuts_both}
+use Rattle.separator.{specs.Separators.{IsCutEntry, IsPartOf, IsSpotIn, SeesMore}, proofs.Pooling.cuts_both}
 
 -- an item of a list with one more is one of the list, or the last
 pub get_more : {X : Type 0} (xs : List X) (x : X) (i : ℕ) (c : X) → slice_get (xs ++ x ∷ []) i ≡ Some c → ((i < length xs) × (slice_get xs i ≡ Some c)) ⊎ ((i ≡ length xs) × (x ≡ c))

@@ -4,13 +4,7 @@ use Rattle.net_core.proofs.Library.{All-append, All-nil, All-push, All-weaker, C
 use Rattle.plan_terms.specs.Terms.{Entry, Caps, Case}
 use Rattle.plan_types.specs.declared.certificate.Spot.{Spot}
 use Rattle.cut_pool.specs.Terms.{cut_of_line}
-use Rattle.separator.specs.declared.answers.Separated.{Separated}
-use Rattle.separator.specs.declared.answers.Separated.TheVariants.{Routed, Violated, Wide}
-use Rattle.separator.specs.declared.answers.StateAnswer.{StateAnswer}
-use Rattle.separator.specs.Separators.{AreAnswersUntilCut, AreRoundAnswers, AreStateAnswers, AreViolatedStates, IsAnswerOf, IsSpotIn, cut_answered, cuts_answered}
-use Rattle.separator.specs.inner.Working.{AreCutsAnswered, AreOtherAnswers}
-use Rattle.separator.proofs.Answering.{answer_later}
-use Rattle.separator.proofs.Seeing.{get_more}
+use Rattle.separator.{specs.declared.answers.Separated.Separated, specs.declared.answers.Separated.TheVariants.{Routed, Violated, Wide}, specs.declared.answers.StateAnswer.StateAnswer, specs.Separators.{AreAnswersUntilCut, AreRoundAnswers, AreStateAnswers, AreViolatedStates, IsAnswerOf, IsSpotIn, cut_answered, cuts_answered}, specs.inner.Working.{AreCutsAnswered, AreOtherAnswers}, proofs.Answering.answer_later, proofs.Seeing.get_more}
 
 -- an item of two lists is one of the first, or one of the second
 pub get_both : {X : Type 0} (xs ys : List X) (i : ℕ) (c : X) → slice_get (xs ++ ys) i ≡ Some c

@@ -3,12 +3,7 @@ use Rattle.std.proofs.Common.{◌≡◌, ◌∙◌, ℕ, ◌+◌, ◌<◌, ◌�
 use Rattle.net_core.proofs.Library.{All-nil}
 use Rattle.plan_terms.specs.Terms.{Caps, Case}
 use Rattle.cut_pool.specs.declared.board.Board.{Board}
-use Rattle.separator.specs.declared.answers.StateAnswer.{StateAnswer}
-use Rattle.separator.specs.Separators.{AreAnswersUntilCut, IsAnswerOf, cut_answered, cuts_answered, cuts_after}
-use Rattle.separator.specs.inner.Working.{AddsCut, AreCutsAnswered, IsCutAnswer, PoolsBelow, PoolsMore, PoolsOf}
-use Rattle.separator.proofs.Answering.{cuts_more, cuts_none, cuts_weaker}
-use Rattle.separator.proofs.Pooling.{pools_both, pools_none, pools_since, spot_later}
-use Rattle.separator.proofs.SomeAnswers.{among_none, answered_later, answered_wider, cut_more, cuts_are_some, cuts_unanswered}
+use Rattle.separator.{specs.declared.answers.StateAnswer.StateAnswer, specs.Separators.{AreAnswersUntilCut, IsAnswerOf, cut_answered, cuts_answered, cuts_after}, specs.inner.Working.{AddsCut, AreCutsAnswered, IsCutAnswer, PoolsBelow, PoolsMore, PoolsOf}, proofs.Answering.{cuts_more, cuts_none, cuts_weaker}, proofs.Pooling.{pools_both, pools_none, pools_since, spot_later}, proofs.SomeAnswers.{among_none, answered_later, answered_wider, cut_more, cuts_are_some, cuts_unanswered}}
 
 -- where nothing is answered, the board pools nothing
 pub pools_nothing : (a b : Board) (answered : List (ℕ × List ℕ)) → answered ≡ [] → All (Contains answered) (cuts_after a.entries b.entries) → PoolsMore a b (cuts_after a.entries b.entries) → PoolsMore a b []

@@ -1,13 +1,11 @@
 -- lengths that are priced in a state of a network are priced somewhere
 use Rattle.std.proofs.Common.{◌≡◌, ◌∙◌, ℕ, zero, suc, ◌^◌, ◌<◌, ◌≤◌, ◌||◌, inl, inr, ⊎_elim, IfSome, None, Option, Some, false, cond, List, [], ◌∷◌, All, length, refl, sym, ap, subst, arith, eq-eqb, ne_eqb}
 use Rattle.net_core.proofs.Library.{∥∥₁_elim, props, cases_Bool, cases_eq, All-cons, All-nil, slice_get_within}
-use Rattle.plan_terms.specs.Terms.{Demand, RouteColumn, LinkId, Caps, Listed, AreDemands, Graph, Joins, IsNetwork, AreStates, fails, names_link}
-use Rattle.plan_terms.proofs.Lemmas.{path_alike}
+use Rattle.plan_terms.{specs.Terms.{Demand, RouteColumn, LinkId, Caps, Listed, AreDemands, Graph, Joins, IsNetwork, AreStates, fails, names_link}, proofs.Lemmas.path_alike}
 use Rattle.simplex_law.specs.Terms.{ColumnOf}
 use Rattle.route_law.specs.Terms.{ArePricedLengths, ArePricedSomewhere, IsCarrying, IsRouteColumn}
-use Rattle.warm_routing.specs.Terms.{IsViolatedCut, IsBoundaryCut, IsFoundCutOf}
+use Rattle.warm_routing.{specs.Terms.{IsViolatedCut, IsBoundaryCut, IsFoundCutOf}, proofs.Lemmas.boundary_found}
 use Rattle.metric_cut.specs.declared.cut.Cut.{Cut}
-use Rattle.warm_routing.proofs.Lemmas.{boundary_found}
 
 -- ---- these links under other states
 

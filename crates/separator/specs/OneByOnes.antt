@@ -2,9 +2,7 @@
 use Rattle.std.specs.Prelude.{drop}
 use Rattle.plan_terms.specs.Terms.{Entry}
 use Rattle.turn_lock.specs.Passes.{Seen}
-use Rattle.separator.specs.declared.one_by_one.Beginning.{Beginning}
-use Rattle.separator.specs.declared.one_by_one.OneByOne.{OneByOne}
-use Rattle.separator.specs.Separators.{Frame}
+use Rattle.separator.{specs.declared.one_by_one.Beginning.Beginning, specs.declared.one_by_one.OneByOne.OneByOne, specs.Separators.Frame}
 
 -- no call changes the board's network, its states, its opening demands, and the number of entries that the separator began with
 abbrev pub board_frame : OneByOne → Frame Beginning

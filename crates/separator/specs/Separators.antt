@@ -1,16 +1,12 @@
 -- what a separator has seen of a history, what of it the separator has committed, and what it answers
-use Rattle.std.specs.Prelude.{◌≡◌, ◌≢◌, ℕ, ◌+◌, ◌<◌, ◌≤◌, ◌⊎◌, ◌++◌, List, [], ◌∷◌, All, AllPairs, Some, drop, length, slice_get, take}
-use Rattle.std.specs.List.{flat_map}
+use Rattle.std.{specs.Prelude.{◌≡◌, ◌≢◌, ℕ, ◌+◌, ◌<◌, ◌≤◌, ◌⊎◌, ◌++◌, List, [], ◌∷◌, All, AllPairs, Some, drop, length, slice_get, take}, specs.List.flat_map}
 use Rattle.plan_terms.specs.Terms.{Entry, Edited, Pooled, Network, Caps, CutLine, States, Case, graph_in, case, IsCut, Keeps, Violates}
-use Rattle.plan_types.specs.declared.certificate.Spot.{Spot}
-use Rattle.plan_types.specs.declared.certificate.Spot.TheVariants.{Pool, Local}
+use Rattle.plan_types.{specs.declared.certificate.Spot.Spot, specs.declared.certificate.Spot.TheVariants.{Pool, Local}}
 use Rattle.route_law.specs.Terms.{ArePricedSomewhere}
 use Rattle.warm_routing.specs.Terms.{IsEvidenceHere, IsRouted}
 use Rattle.turn_lock.specs.Passes.{Seen}
 use Rattle.cut_pool.specs.Terms.{IsLegalAfter, cut_of_line, cuts_of}
-use Rattle.separator.specs.declared.answers.Separated.{Separated}
-use Rattle.separator.specs.declared.answers.Separated.TheVariants.{Routed, Violated, Wide}
-use Rattle.separator.specs.declared.answers.StateAnswer.{StateAnswer}
+use Rattle.separator.{specs.declared.answers.Separated.Separated, specs.declared.answers.Separated.TheVariants.{Routed, Violated, Wide}, specs.declared.answers.StateAnswer.StateAnswer}
 
 -- ---- what a separator has seen, and what it commits
 

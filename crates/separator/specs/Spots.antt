@@ -1,9 +1,7 @@
 -- the spot of a cut after a board's answer to it
-use Rattle.std.specs.Prelude.{◌≡◌, OnOk, Ok}
-use Rattle.std.specs.declared.result.Result.{Result}
+use Rattle.std.{specs.Prelude.{◌≡◌, OnOk, Ok}, specs.declared.result.Result.Result}
 use Rattle.plan_terms.specs.Terms.{NoMemory}
-use Rattle.plan_types.specs.declared.certificate.Spot.{Spot}
-use Rattle.plan_types.specs.declared.certificate.Spot.TheVariants.{Pool, Local}
+use Rattle.plan_types.{specs.declared.certificate.Spot.Spot, specs.declared.certificate.Spot.TheVariants.{Pool, Local}}
 use Rattle.cut_pool.specs.declared.answers.AdmitAnswer.{AdmitAnswer}
 use Rattle.cut_pool.specs.declared.answers.AdmitAnswer.TheVariants as admitting
 

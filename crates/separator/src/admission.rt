@@ -1,9 +1,7 @@
 ghost use Rattle.std.specs.Prelude.{◌≡◌, [], IfOk, OnErr};
 ghost use Rattle.plan_terms.specs.Terms.{AreDemands, graph};
 ghost use Rattle.metric_cut.specs.Cuts.{IsCutOf, IsLineAt};
-ghost use Rattle.separator.specs.Separators.{IsSpotIn};
-ghost use Rattle.separator.specs.Spots.{IsSpotAfter};
-ghost use Rattle.separator.specs.inner.Working.{PoolsMore, PoolsOnly, state_and_lengths};
+ghost use Rattle.separator.{specs.Separators.IsSpotIn, specs.Spots.IsSpotAfter, specs.inner.Working.{PoolsMore, PoolsOnly, state_and_lengths}};
 
 use cut_pool::{AdmitAnswer, Board};
 use metric_cut::Cut;

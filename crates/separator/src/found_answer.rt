@@ -1,9 +1,7 @@
 ghost use Rattle.std.specs.Prelude.{◌≡◌, ◌<◌, All, Contains, IfOk, length};
 ghost use Rattle.plan_terms.specs.Terms.{graph_in, case_of};
 ghost use Rattle.metric_cut.specs.Cuts.{IsCutOf};
-ghost use Rattle.separator.specs.Findings.{IsFinding};
-ghost use Rattle.separator.specs.Separators.{IsAnswerOf, cut_answered, cuts_after};
-ghost use Rattle.separator.specs.inner.Working.{AnswersFound, PoolsFound, PoolsOf};
+ghost use Rattle.separator.{specs.Findings.IsFinding, specs.Separators.{IsAnswerOf, cut_answered, cuts_after}, specs.inner.Working.{AnswersFound, PoolsFound, PoolsOf}};
 
 use crate::admission::line_and_spot;
 use crate::answers::{Separated, StateAnswer};

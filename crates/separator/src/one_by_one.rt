@@ -1,7 +1,6 @@
 ghost use Rattle.std.specs.Prelude.{◌≡◌, ◌≤◌, ◌<◌, ◌+◌, [], IfOk, length};
 ghost use Rattle.plan_terms.specs.Terms.{case_of, IsSurvivable};
-ghost use Rattle.separator.specs.Separators.{cuts_after};
-ghost use Rattle.separator.specs.inner.Working.{AreAnswersBelow, PoolsBelow};
+ghost use Rattle.separator.{specs.Separators.cuts_after, specs.inner.Working.{AreAnswersBelow, PoolsBelow}};
 
 use crate::admission::spot_of;
 use crate::answers::StateAnswer;

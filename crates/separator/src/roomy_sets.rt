@@ -1,7 +1,6 @@
 ghost use Rattle.std.specs.Prelude.{◌≡◌, ◌<◌, ◌≤◌, ◌+◌, ◌*◌, IfOk, IfSome, length};
 ghost use Rattle.plan_terms.specs.Terms.{graph_in, case_of};
-ghost use Rattle.separator.specs.Findings.{IsFoundCutOf};
-ghost use Rattle.separator.specs.Rooms.{HasRoomOver, IsRoomOver};
+ghost use Rattle.separator.{specs.Findings.IsFoundCutOf, specs.Rooms.{HasRoomOver, IsRoomOver}};
 
 use metric_cut::{Cut, are_narrow, violated_by};
 use net_core::{Caps, Instance, List, NoMemory, StateId};

@@ -2,8 +2,7 @@ ghost use Rattle.std.specs.Prelude.{◌≡◌, ◌≢◌, ◌<◌, All, AllPairs
 ghost use Rattle.plan_terms.specs.Terms.{Entry, case_of, graph, IsSurvivable};
 ghost use Rattle.metric_cut.specs.Cuts.{IsCutOf};
 ghost use Rattle.turn_lock.specs.Passes.{Seen};
-ghost use Rattle.separator.specs.Separators.{AreAnswersUntilCut, AreStateAnswers, Frame, IsSeenHistory, IsSpotIn, SeesMore, SeparatesAt};
-ghost use Rattle.separator.specs.Separators.{cuts_answered, cuts_since};
+ghost use Rattle.separator.specs.Separators.{AreAnswersUntilCut, AreStateAnswers, Frame, IsSeenHistory, IsSpotIn, SeesMore, SeparatesAt, cuts_answered, cuts_since};
 
 use crate::answers::StateAnswer;
 use metric_cut::Cut;

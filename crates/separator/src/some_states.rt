@@ -1,8 +1,6 @@
 ghost use Rattle.std.specs.Prelude.{◌≡◌, ◌≤◌, ◌<◌, ◌+◌, ◌++◌, [], ◌∷◌, All, Contains, IfOk, IfSome, IsTrue, None, OnOk, false, length};
 ghost use Rattle.plan_terms.specs.Terms.{case_of, IsSurvivable};
-ghost use Rattle.separator.specs.Separators.{AreAnswersUntilCut, IsAnswerOf, cut_answered, cuts_after, cuts_answered};
-ghost use Rattle.separator.specs.inner.Working.{AddsCut, AreCutsAnswered, AreOtherAnswers, ContinueTo, PoolsBelow, PoolsMore, PoolsOf};
-ghost use Rattle.separator.specs.Rooms.{HasRoomOver};
+ghost use Rattle.separator.{specs.Separators.{AreAnswersUntilCut, IsAnswerOf, cut_answered, cuts_after, cuts_answered}, specs.inner.Working.{AddsCut, AreCutsAnswered, AreOtherAnswers, ContinueTo, PoolsBelow, PoolsMore, PoolsOf}, specs.Rooms.HasRoomOver};
 
 use crate::answers::{Separated, StateAnswer};
 use crate::found_answer::{answer_cut, answer_found};

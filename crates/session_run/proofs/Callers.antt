@@ -1,8 +1,6 @@
 -- a stable sort by the caller keeps the outcomes of each caller
-use Rattle.std.proofs.Common.{◌≡◌, ℕ, ◌==◌, List, [], nat_cmp, is_lt, sym, ◌∙◌, arith}
+use Rattle.std.{proofs.Common.{◌≡◌, ℕ, ◌==◌, List, [], nat_cmp, is_lt, sym, ◌∙◌, arith}, proofs.lemmas.List.Elements.filter_agree, specs.List.Sorted.IsStableByKey}
 use Rattle.net_core.proofs.Library.{nat_tests, ties}
-use Rattle.std.proofs.lemmas.List.Elements.{filter_agree}
-use Rattle.std.specs.List.Sorted.{IsStableByKey}
 use Rattle.plan_report.specs.Terms.{Outcome, Unsurvivable}
 use Rattle.session_run.specs.Transcripts.{outcome_caller, outcomes_of}
 

@@ -4,18 +4,11 @@ use Rattle.net_core.proofs.Library.{range_with_len}
 use Rattle.plan_terms.specs.Terms.{Entry, Case}
 use Rattle.plan_types.specs.declared.report.Outcome.{Outcome}
 use Rattle.planner.proofs.Histories.{board_few}
-use Rattle.cut_pool.specs.declared.board.Board.{Board}
-use Rattle.cut_pool.specs.Terms.{opening_case}
-use Rattle.session_script.specs.declared.script.Command.{Command}
-use Rattle.session_script.specs.Terms.{IsScript}
-use Rattle.turn_lock.specs.declared.chronicle.Chronicle.{Ghosts}
-use Rattle.turn_lock.specs.declared.desk.Pass.{Pass}
-use Rattle.turn_lock.specs.Passes.{Seen, items_at, own_items, own_places, seen_by, seen_of}
+use Rattle.cut_pool.{specs.declared.board.Board.Board, specs.Terms.opening_case}
+use Rattle.session_script.{specs.declared.script.Command.Command, specs.Terms.IsScript}
+use Rattle.turn_lock.{specs.declared.chronicle.Chronicle.Ghosts, specs.declared.desk.Pass.Pass, specs.Passes.{Seen, items_at, own_items, own_places, seen_by, seen_of}}
 use Rattle.separation_workers.proofs.Places.{items_added}
-use Rattle.session_run.specs.inner.Running.{EndsRun, HaveRun, all_own, commands_of}
-use Rattle.session_run.specs.declared.setting.Stop.{Stop}
-use Rattle.session_run.specs.declared.setting.Stop.TheVariants.{Full}
-use Rattle.session_run.proofs.Dealt.{of_all_callers}
+use Rattle.session_run.{specs.inner.Running.{EndsRun, HaveRun, all_own, commands_of}, specs.declared.setting.Stop.Stop, specs.declared.setting.Stop.TheVariants.Full, proofs.Dealt.of_all_callers}
 
 -- all entries are those of the pass that closes the desk
 module _ {T O : Type 0} {g : Ghosts T Entry O} (pass : Pass T Entry O g) (entries : List Entry) (stands : entries ≡ seen_by pass) (places : own_places pass ≡ range_with_len 0 (length entries)) where

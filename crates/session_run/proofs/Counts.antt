@@ -4,10 +4,9 @@ use Rattle.net_core.proofs.Library.{∥∥₁_elim, props, cases_eq, length-map}
 use Rattle.plan_terms.specs.Terms.{Edit, Entry, Edited, Pooled, Notes, Case}
 use Rattle.plan_types.specs.declared.report.Report.{Report}
 use Rattle.cut_pool.specs.Terms.{cut_of_line, cuts_of}
-use Rattle.session_script.specs.declared.script.Act.{Act}
-use Rattle.session_script.specs.declared.script.Act.TheVariants as acts
-use Rattle.session_script.specs.declared.script.Command.{Command}
+use Rattle.session_script.{specs.declared.script.Act.Act, specs.declared.script.Command.Command}
 use Rattle.session_run.specs.Transcripts.{IsTranscript, acts_of, edit_asked, edit_made}
+use Rattle.session_script.specs.declared.script.Act.TheVariants as acts
 
 -- ---- sums over callers
 

@@ -1,11 +1,8 @@
 -- commands dealt to two groups of callers
 use Rattle.std.proofs.Common.{◌≡◌, ◌∙◌, ℕ, zero, suc, ◌+◌, ◌<◌, ◌≤◌, ◌==◌, ◌&&◌, ◌||◌, ◌⊎◌, inl, inr, ⊎_elim, Bool, true, false, cond, List, [], ◌∷◌, ◌++◌, All, filter, if◌then◌else◌, length, leb, ltb, get_or, take, add-one, refl, sym, ap, subst, arith, count_by, le-leb, le-ltb, lt-ltb, length-append, take-suc}
 use Rattle.net_core.proofs.Library.{list_any, cases_lt, cond_both, lt-leb, or_parts, All-head, All-tail, filter-append, sum_by-append}
-use Rattle.session_script.specs.declared.script.Command.{Command}
-use Rattle.session_script.specs.Terms.{IsCommandInForm, is_plan}
-use Rattle.session_run.specs.Transcripts.{acts_of}
-use Rattle.session_run.specs.inner.Running.{commands_of, is_of}
-use Rattle.session_run.proofs.Steps.{choose_other}
+use Rattle.session_script.{specs.declared.script.Command.Command, specs.Terms.{IsCommandInForm, is_plan}}
+use Rattle.session_run.{specs.Transcripts.acts_of, specs.inner.Running.{commands_of, is_of}, proofs.Steps.choose_other}
 
 -- ---- the test of a caller
 

@@ -2,11 +2,11 @@
 use Rattle.std.proofs.Common.{ℕ, ◌+◌, ◌<◌, List, [], ◌∷◌, ◌++◌, length}
 use Rattle.net_core.proofs.Library.{props}
 use Rattle.plan_terms.specs.Terms.{Evidence, Route, Master, MasterColumn, RouteColumn, WideKind, Number, Row, Product, Sum, Common, Value, Length, Demand, LinkId, Edit, Entry, Edited, Pooled, Reply, Accepted, UnknownDemand, KnownDemand, UnknownNode, SelfDemand, TooMany, TooMuch, Link, CutLine, AreCounts}
+use Rattle.text_kit.specs.Terms.{ComeAfter, IsEditInForm}
+use Rattle.plan_report.specs.Terms.{KnownNames, IsCauseInForm, IsDemandInForm, IsEntryInForm, IsEvidenceInForm, IsKindInForm, IsMasterColumnInForm, IsOfPool, IsOutcomeInForm, IsPlanInForm, IsQualityInForm, IsReplyInForm, IsReportInForm, IsRouteColumnInForm, IsSpotInForm, Spot, Pool, Local, Plan, Cause, Wide, Cuts, Quality, Tight, Loose, Outcome, Planned, Unsurvivable, Report}
 use Rattle.net_core.specs.declared.columns.MasterColumn.TheVariants as master
 use Rattle.net_core.specs.declared.columns.RouteColumn.TheVariants as route
 use Rattle.net_core.specs.declared.journal.Edit.TheVariants as edits
-use Rattle.text_kit.specs.Terms.{ComeAfter, IsEditInForm}
-use Rattle.plan_report.specs.Terms.{KnownNames, IsCauseInForm, IsDemandInForm, IsEntryInForm, IsEvidenceInForm, IsKindInForm, IsMasterColumnInForm, IsOfPool, IsOutcomeInForm, IsPlanInForm, IsQualityInForm, IsReplyInForm, IsReportInForm, IsRouteColumnInForm, IsSpotInForm, Spot, Pool, Local, Plan, Cause, Wide, Cuts, Quality, Tight, Loose, Outcome, Planned, Unsurvivable, Report}
 
 -- ---- lists
 

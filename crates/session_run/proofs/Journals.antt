@@ -6,8 +6,7 @@ use Rattle.plan_report.specs.Terms.{HasPoolLine, IsCutInForm, IsEntryInForm, IsR
 use Rattle.cut_pool.specs.Terms.{Dated, IsLegalHistory, cut_of_line, cuts_of, demands_left, left_by, left_by_entry, version_left}
 use Rattle.text_kit.specs.Terms.{IsEditInForm}
 use Rattle.planner.proofs.Histories.{cuts_both, get_after, reply_next, version_few}
-use Rattle.session_run.specs.inner.Running.{IsEntryOfCaller}
-use Rattle.session_run.proofs.Replies.{HasLowTotal, IsLow, reply_low}
+use Rattle.session_run.{specs.inner.Running.IsEntryOfCaller, proofs.Replies.{HasLowTotal, IsLow, reply_low}}
 
 -- ---- edits
 

@@ -4,21 +4,11 @@ use Rattle.net_core.proofs.Library.{filter-append, list_any}
 use Rattle.plan_terms.specs.Terms.{Entry, Case}
 use Rattle.plan_types.specs.declared.report.Outcome.{Outcome}
 use Rattle.cut_pool.specs.Terms.{pooled_by}
-use Rattle.session_script.specs.declared.script.Act.{Act}
-use Rattle.session_script.specs.declared.script.Command.{Command}
-use Rattle.turn_lock.specs.Terms.{IsPrefix, are_places, merged, Seen, items_at}
-use Rattle.turn_lock.proofs.Places.{prefix_le, wider}
-use Rattle.board_desk.specs.declared.caller.Caller.{Caller}
-use Rattle.board_desk.specs.Turns.{caller_places, caller_seen}
-use Rattle.board_desk.proofs.Passes.{own_at, placed_in}
+use Rattle.session_script.{specs.declared.script.Act.Act, specs.declared.script.Command.Command}
+use Rattle.turn_lock.{specs.Terms.{IsPrefix, are_places, merged, Seen, items_at}, proofs.Places.{prefix_le, wider}}
+use Rattle.board_desk.{specs.declared.caller.Caller.Caller, specs.Turns.{caller_places, caller_seen}, proofs.Passes.{own_at, placed_in}}
 use Rattle.separation_workers.proofs.Places.{items_front}
-use Rattle.session_run.specs.Transcripts.{RunsFrom, acts_of, outcome_caller, edit_asked, edit_made, outcomes_of}
-use Rattle.session_run.specs.inner.Running.{AreBoth, AreFewOwn, EndsRun, HaveRun, IsEntryOfCaller, IsFullAt, commands_of, is_of}
-use Rattle.session_run.specs.declared.setting.Stop.{Stop}
-use Rattle.session_run.specs.declared.setting.Stop.TheVariants.{NoMemory, Full}
-use Rattle.session_run.proofs.Dealt.{IsDealt, dealt, some_command}
-use Rattle.session_run.proofs.Merging.{met_all, met_count, met_first, met_given, met_second}
-use Rattle.session_run.proofs.Runs.{run_later}
+use Rattle.session_run.{specs.Transcripts.{RunsFrom, acts_of, outcome_caller, edit_asked, edit_made, outcomes_of}, specs.inner.Running.{AreBoth, AreFewOwn, EndsRun, HaveRun, IsEntryOfCaller, IsFullAt, commands_of, is_of}, specs.declared.setting.Stop.Stop, specs.declared.setting.Stop.TheVariants.{NoMemory, Full}, proofs.Dealt.{IsDealt, dealt, some_command}, proofs.Merging.{met_all, met_count, met_first, met_given, met_second}, proofs.Runs.run_later}
 
 -- a caller that asks for nothing gets nothing
 no_outcomes : (p : Case) (seen : List Entry) (caller at serial : ℕ) (os : List Outcome) → RunsFrom p seen caller at serial [] os → os ≡ []

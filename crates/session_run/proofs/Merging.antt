@@ -1,8 +1,7 @@
 -- the own entries of two passes that have met
 use Rattle.std.proofs.Common.{◌≡◌, ◌∙◌, ℕ, ◌+◌, ◌<◌, ◌⊎◌, inl, inr, ⊎_elim, List, [], ◌∷◌, ◌++◌, All, drop, flat_map, length, ltb, take, true, refl, sym, ap, arith, ltb-false, length-append}
 use Rattle.net_core.proofs.Library.{cond_both, All-append, All-tail, flat_map-append, front_all}
-use Rattle.turn_lock.specs.Terms.{are_places, merged, with_place, items_at}
-use Rattle.turn_lock.proofs.Places.{first_place}
+use Rattle.turn_lock.{specs.Terms.{are_places, merged, with_place, items_at}, proofs.Places.first_place}
 
 front_none : {Y : Type 0} (xs ys : List Y) → xs ++ ys ≡ [] → xs ≡ []
 front_none [] ys none = refl

@@ -4,17 +4,10 @@ use Rattle.net_core.proofs.Library.{∥∥₁_elim, cases_eq, cond-true, All-con
 use Rattle.plan_terms.specs.Terms.{Entry, CutLine, Case}
 use Rattle.plan_report.specs.Terms.{known_to, IsHeadInForm, IsOfPool, IsOutcomeInForm, Spot, Pool, Local, Outcome, Planned, Unsurvivable}
 use Rattle.cut_pool.specs.Terms.{cut_of_line, cuts_of, version_left}
-use Rattle.session_script.specs.declared.script.Act.{Act}
-use Rattle.session_script.specs.declared.script.Act.TheVariants.{Change, Plan}
-use Rattle.session_script.specs.declared.script.Command.{Command}
-use Rattle.session_script.specs.Terms.{IsCommandInForm, IsScript}
+use Rattle.session_script.{specs.declared.script.Act.Act, specs.declared.script.Act.TheVariants.{Change, Plan}, specs.declared.script.Command.Command, specs.Terms.{IsCommandInForm, IsScript}}
 use Rattle.separation_workers.specs.Terms.{IsSpotIn}
 use Rattle.planner.proofs.Histories.{cuts_both, version_few}
-use Rattle.session_run.specs.Transcripts.{IsOutcomeAfter, RunsFrom, acts_of, outcome_caller, outcomes_of}
-use Rattle.session_run.specs.inner.Ranges.{IsShortNamed}
-use Rattle.session_run.specs.inner.Running.{HaveRun, all_own}
-use Rattle.session_run.proofs.FormProps.{outcome_prop}
-use Rattle.session_run.proofs.Journals.{line_at}
+use Rattle.session_run.{specs.Transcripts.{IsOutcomeAfter, RunsFrom, acts_of, outcome_caller, outcomes_of}, specs.inner.Ranges.IsShortNamed, specs.inner.Running.{HaveRun, all_own}, proofs.FormProps.outcome_prop, proofs.Journals.line_at}
 
 -- ---- callers
 

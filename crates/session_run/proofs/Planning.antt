@@ -3,24 +3,12 @@ use Rattle.std.proofs.Common.{◌≡◌, ◌∙◌, ◌<◌, [], ◌∷◌, List
 use Rattle.net_core.proofs.Library.{∥∥₁_elim, ∥∥₁_map, props, slice_get_within}
 use Rattle.plan_terms.specs.Terms.{Demand, Entry, NoMemory, Network, States, Case, AreDemands, case, IsCut, IsFirstSeparation}
 use Rattle.plan_types.specs.declared.report.Outcome.{Outcome}
-use Rattle.planner.specs.Terms.{IsWorkedAlone, IsWorkedPool}
-use Rattle.cut_pool.specs.declared.board.Board.{Board}
-use Rattle.cut_pool.specs.declared.snapshot.Snapshot.{Snapshot}
-use Rattle.cut_pool.specs.Terms.{IsSnapshotOf, opening_case, origin_of, cuts_of, demands_left, case_left}
-use Rattle.separation_workers.specs.Terms.{SeesMore}
-use Rattle.planner.specs.declared.answer.PlanAnswer.{PlanAnswer}
-use Rattle.planner.specs.declared.answer.PlanAnswer.TheVariants.{Planned, NotSurvivable}
-use Rattle.planner.specs.SnapshotPlans.{IsSnapshotAnswer, IsSnapshotIn, IsSnapshotPlan, PoolsAlone}
-use Rattle.planner.proofs.Histories.{version_few}
-use Rattle.separation_workers.proofs.Lemmas.{sees_none}
+use Rattle.planner.{specs.Terms.{IsWorkedAlone, IsWorkedPool}, specs.declared.answer.PlanAnswer.PlanAnswer, specs.declared.answer.PlanAnswer.TheVariants.{Planned, NotSurvivable}, specs.SnapshotPlans.{IsSnapshotAnswer, IsSnapshotIn, IsSnapshotPlan, PoolsAlone}, proofs.Histories.version_few}
+use Rattle.cut_pool.{specs.declared.board.Board.Board, specs.declared.snapshot.Snapshot.Snapshot, specs.Terms.{IsSnapshotOf, opening_case, origin_of, cuts_of, demands_left, case_left}}
+use Rattle.separation_workers.{specs.Terms.SeesMore, proofs.Lemmas.sees_none}
 use Rattle.turn_lock.specs.Passes.{Seen, opening_of}
-use Rattle.board_desk.specs.declared.caller.Caller.{Caller}
-use Rattle.board_desk.specs.Turns.{HasTurn, IsSameCaller, board_made, caller_seen}
-use Rattle.session_run.specs.declared.plans.Asked.{Asked}
-use Rattle.session_run.specs.Transcripts.{IsOutcomeAfter, IsPlanned}
-use Rattle.session_run.specs.inner.Running.{case_made}
-use Rattle.session_run.specs.inner.Turns.{IsOutcomeFor, IsSnapshotHere, NamesDemand, PlansAt, PlansSince}
-use Rattle.session_run.proofs.Turns.{own_same}
+use Rattle.board_desk.{specs.declared.caller.Caller.Caller, specs.Turns.{HasTurn, IsSameCaller, board_made, caller_seen}}
+use Rattle.session_run.{specs.declared.plans.Asked.Asked, specs.Transcripts.{IsOutcomeAfter, IsPlanned}, specs.inner.Running.case_made, specs.inner.Turns.{IsOutcomeFor, IsSnapshotHere, NamesDemand, PlansAt, PlansSince}, proofs.Turns.own_same}
 
 -- ---- the snapshot
 

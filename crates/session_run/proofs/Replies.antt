@@ -1,8 +1,7 @@
 -- replies to edits of demands: what they leave, and totals that are too much
 use Rattle.std.proofs.Common.{◌≡◌, ◌≢◌, ℕ, suc, ◌+◌, ◌^◌, ◌<◌, ◌≤◌, List, [], ◌∷◌, ◌++◌, All, Bool, true, false, not, ◌&&◌, cond, Option, Some, None, get_or, length, refl, sym, ap, ◌∙◌, ⊎_elim, arith, AllPairs, filter, nat_le, nat_lt, ltb-true}
 use Rattle.net_core.proofs.Library.{cases_Bool, cond-false, cond-true, cond_both, false_from_ne_true, false≢true, list_any_at, AllPairs-filter, all_pairs_push, sum_by-append, sum_by-cons, bytes_eq-Decides}
-use Rattle.plan_terms.specs.Terms.{Demand, Edit, Set, Add, Drop, Reply, Accepted, UnknownDemand, KnownDemand, UnknownNode, SelfDemand, TooMany, TooMuch, are_same, is_named, Answered, added, edit_need, edit_reply, is_demand, next_version, node_of, set_need, total_need, within_total, without}
-use Rattle.plan_terms.proofs.Lemmas.{changed, set_different, with_need}
+use Rattle.plan_terms.{specs.Terms.{Demand, Edit, Set, Add, Drop, Reply, Accepted, UnknownDemand, KnownDemand, UnknownNode, SelfDemand, TooMany, TooMuch, are_same, is_named, Answered, added, edit_need, edit_reply, is_demand, next_version, node_of, set_need, total_need, within_total, without}, proofs.Lemmas.{changed, set_different, with_need}}
 
 -- ---- demands
 

@@ -3,18 +3,11 @@ use Rattle.std.proofs.Common.{◌≡◌, ℕ, ◌^◌, ◌<◌, ◌≤◌, ◌==
 use Rattle.net_core.proofs.Library.{∥∥₁_elim, props, All-filter}
 use Rattle.plan_terms.specs.Terms.{Entry, Notes, CutLine, AreDemands, IsCut, HasShortLengths}
 use Rattle.plan_report.specs.Terms.{known_of, known_to, IsReportInForm, Outcome, Report}
-use Rattle.cut_pool.specs.declared.board.Board.{Board}
-use Rattle.cut_pool.specs.Terms.{opening_case, IsLegalHistory, IsPoolAfter, case_left}
+use Rattle.cut_pool.{specs.declared.board.Board.Board, specs.Terms.{opening_case, IsLegalHistory, IsPoolAfter, case_left}}
 use Rattle.planner.proofs.Histories.{board_few}
-use Rattle.session_script.specs.declared.script.Command.{Command}
-use Rattle.session_script.specs.Terms.{IsScript}
-use Rattle.session_run.specs.Transcripts.{IsPlanned, IsTranscript, RunsFrom, acts_of, outcome_caller, outcomes_of}
+use Rattle.session_script.{specs.declared.script.Command.Command, specs.Terms.IsScript}
 use Rattle.plan_types.specs.Terms.{outcome_position}
-use Rattle.session_run.specs.inner.Ranges.{IsShortNamed}
-use Rattle.session_run.specs.inner.Running.{HaveRun, all_own}
-use Rattle.session_run.proofs.FormProps.{report_prop}
-use Rattle.session_run.proofs.Journals.{entries_form, lines_few, lines_form}
-use Rattle.session_run.proofs.OutcomeForms.{kept_one, outcomes_form}
+use Rattle.session_run.{specs.Transcripts.{IsPlanned, IsTranscript, RunsFrom, acts_of, outcome_caller, outcomes_of}, specs.inner.Ranges.IsShortNamed, specs.inner.Running.{HaveRun, all_own}, proofs.FormProps.report_prop, proofs.Journals.{entries_form, lines_few, lines_form}, proofs.OutcomeForms.{kept_one, outcomes_form}}
 
 -- what holds of each of a caller's outcomes, for each caller, holds of all
 of_all : (P : Outcome → Type 0) (xs ys : List Outcome) → ((caller : ℕ) → outcomes_of caller xs ≡ outcomes_of caller ys) → All P xs → All P ys

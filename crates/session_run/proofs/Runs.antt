@@ -1,10 +1,8 @@
 -- a caller's run while the journal grows
-use Rattle.std.proofs.Common.{◌≡◌, ℕ, suc, ◌+◌, ◌≤◌, List, [], ◌∷◌, ◌++◌, length, length-append, take, refl, sym, ap, subst, ◌∙◌, arith}
-use Rattle.std.proofs.lemmas.List.{take-append-le}
+use Rattle.std.{proofs.Common.{◌≡◌, ℕ, suc, ◌+◌, ◌≤◌, List, [], ◌∷◌, ◌++◌, length, length-append, take, refl, sym, ap, subst, ◌∙◌, arith}, proofs.lemmas.List.take-append-le}
 use Rattle.plan_terms.specs.Terms.{Edit, Entry, Edited, Reply, Case}
 use Rattle.plan_types.specs.declared.report.Outcome.{Outcome}
-use Rattle.session_script.specs.declared.script.Act.{Act}
-use Rattle.session_script.specs.declared.script.Act.TheVariants.{Change, Plan}
+use Rattle.session_script.{specs.declared.script.Act.Act, specs.declared.script.Act.TheVariants.{Change, Plan}}
 use Rattle.net_core.proofs.Lists.{get_front}
 use Rattle.planner.proofs.Histories.{get_after}
 use Rattle.session_run.specs.Transcripts.{IsOutcomeAfter, RunsFrom}

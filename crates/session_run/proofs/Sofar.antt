@@ -3,22 +3,10 @@ use Rattle.std.proofs.Common.{◌≡◌, ◌∙◌, ℕ, ◌+◌, ◌<◌, ◌�
 use Rattle.plan_terms.specs.Terms.{Entry, Case}
 use Rattle.plan_types.specs.declared.report.Outcome.{Outcome}
 use Rattle.cut_pool.specs.Terms.{opening_case, cuts_of}
-use Rattle.session_script.specs.declared.script.Act.{Act}
-use Rattle.session_script.specs.declared.script.Act.TheVariants.{Change, Plan}
-use Rattle.session_script.specs.declared.script.Command.{Command}
-use Rattle.session_script.specs.Terms.{IsCommandInForm}
+use Rattle.session_script.{specs.declared.script.Act.Act, specs.declared.script.Act.TheVariants.{Change, Plan}, specs.declared.script.Command.Command, specs.Terms.IsCommandInForm}
 use Rattle.turn_lock.specs.Passes.{Seen, items_at, opening_of}
-use Rattle.board_desk.specs.declared.caller.Caller.{Caller}
-use Rattle.board_desk.specs.Turns.{IsSameCaller, caller_seen}
-use Rattle.session_run.specs.Transcripts.{outcomes_of}
-use Rattle.board_desk.proofs.Passes.{own_at}
-use Rattle.session_run.specs.declared.setting.Setting.{Setting}
-use Rattle.session_run.specs.inner.Running.{AreFewOwn, CanRun, HaveRun, IsFullAt, case_made, commands_of}
-use Rattle.session_run.specs.inner.Turns.{HasActed, HasStopped, Progress, progress_of}
-use Rattle.session_run.specs.declared.setting.Stop.{Stop}
-use Rattle.session_run.proofs.Dealt.{next_other, next_own}
-use Rattle.session_run.proofs.Steps.{acted_run, caller_is, few_more, none_run, outcomes_own}
-use Rattle.session_run.proofs.Turns.{same_both}
+use Rattle.board_desk.{specs.declared.caller.Caller.Caller, specs.Turns.{IsSameCaller, caller_seen}, proofs.Passes.own_at}
+use Rattle.session_run.{specs.Transcripts.outcomes_of, specs.declared.setting.Setting.Setting, specs.inner.Running.{AreFewOwn, CanRun, HaveRun, IsFullAt, case_made, commands_of}, specs.inner.Turns.{HasActed, HasStopped, Progress, progress_of}, specs.declared.setting.Stop.Stop, proofs.Dealt.{next_other, next_own}, proofs.Steps.{acted_run, caller_is, few_more, none_run, outcomes_own}, proofs.Turns.same_both}
 
 -- the first of a caller's commands have run
 pub record RanSoFar (first now : Caller) (cs : List Command) (i : ℕ) (outs : List Outcome) : Type 0 where

@@ -4,22 +4,12 @@ use Rattle.net_core.proofs.Library.{∥∥₁_elim, props, All-append, All-head,
 use Rattle.plan_terms.specs.Terms.{Edit, Entry, Edited, Pooled, Reply, Case}
 use Rattle.plan_report.specs.Terms.{Outcome, Planned, Unsurvivable}
 use Rattle.cut_pool.specs.Terms.{cuts_of}
-use Rattle.session_script.specs.declared.script.Act.{Act}
-use Rattle.session_script.specs.declared.script.Act.TheVariants.{Change, Plan}
-use Rattle.session_script.specs.declared.script.Command.{Command}
-use Rattle.planner.specs.Terms.{IsWorkedPool}
-use Rattle.separation_workers.specs.Terms.{IsCutEntry, IsPartOf}
-use Rattle.separation_workers.proofs.Lemmas.{part_few}
-use Rattle.planner.proofs.Lemmas.{all_cuts}
-use Rattle.planner.proofs.Histories.{cuts_both}
-use Rattle.session_run.specs.Transcripts.{IsOutcomeAfter, IsPlanned, RunsFrom, acts_of, outcome_caller, edit_asked, edit_made, outcomes_of}
+use Rattle.session_script.{specs.declared.script.Act.Act, specs.declared.script.Act.TheVariants.{Change, Plan}, specs.declared.script.Command.Command, specs.Terms.{IsActInForm, IsCommandInForm, asks_plan, is_plan}}
+use Rattle.planner.{specs.Terms.IsWorkedPool, proofs.Lemmas.all_cuts, proofs.Histories.cuts_both}
+use Rattle.separation_workers.{specs.Terms.{IsCutEntry, IsPartOf}, proofs.Lemmas.part_few}
 use Rattle.plan_types.specs.Terms.{outcome_position}
-use Rattle.session_run.specs.inner.Running.{HaveRun, IsEntryOfCaller}
-use Rattle.session_run.specs.inner.Turns.{HasActed, PlansAt, Progress}
-use Rattle.session_run.specs.declared.plans.Asked.{Asked}
 use Rattle.turn_lock.specs.Passes.{Seen}
-use Rattle.session_script.specs.Terms.{IsActInForm, IsCommandInForm, asks_plan, is_plan}
-use Rattle.session_run.proofs.Runs.{run_edit, run_later, run_plan}
+use Rattle.session_run.{specs.Transcripts.{IsOutcomeAfter, IsPlanned, RunsFrom, acts_of, outcome_caller, edit_asked, edit_made, outcomes_of}, specs.inner.Running.{HaveRun, IsEntryOfCaller}, specs.inner.Turns.{HasActed, PlansAt, Progress}, specs.declared.plans.Asked.Asked, proofs.Runs.{run_edit, run_later, run_plan}}
 
 -- ---- lists taken apart
 

@@ -2,18 +2,11 @@
 use Rattle.std.proofs.Common.{◌≡◌, ◌∙◌, ◌-◌, ◌≤◌, ◌++◌, [], ◌∷◌, List, length, sym, ap, subst, arith, Result, append-nil, length-append}
 use Rattle.net_core.proofs.Library.{range_with_len}
 use Rattle.plan_terms.specs.Terms.{Edit, Entry, Edited}
-use Rattle.cut_pool.specs.declared.answers.EditAnswer.{EditAnswer}
-use Rattle.cut_pool.specs.declared.answers.EditAnswer.TheVariants.{At, Full, NoMemory}
-use Rattle.cut_pool.specs.declared.board.Board.{Board}
+use Rattle.cut_pool.{specs.declared.answers.EditAnswer.EditAnswer, specs.declared.answers.EditAnswer.TheVariants.{At, Full, NoMemory}, specs.declared.board.Board.Board}
 use Rattle.turn_lock.specs.Passes.{items_at, opening_of}
-use Rattle.board_desk.specs.declared.caller.Caller.{Caller}
-use Rattle.board_desk.specs.Turns.{EditsInTurn, HasTurn, IsSameCaller, caller_places, caller_seen}
-use Rattle.board_desk.proofs.Passes.{BoardDesk, own_at, placed_in}
+use Rattle.board_desk.{specs.declared.caller.Caller.Caller, specs.Turns.{EditsInTurn, HasTurn, IsSameCaller, caller_places, caller_seen}, proofs.Passes.{BoardDesk, own_at, placed_in}}
 use Rattle.separation_workers.proofs.Places.{items_after}
-use Rattle.session_run.specs.declared.setting.Setting.{Setting}
-use Rattle.session_run.specs.declared.setting.Stop.{Stop}
-use Rattle.session_run.specs.inner.Running.{IsOfSetting}
-use Rattle.session_run.specs.inner.Turns.{EndsEdit, IsDoneBy}
+use Rattle.session_run.{specs.declared.setting.Setting.Setting, specs.declared.setting.Stop.Stop, specs.inner.Running.IsOfSetting, specs.inner.Turns.{EndsEdit, IsDoneBy}}
 
 -- ---- callers
 

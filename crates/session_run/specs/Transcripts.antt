@@ -3,13 +3,10 @@ use Rattle.std.specs.Prelude.{◌≡◌, ℕ, ◌+◌, ◌≤◌, ◌==◌, List
 use Rattle.plan_terms.specs.Terms.{Edit, Entry, Edited, Pooled, Reply, Notes, Case, IsFirstSeparation}
 use Rattle.plan_types.specs.Terms.{outcome_position}
 use Rattle.plan_report.specs.Terms.{known_to, IsReportInForm, Plan, Outcome, Planned, Unsurvivable, Report}
-use Rattle.cut_pool.specs.declared.snapshot.Snapshot.{Snapshot}
-use Rattle.cut_pool.specs.Terms.{IsLegalHistory, IsPoolAfter, demands_left, version_left, case_left}
-use Rattle.session_script.specs.declared.script.Act.{Act}
+use Rattle.cut_pool.{specs.declared.snapshot.Snapshot.Snapshot, specs.Terms.{IsLegalHistory, IsPoolAfter, demands_left, version_left, case_left}}
+use Rattle.session_script.{specs.declared.script.Act.Act, specs.declared.script.Command.Command}
+use Rattle.planner.{specs.Terms.IsWorkedPool, specs.SnapshotPlans.IsSnapshotPlan}
 use Rattle.session_script.specs.declared.script.Act.TheVariants as acts
-use Rattle.session_script.specs.declared.script.Command.{Command}
-use Rattle.planner.specs.Terms.{IsWorkedPool}
-use Rattle.planner.specs.SnapshotPlans.{IsSnapshotPlan}
 
 -- ---- what a caller asks for, and what it gets
 

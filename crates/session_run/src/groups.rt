@@ -1,6 +1,4 @@
-ghost use Rattle.std.specs.Prelude.{◌≡◌, ◌≤◌, ◌<◌, ◌+◌, Ok};
-ghost use Rattle.std.specs.List.{list_any};
-ghost use Rattle.std.specs.Thread.{IsSync};
+ghost use Rattle.std.{specs.Prelude.{◌≡◌, ◌≤◌, ◌<◌, ◌+◌, Ok}, specs.List.list_any, specs.Thread.IsSync};
 ghost use Rattle.board_desk.specs.Turns.{AreAtOneDesk, caller_seen, caller_units};
 ghost use Rattle.session_run.specs.inner.Running.{AreBoth, CanRun, EndsRun, case_made, commands_of, is_of};
 

@@ -1,8 +1,7 @@
 ghost use Rattle.std.specs.Prelude.{◌≡◌, ◌≤◌, ◌+◌, length};
 ghost use Rattle.board_desk.specs.Turns.{IsSameCaller, caller_seen};
 ghost use Rattle.session_script.specs.Terms.{IsCommandInForm};
-ghost use Rattle.session_run.specs.inner.Running.{CanRun, EndsRun, IsOfSetting, case_made, commands_of};
-ghost use Rattle.session_run.specs.inner.Turns.{EndsAct, KeepsOutcome, progress_of};
+ghost use Rattle.session_run.{specs.inner.Running.{CanRun, EndsRun, IsOfSetting, case_made, commands_of}, specs.inner.Turns.{EndsAct, KeepsOutcome, progress_of}};
 
 use crate::edits::run_edit;
 use crate::plans::{Asked, run_plan};

@@ -1,12 +1,10 @@
 ghost use Rattle.std.specs.Prelude.{◌≡◌, IfOk, length};
 ghost use Rattle.plan_terms.specs.Terms.{AreDemands, case};
 ghost use Rattle.board_desk.specs.Turns.{IsSameCaller, caller_seen};
-ghost use Rattle.separation_workers.specs.Terms.{SeesMore};
-ghost use Rattle.separation_workers.specs.Callers.{HasSeenHistory};
+ghost use Rattle.separation_workers.{specs.Terms.SeesMore, specs.Callers.HasSeenHistory};
 ghost use Rattle.plan_types.specs.declared.report.Outcome.TheVariants as outcomes;
 ghost use Rattle.planner.specs.SnapshotPlans.{IsSnapshotAnswer, IsSnapshotIn, PoolsAlone};
-ghost use Rattle.session_run.specs.inner.Running.{IsOfSetting, case_made};
-ghost use Rattle.session_run.specs.inner.Turns.{IsOutcomeFor, IsSnapshotHere, NamesDemand, PlansAt, PlansSince};
+ghost use Rattle.session_run.{specs.inner.Running.{IsOfSetting, case_made}, specs.inner.Turns.{IsOutcomeFor, IsSnapshotHere, NamesDemand, PlansAt, PlansSince}};
 
 use crate::setting::Setting;
 use board_desk::Caller;

@@ -1,10 +1,8 @@
 ghost use Rattle.std.specs.Prelude.{◌≡◌, ◌≤◌, ℕ, All, AllPairs, IfOk, length};
 ghost use Rattle.plan_terms.specs.Terms.{AreDemands, HasShortLengths};
-ghost use Rattle.cut_pool.specs.Boards.{AreLinesNow};
-ghost use Rattle.cut_pool.specs.Terms.{opening_case};
+ghost use Rattle.cut_pool.{specs.Boards.AreLinesNow, specs.Terms.opening_case};
 ghost use Rattle.session_script.specs.Terms.{IsScript};
-ghost use Rattle.session_run.specs.Transcripts.{IsTranscript, outcome_caller, outcomes_of};
-ghost use Rattle.session_run.specs.inner.Running.{HaveRun, all_own};
+ghost use Rattle.session_run.{specs.Transcripts.{IsTranscript, outcome_caller, outcomes_of}, specs.inner.Running.{HaveRun, all_own}};
 
 use crate::ranges::are_short_named;
 use cut_pool::Board;

@@ -1,10 +1,8 @@
 ghost use Rattle.std.specs.Prelude.{◌≡◌, ◌≢◌, [], ◌∷◌, IfOk, length};
 ghost use Rattle.plan_terms.specs.Terms.{AreDemands, case};
 ghost use Rattle.cut_pool.specs.Terms.{opening_case, origin_of};
-ghost use Rattle.session_script.specs.Terms.{IsScript};
-ghost use Rattle.session_script.specs.declared.script.Act.TheVariants.{Plan};
-ghost use Rattle.session_run.specs.Transcripts.{IsTranscript};
-ghost use Rattle.session_run.specs.inner.Running.{HaveRun, all_own};
+ghost use Rattle.session_script.{specs.Terms.IsScript, specs.declared.script.Act.TheVariants.Plan};
+ghost use Rattle.session_run.{specs.Transcripts.IsTranscript, specs.inner.Running.{HaveRun, all_own}};
 
 use crate::boards::board_for;
 use crate::groups::run_callers;

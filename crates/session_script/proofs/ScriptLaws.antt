@@ -1,24 +1,11 @@
 -- The reading of a script takes exactly the texts of scripts.
 use Rattle.std.proofs.Common.{◌≡◌, ℕ, ◌+◌, ◌^◌, ◌<◌, ◌≤◌, true, cond, List, [], ◌∷◌, ◌++◌, length, Result, Ok, IfOk, IfErr, refl, sym, ap, subst, ◌∙◌, arith, append-nil, append_assoc, count_by, codes, flat_map}
-use Rattle.net_core.proofs.Library.{sum_by-append}
-use Rattle.net_core.specs.Terms.{are_same}
-use Rattle.net_core.specs.declared.journal.Edit.TheVariants as edits
-use Rattle.net_core.specs.declared.places.Places.{Places}
+use Rattle.net_core.{proofs.Library.sum_by-append, specs.Terms.are_same, specs.declared.places.Places.Places}
 use Rattle.snd_tokens.specs.Terms.{first_line, trimmed, Text, EndAt}
-use Rattle.text_kit.specs.Terms.{AnswersAs, ReadsAllAs, IsNotTooEarly, body, ComeAfter, Item, Verbatim, Whole, Money, Opening, Closing, word_at, TheEnd, list_at, no_fault, any_name}
-use Rattle.text_kit.specs.declared.refusal.Refusal.{Refusal}
-use Rattle.text_kit.proofs.Lemmas.{lawful_amount, lawful_any_name, all_after, after_all, after_as, after_both, answer_found, answer_only, answer_first, file_read, AnyText, IsEnd, Lawful, after_few, few_after, lawful_as, lawful_close, lawful_give, lawful_list, lawful_open, lawful_then, lawful_word, IsOnline, TakesSome, online_close, online_give, online_list, online_open, online_then, online_word, takes_some}
-use Rattle.session_script.specs.declared.fault.ScriptKind.{ScriptKind}
-use Rattle.session_script.specs.declared.fault.ScriptKind.TheVariants.{Header, Token, Ended, LimitName, Number}
-use Rattle.session_script.specs.declared.script.Act.{Act}
-use Rattle.session_script.specs.declared.script.Act.TheVariants.{Change, Plan}
-use Rattle.session_script.specs.declared.script.Command.{Command}
-use Rattle.session_script.specs.declared.script.Script.{Script}
-use Rattle.session_script.specs.declared.script.Verb.{Verb}
+use Rattle.text_kit.{specs.Terms.{AnswersAs, ReadsAllAs, IsNotTooEarly, body, ComeAfter, Item, Verbatim, Whole, Money, Opening, Closing, word_at, TheEnd, list_at, no_fault, any_name}, specs.declared.refusal.Refusal.Refusal, proofs.Lemmas.{lawful_amount, lawful_any_name, all_after, after_all, after_as, after_both, answer_found, answer_only, answer_first, file_read, AnyText, IsEnd, Lawful, after_few, few_after, lawful_as, lawful_close, lawful_give, lawful_list, lawful_open, lawful_then, lawful_word, IsOnline, TakesSome, online_close, online_give, online_list, online_open, online_then, online_word, takes_some}}
+use Rattle.session_script.{specs.declared.fault.ScriptKind.ScriptKind, specs.declared.fault.ScriptKind.TheVariants.{Header, Token, Ended, LimitName, Number}, specs.declared.script.Act.Act, specs.declared.script.Act.TheVariants.{Change, Plan}, specs.declared.script.Command.Command, specs.declared.script.Script.Script, specs.declared.script.Verb.Verb, specs.Scripts.{IsActInForm, IsCommandInForm, IsScript, SpellsScript, act_items, command_items, is_plan, script_header, script_of_commands}, specs.ScriptReading.{act_at, begun_command, caller_of, command_at, need_in_script, script_of, verb_after}, proofs.ScriptWords.{HasRoom, IsCallerNumber, begun_again, begun_takes, caller_again, caller_takes, verb_again, verb_takes, verb_word}}
+use Rattle.net_core.specs.declared.journal.Edit.TheVariants as edits
 use Rattle.session_script.specs.declared.script.Verb.TheVariants as verbs
-use Rattle.session_script.specs.Scripts.{IsActInForm, IsCommandInForm, IsScript, SpellsScript, act_items, command_items, is_plan, script_header, script_of_commands}
-use Rattle.session_script.specs.ScriptReading.{act_at, begun_command, caller_of, command_at, need_in_script, script_of, verb_after}
-use Rattle.session_script.proofs.ScriptWords.{HasRoom, IsCallerNumber, begun_again, begun_takes, caller_again, caller_takes, verb_again, verb_takes, verb_word}
 
 -- ---- words
 

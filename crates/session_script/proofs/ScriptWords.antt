@@ -1,17 +1,10 @@
 -- What a word of a script says, and which words say it.
 use Rattle.std.proofs.Common.{◌≡◌, ℕ, ◌<◌, ◌≤◌, ◌&&◌, Bool, true, false, cond, nat_lt, List, length, Result, Ok, Err, refl, ap, subst, ◌∙◌, arith, count_by, codes, ltb-true, lt-ltb}
-use Rattle.net_core.proofs.Library.{and_parts, same_is}
-use Rattle.net_core.specs.Terms.{are_same}
-use Rattle.snd_tokens.specs.declared.whole_number.WholeFault.{WholeFault}
-use Rattle.snd_tokens.specs.Terms.{whole_of}
+use Rattle.net_core.{proofs.Library.{and_parts, same_is}, specs.Terms.are_same}
+use Rattle.snd_tokens.{specs.declared.whole_number.WholeFault.WholeFault, specs.Terms.whole_of}
 use Rattle.text_kit.proofs.Lemmas.{if_ok, ok_is}
-use Rattle.session_script.specs.declared.fault.ScriptKind.{ScriptKind}
-use Rattle.session_script.specs.declared.fault.ScriptKind.TheVariants.{Token, Caller, LimitCommands, LimitPlans}
-use Rattle.session_script.specs.declared.script.Command.{Command}
-use Rattle.session_script.specs.declared.script.Verb.{Verb}
+use Rattle.session_script.{specs.declared.fault.ScriptKind.ScriptKind, specs.declared.fault.ScriptKind.TheVariants.{Token, Caller, LimitCommands, LimitPlans}, specs.declared.script.Command.Command, specs.declared.script.Verb.Verb, specs.Scripts.is_plan, specs.ScriptReading.{begun_command, caller_within, caller_of, verb_of, verb_within, verb_after}}
 use Rattle.session_script.specs.declared.script.Verb.TheVariants as verbs
-use Rattle.session_script.specs.Scripts.{is_plan}
-use Rattle.session_script.specs.ScriptReading.{begun_command, caller_within, caller_of, verb_of, verb_within, verb_after}
 
 -- ---- the word of a command
 

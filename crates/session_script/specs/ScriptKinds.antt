@@ -1,8 +1,7 @@
 -- how the kinds of faults are written
 use Rattle.std.specs.Prelude.{ℕ, List, codes}
 use Rattle.text_kit.specs.Terms.{number_word}
-use Rattle.session_script.specs.declared.fault.ScriptKind.{ScriptKind}
-use Rattle.session_script.specs.declared.fault.ScriptKind.TheVariants.{Header, Token, Ended, Caller, Number, LimitName, LimitCommands, LimitPlans}
+use Rattle.session_script.{specs.declared.fault.ScriptKind.ScriptKind, specs.declared.fault.ScriptKind.TheVariants.{Header, Token, Ended, Caller, Number, LimitName, LimitCommands, LimitPlans}}
 
 -- the word of each kind
 abbrev pub script_kind_word : ScriptKind → List ℕ

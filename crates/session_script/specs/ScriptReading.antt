@@ -1,20 +1,11 @@
 -- Reading a script from left to right: the tests of its words, and their order.
 use Rattle.std.specs.Prelude.{ℕ, Bool, nat_lt, ◌&&◌, if◌then◌else◌, List, [], length, count_by, Result, Ok, Err, codes}
-use Rattle.net_core.specs.Terms.{are_same}
-use Rattle.net_core.specs.declared.journal.Edit.TheVariants as edits
-use Rattle.net_core.specs.declared.places.Places.{Places}
-use Rattle.snd_tokens.specs.declared.whole_number.WholeFault.{WholeFault}
-use Rattle.snd_tokens.specs.Terms.{amount_of, whole_of}
+use Rattle.net_core.{specs.Terms.are_same, specs.declared.places.Places.Places}
+use Rattle.snd_tokens.{specs.declared.whole_number.WholeFault.WholeFault, specs.Terms.{amount_of, whole_of}}
 use Rattle.text_kit.specs.Terms.{file_at, any_name, number_or, Read, Reading, ◌>>=◌, give, word_at, open_at, close_at, TheEnd, list_at, mapped, no_fault}
-use Rattle.session_script.specs.declared.fault.ScriptKind.{ScriptKind}
-use Rattle.session_script.specs.declared.fault.ScriptKind.TheVariants.{Header, Token, Ended, Caller, Number, LimitName, LimitCommands, LimitPlans}
-use Rattle.session_script.specs.declared.script.Act.{Act}
-use Rattle.session_script.specs.declared.script.Act.TheVariants.{Change, Plan}
-use Rattle.session_script.specs.declared.script.Command.{Command}
-use Rattle.session_script.specs.declared.script.Script.{Script}
-use Rattle.session_script.specs.declared.script.Verb.{Verb}
+use Rattle.session_script.{specs.declared.fault.ScriptKind.ScriptKind, specs.declared.fault.ScriptKind.TheVariants.{Header, Token, Ended, Caller, Number, LimitName, LimitCommands, LimitPlans}, specs.declared.script.Act.Act, specs.declared.script.Act.TheVariants.{Change, Plan}, specs.declared.script.Command.Command, specs.declared.script.Script.Script, specs.declared.script.Verb.Verb, specs.Scripts.{script_header, is_plan, script_of_commands}}
+use Rattle.net_core.specs.declared.journal.Edit.TheVariants as edits
 use Rattle.session_script.specs.declared.script.Verb.TheVariants as verbs
-use Rattle.session_script.specs.Scripts.{script_header, is_plan, script_of_commands}
 
 -- ---- what a word says
 

@@ -2,10 +2,7 @@
 use Rattle.std.specs.Prelude.{ℕ, ◌≤◌, Bool, true, false, List, [], ◌∷◌, length, All, flat_map, count_by, codes}
 use Rattle.net_core.specs.declared.places.Places.{Places}
 use Rattle.text_kit.specs.Terms.{IsEditInForm, edit_items, SpellsAs, Item, Verbatim, Whole}
-use Rattle.session_script.specs.declared.script.Act.{Act}
-use Rattle.session_script.specs.declared.script.Act.TheVariants.{Change, Plan}
-use Rattle.session_script.specs.declared.script.Command.{Command}
-use Rattle.session_script.specs.declared.script.Script.{Script}
+use Rattle.session_script.{specs.declared.script.Act.Act, specs.declared.script.Act.TheVariants.{Change, Plan}, specs.declared.script.Command.Command, specs.declared.script.Script.Script}
 
 -- the first line of a script
 abbrev pub script_header : List ℕ

@@ -1,9 +1,7 @@
 ghost use Rattle.std.specs.Prelude.{◌≡◌, ◌<◌, [], IsTrue, IfOk, IfErr, Ok};
 ghost use Rattle.snd_tokens.specs.Terms.{left, size};
 ghost use Rattle.text_kit.specs.Terms.{AnswersAs, ReadsAllAs, ReadsAs, TakesElement, IsNotTooEarly, TheEnd, list_at, no_fault};
-ghost use Rattle.session_script.specs.declared.script.Script.{Script as Scr};
-ghost use Rattle.session_script.specs.Scripts.{SpellsScript};
-ghost use Rattle.session_script.specs.ScriptReading.{command_at, script_of};
+ghost use Rattle.session_script.{specs.declared.script.Script.{Script as Scr}, specs.Scripts.SpellsScript, specs.ScriptReading.{command_at, script_of}};
 
 use crate::command::command;
 use crate::fault::{ScriptKind, ScriptRefusal};

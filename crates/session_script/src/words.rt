@@ -1,8 +1,7 @@
 ghost use Rattle.std.specs.Prelude.{◌≡◌, count_by};
 ghost use Rattle.snd_tokens.specs.Terms.{left};
 ghost use Rattle.text_kit.specs.Terms.{ReadsAs, any_name, word_at};
-ghost use Rattle.session_script.specs.Scripts.{is_plan};
-ghost use Rattle.session_script.specs.ScriptReading.{begun_command, caller_of, need_in_script, verb_after, verb_of};
+ghost use Rattle.session_script.{specs.Scripts.is_plan, specs.ScriptReading.{begun_command, caller_of, need_in_script, verb_after, verb_of}};
 
 use crate::fault::{ScriptKind, ScriptRefusal};
 use crate::script::{Command, Verb};

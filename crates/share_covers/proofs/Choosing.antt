@@ -1,25 +1,13 @@
 -- the fallback plan, or the covers of a share
 use Rattle.std.proofs.Common.{◌≡◌, ℕ, ◌*◌, ◌≤◌, ◌<◌, Bool, true, false, if◌then◌else◌, nat_lt, inl, inr, List, [], All, Some, get_or, length, refl, subst, arith, slice_get, ltb-false, ltb-true}
 use Rattle.net_core.proofs.Library.{slice_get-get_or, ∥∥₁_elim, eq-one_of_dvd-one, props, ◌∣◌}
-use Rattle.module_choice.specs.declared.fallback.Fallback.{Fallback}
-use Rattle.module_choice.proofs.Carrying.{few_flows, flows_small}
+use Rattle.module_choice.{specs.declared.fallback.Fallback.Fallback, proofs.Carrying.{few_flows, flows_small}}
 use Rattle.module_prices.specs.declared.cheapest.UnitPair.{UnitPair}
 use Rattle.plan_terms.specs.Terms.{Case, graph_in, AreDemands, Joins, IsLink, Evidence, Routing, AreWithinLimits, IsFallback, raised, Carries}
-use Rattle.plan_types.specs.declared.quality.Fractional.{Fractional}
-use Rattle.plan_types.specs.declared.quality.Quality.{Quality}
-use Rattle.plan_types.specs.declared.quality.Quality.TheVariants.{Tight, Loose}
-use Rattle.plan_types.specs.declared.quality.Share.{Share}
+use Rattle.plan_types.{specs.declared.quality.Fractional.Fractional, specs.declared.quality.Quality.Quality, specs.declared.quality.Quality.TheVariants.{Tight, Loose}, specs.declared.quality.Share.Share}
 use Rattle.master_law.specs.Terms.{AreUnitPairs, share_caps}
-use Rattle.plan_law.specs.TightPlans.{CostsAtMostCover}
-use Rattle.plan_law.proofs.Covering.{covers_carry}
-use Rattle.share_covers.specs.Choices.{CarriesShare, IsChosen, IsQualityAfter, IsQualityOfShare, IsWideAtCovers, RulesOutCovers}
-use Rattle.share_covers.specs.InstalledRoutes.{AreRoutedWithin, IsRoutesAnswer, IsShortWithin, IsWideWithin, installed_caps}
-use Rattle.share_covers.specs.ShareCovers.{AreShareCovers}
-use Rattle.share_covers.specs.declared.covers.Installed.{Installed}
-use Rattle.share_covers.specs.declared.routes.InstalledRoutes.{InstalledRoutes}
-use Rattle.share_covers.specs.declared.routes.InstalledRoutes.TheVariants.{Routed, Short, Wide}
-use Rattle.share_covers.specs.inner.Decided.{decided}
-use Rattle.share_covers.specs.inner.Widened.{widened}
+use Rattle.plan_law.{specs.TightPlans.CostsAtMostCover, proofs.Covering.covers_carry}
+use Rattle.share_covers.{specs.Choices.{CarriesShare, IsChosen, IsQualityAfter, IsQualityOfShare, IsWideAtCovers, RulesOutCovers}, specs.InstalledRoutes.{AreRoutedWithin, IsRoutesAnswer, IsShortWithin, IsWideWithin, installed_caps}, specs.ShareCovers.AreShareCovers, specs.declared.covers.Installed.Installed, specs.declared.routes.InstalledRoutes.InstalledRoutes, specs.declared.routes.InstalledRoutes.TheVariants.{Routed, Short, Wide}, specs.inner.Decided.decided, specs.inner.Widened.widened}
 
 no_routing : Routing
 no_routing = record { den = 1; flows = [] }

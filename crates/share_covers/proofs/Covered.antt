@@ -4,13 +4,10 @@ use Rattle.net_core.proofs.Library.{slice_get-get_or, get_or_default_zero, all_a
 use Rattle.plan_terms.specs.Terms.{IsLink, IsModule, IsNetwork, Link, AreCounts, total_cost}
 use Rattle.module_prices.specs.declared.cheapest.UnitPair.{UnitPair}
 use Rattle.plan_types.specs.declared.quality.Share.{Share}
-use Rattle.master_law.specs.Terms.{AreUnitPairs, IsShareNeed}
+use Rattle.master_law.{specs.Terms.{AreUnitPairs, IsShareNeed}, proofs.PairsOnce.pairs_once}
 use Rattle.plan_law.specs.TightPlans.{CoversShare}
-use Rattle.module_choice.specs.Coverings.{CoverNeeds}
-use Rattle.module_choice.proofs.Carrying.{network_links}
-use Rattle.module_choice.proofs.Falling.{all_shaped, capacities_small}
+use Rattle.module_choice.{specs.Coverings.CoverNeeds, proofs.Carrying.network_links, proofs.Falling.{all_shaped, capacities_small}}
 use Rattle.share_covers.specs.ShareCovers.{AreShareCovers, AreShareNeeds}
-use Rattle.master_law.proofs.PairsOnce.{pairs_once}
 
 -- the modules of a link of a network are sound
 pub link_sound : (nodes : List (List ℕ)) (links : List Link) → ∥ IsNetwork nodes links ∥₁ → (e : ℕ) (l : Link) → slice_get links e ≡ Some l → All IsModule l.modules

@@ -2,23 +2,14 @@
 use Rattle.std.proofs.Common.{◌≡◌, ℕ, ◌+◌, ◌*◌, ◌/◌, ◌^◌, ◌<◌, ◌≤◌, ◌∙◌, cond, eqb, List, [], ◌∷◌, ◌++◌, All, Option, None, Some, get_or, length, map, slice_get, slice_index, take, refl, sym, ap, subst, arith, eq-eqb, mul-le-mul_left}
 use Rattle.net_core.proofs.Library.{◌∣◌, ∥∥₁_elim, ∥∥₁_map, props, All-map, dvd-mul_right, dvd_of_mul-dvd-mul_left, eq-one_of_dvd-one, get_or-le-sum_by, get_or_from_slice_get, le_of_dvd, le_of_mul-le-mul_left, length-map, map-append, mul-div_cancel', mul-dvd-mul_left, positive_factors, slice_get-get_or, slice_get_within, take_more}
 use Rattle.plan_terms.specs.Terms.{AreDemands, Caps, Carries, Case, Demand, Flow, Graph, IsDemand, Joins, Link, Routing, capacities, graph_in, sent}
-use Rattle.route_law.specs.Terms.{IsLowestRouting, flow_times, over_times}
-use Rattle.route_law.proofs.Lemmas.{carried_lowest}
-use Rattle.greedy_router.specs.Left.{IsLeft}
-use Rattle.greedy_router.specs.declared.greedy_flows.Left.{Left}
+use Rattle.route_law.{specs.Terms.{IsLowestRouting, flow_times, over_times}, proofs.Lemmas.carried_lowest}
+use Rattle.greedy_router.{specs.Left.IsLeft, specs.declared.greedy_flows.Left.Left}
 use Rattle.flow_mending.specs.Terms.{IsCommonDivisor, IsRouted}
 use Rattle.module_prices.specs.declared.cheapest.UnitPair.{UnitPair}
-use Rattle.plan_types.specs.declared.quality.Fractional.{Fractional}
-use Rattle.plan_types.specs.declared.quality.Quality.{Quality}
-use Rattle.plan_types.specs.declared.quality.Quality.TheVariants.{Tight, Loose}
-use Rattle.plan_types.specs.declared.quality.Share.{Share}
+use Rattle.plan_types.{specs.declared.quality.Fractional.Fractional, specs.declared.quality.Quality.Quality, specs.declared.quality.Quality.TheVariants.{Tight, Loose}, specs.declared.quality.Share.Share}
 use Rattle.master_law.specs.Terms.{AreUnitPairs}
-use Rattle.plan_law.specs.TightPlans.{CoversShare, IsProperShare}
-use Rattle.plan_law.proofs.Covering.{covers_carry}
-use Rattle.share_covers.specs.Choices.{CarriesShare, IsQualityOfShare}
-use Rattle.share_covers.specs.InstalledRoutes.{installed_caps}
-use Rattle.share_covers.specs.inner.SharedRoutes.{CarriesAtWhole, CoversCarriedShare, CoversQuality, IsAtWhole, IsSmallAtWhole, IsStateAnswer, IsWholeAnswer}
-use Rattle.share_covers.proofs.Certain.{carries_certain}
+use Rattle.plan_law.{specs.TightPlans.{CoversShare, IsProperShare}, proofs.Covering.covers_carry}
+use Rattle.share_covers.{specs.Choices.{CarriesShare, IsQualityOfShare}, specs.InstalledRoutes.installed_caps, specs.inner.SharedRoutes.{CarriesAtWhole, CoversCarriedShare, CoversQuality, IsAtWhole, IsSmallAtWhole, IsStateAnswer, IsWholeAnswer}, proofs.Certain.carries_certain}
 
 -- ---- lowest terms
 

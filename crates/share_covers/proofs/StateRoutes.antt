@@ -1,11 +1,8 @@
 -- routings of one state after another
 use Rattle.std.proofs.Common.{◌≡◌, ℕ, ◌+◌, ◌≤◌, ◌++◌, List, [], ◌∷◌, All, Some, length, length-append, refl, sym, subst, ◌∙◌, arith, slice_get, sum_by, ⊎_elim}
 use Rattle.plan_terms.specs.Terms.{Case, graph_in, AreDemands, IsDemand, Joins, Caps, Routing, Carries, IsSurvivable}
-use Rattle.metric_cut.specs.declared.cut.Cut.{Cut}
-use Rattle.metric_cut.specs.inner.Rights.{part_of}
-use Rattle.metric_cut.proofs.Sides.{sum_is_right}
-use Rattle.route_law.specs.Terms.{AreJoined}
-use Rattle.route_law.proofs.Lemmas.{violated_carries_nothing}
+use Rattle.metric_cut.{specs.declared.cut.Cut.Cut, specs.inner.Rights.part_of, proofs.Sides.sum_is_right}
+use Rattle.route_law.{specs.Terms.AreJoined, proofs.Lemmas.violated_carries_nothing}
 use Rattle.module_choice.proofs.Carrying.{get_cases}
 use Rattle.flow_mending.specs.Terms.{IsRouted, IsViolatedCut}
 

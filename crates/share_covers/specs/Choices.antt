@@ -3,17 +3,10 @@ use Rattle.std.specs.Prelude.{◌≡◌, ℕ, ◌≤◌, ◌<◌, ◌⊎◌, Lis
 use Rattle.module_choice.specs.declared.fallback.Fallback.{Fallback}
 use Rattle.module_prices.specs.declared.cheapest.UnitPair.{UnitPair}
 use Rattle.plan_terms.specs.Terms.{Evidence, Case, AreCounts, AreWithinLimits, total_cost}
-use Rattle.plan_types.specs.declared.quality.Cause.TheVariants.{Wide}
-use Rattle.plan_types.specs.declared.quality.Fractional.{Fractional}
-use Rattle.plan_types.specs.declared.quality.Quality.{Quality}
-use Rattle.plan_types.specs.declared.quality.Quality.TheVariants.{Tight, Loose}
-use Rattle.plan_types.specs.declared.quality.Share.{Share}
+use Rattle.plan_types.{specs.declared.quality.Cause.TheVariants.Wide, specs.declared.quality.Fractional.Fractional, specs.declared.quality.Quality.Quality, specs.declared.quality.Quality.TheVariants.{Tight, Loose}, specs.declared.quality.Share.Share}
 use Rattle.master_law.specs.Terms.{AreUnitPairs}
 use Rattle.plan_law.specs.TightPlans.{AreCarriedByShare, CostsAtMostCover, CoversShare, IsProperShare}
-use Rattle.share_covers.specs.InstalledRoutes.{AreRoutedWithin, IsShortWithin, IsWideWithin, installed_caps}
-use Rattle.share_covers.specs.ShareCovers.{AreShareCovers}
-use Rattle.share_covers.specs.declared.choice.Chosen.{Chosen}
-use Rattle.share_covers.specs.declared.covers.Installed.{Installed}
+use Rattle.share_covers.{specs.InstalledRoutes.{AreRoutedWithin, IsShortWithin, IsWideWithin, installed_caps}, specs.ShareCovers.AreShareCovers, specs.declared.choice.Chosen.Chosen, specs.declared.covers.Installed.Installed}
 
 -- a proper share, whose routings carry the demands in each state
 pub record CarriesShare (p : Case) (share : Share) (fractional : Fractional) : Type 0 where

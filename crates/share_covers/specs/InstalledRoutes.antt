@@ -2,8 +2,7 @@
 use Rattle.std.specs.Prelude.{◌≡◌, ℕ, ◌+◌, ◌≤◌, List, Some, length, slice_get}
 use Rattle.plan_terms.specs.Terms.{Evidence, Link, Caps, Routing, Case, graph_in, Joins, capacities, Carries}
 use Rattle.flow_mending.specs.Terms.{IsEvidenceHere, IsRouted}
-use Rattle.share_covers.specs.declared.routes.InstalledRoutes.{InstalledRoutes}
-use Rattle.share_covers.specs.declared.routes.InstalledRoutes.TheVariants.{Routed, Wide, Short}
+use Rattle.share_covers.{specs.declared.routes.InstalledRoutes.InstalledRoutes, specs.declared.routes.InstalledRoutes.TheVariants.{Routed, Wide, Short}}
 
 -- the capacities of counts, at the scale 1
 abbrev pub installed_caps : List Link → List (List ℕ) → Caps

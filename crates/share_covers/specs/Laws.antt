@@ -2,8 +2,7 @@
 use Rattle.std.specs.Prelude.{List}
 use Rattle.module_prices.specs.declared.cheapest.UnitPair.{UnitPair}
 use Rattle.plan_terms.specs.Terms.{Evidence, CutLine, Case}
-use Rattle.plan_types.specs.declared.plan.Plan.{Plan}
-use Rattle.plan_types.specs.declared.quality.Share.{Share}
+use Rattle.plan_types.{specs.declared.plan.Plan.Plan, specs.declared.quality.Share.Share}
 use Rattle.master_law.specs.Terms.{IsLeastShare, AreUnitPairs}
 use Rattle.plan_law.specs.Terms.{IsLooseByWidth, CostsRawValue, Round}
 use Rattle.share_covers.specs.Choices.{IsWideAtCovers}

@@ -1,9 +1,6 @@
 ghost use Rattle.std.specs.Prelude.{◌≡◌, ◌<◌, ◌≤◌, IfOk, MatchOption, length};
 ghost use Rattle.plan_terms.specs.Terms.{case_of, AreWithinLimits, IsFallback, IsSurvivable};
-ghost use Rattle.share_covers.specs.Choices.{IsChosen, IsQualityOfShare};
-ghost use Rattle.share_covers.specs.inner.Decided.{decided};
-ghost use Rattle.share_covers.specs.inner.RoutedCovers.{AreRoutedCovers, HasDearerCovers};
-ghost use Rattle.share_covers.specs.inner.Widened.{widened};
+ghost use Rattle.share_covers.{specs.Choices.{IsChosen, IsQualityOfShare}, specs.inner.Decided.decided, specs.inner.RoutedCovers.{AreRoutedCovers, HasDearerCovers}, specs.inner.Widened.widened};
 
 use crate::covers::{Installed, cover_share};
 use crate::routes::InstalledRoutes;

@@ -1,10 +1,7 @@
-ghost use Rattle.std.specs.Prelude.{◌≡◌, ◌+◌, ◌<◌, All, IfOk, length, map};
-ghost use Rattle.std.specs.Int.{◌∣◌};
+ghost use Rattle.std.{specs.Prelude.{◌≡◌, ◌+◌, ◌<◌, All, IfOk, length, map}, specs.Int.◌∣◌};
 ghost use Rattle.plan_terms.specs.Terms.{case_of, graph_in, AreCounts, IsSurvivable};
 ghost use Rattle.route_law.specs.Terms.{flow_times};
-ghost use Rattle.share_covers.specs.InstalledRoutes.{IsRoutesAnswer, installed_caps};
-ghost use Rattle.share_covers.specs.inner.SharedRoutes.{CarriesAtWhole, CoversCarriedShare, CoversQuality};
-ghost use Rattle.share_covers.specs.inner.SharedRoutes.{IsSharedAnswer, IsStateAnswer, IsWholeAnswer};
+ghost use Rattle.share_covers.{specs.InstalledRoutes.{IsRoutesAnswer, installed_caps}, specs.inner.SharedRoutes.{CarriesAtWhole, CoversCarriedShare, CoversQuality, IsSharedAnswer, IsStateAnswer, IsWholeAnswer}};
 
 use crate::routes::{InstalledRoutes, route_installed};
 use flow_mending::flow_router::common_divisor;

@@ -1,10 +1,7 @@
 -- the arc of least link number, among those that lead on along a shortest path
 use Rattle.std.proofs.Common.{◌≡◌, ℕ, ◌+◌, ◌<◌, ◌≤◌, List, length, get_or, take, Option, None, Some, Bool, true, false, ⊎_elim, refl, subst, arith, MatchOption, IsTrue, ◌↔◌, All, Contains, take_all}
 use Rattle.net_core.proofs.Library.{cases_lt, All-more, All-weaker, All-contains, Contains-get_or}
-use Rattle.short_paths.specs.declared.forward_star.Arc.{Arc}
-use Rattle.short_paths.specs.inner.TightLinks.{IsFirstTight, IsTightLink}
-use Rattle.short_paths.specs.inner.ForwardStars.{HasArc}
-use Rattle.short_paths.proofs.ForwardStars.{arc}
+use Rattle.short_paths.{specs.declared.forward_star.Arc.Arc, specs.inner.TightLinks.{IsFirstTight, IsTightLink}, specs.inner.ForwardStars.HasArc, proofs.ForwardStars.arc}
 
 -- the arc leads on along a shortest path from a node at length `here`
 abbrev pub Fits : List ℕ → List ℕ → ℕ → Arc → Type 0

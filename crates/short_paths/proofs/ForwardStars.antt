@@ -1,11 +1,7 @@
 -- how the arcs over the joining links are gathered, and where those of a node are
-use Rattle.std.proofs.Common.{◌≡◌, ℕ, ◌+◌, ◌-◌, ◌<◌, ◌≤◌, List, [], ◌∷◌, ◌++◌, length, get_or, take, drop, true, false, ltb, ◌⊎◌, inl, inr, ⊎_elim, refl, sym, ap, subst, ◌∙◌, arith, length-take, length-drop, All, Contains, ltb-true, ltb-false, get_or-take, get_or-drop}
-use Rattle.std.specs.List.Sorted.{IsPermutation, IsPartitionPoint}
+use Rattle.std.{proofs.Common.{◌≡◌, ℕ, ◌+◌, ◌-◌, ◌<◌, ◌≤◌, List, [], ◌∷◌, ◌++◌, length, get_or, take, drop, true, false, ltb, ◌⊎◌, inl, inr, ⊎_elim, refl, sym, ap, subst, ◌∙◌, arith, length-take, length-drop, All, Contains, ltb-true, ltb-false, get_or-take, get_or-drop}, specs.List.Sorted.{IsPermutation, IsPartitionPoint}, proofs.lemmas.List.Elements.Contains-push_cases, proofs.lemmas.List.Sorted.Contains-permutation}
 use Rattle.net_core.proofs.Library.{cases_lt, All-contains, Contains-append_left, Contains-append_right, Contains-append_cases, Contains-get_or, IsPermutation-sym, none_within}
-use Rattle.std.proofs.lemmas.List.Elements.{Contains-push_cases}
-use Rattle.std.proofs.lemmas.List.Sorted.{Contains-permutation}
-use Rattle.short_paths.specs.declared.forward_star.Arc.{Arc}
-use Rattle.short_paths.specs.inner.ForwardStars.{AddsArcs, AreArcs, IsStartOf, HasArc}
+use Rattle.short_paths.{specs.declared.forward_star.Arc.Arc, specs.inner.ForwardStars.{AddsArcs, AreArcs, IsStartOf, HasArc}}
 
 -- the arc over link e from x to y
 abbrev pub arc : ℕ → ℕ → ℕ → Arc

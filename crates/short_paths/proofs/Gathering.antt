@@ -1,8 +1,7 @@
 -- tables gathered one after another
 use Rattle.std.proofs.Common.{◌≡◌, ℕ, ◌+◌, ◌<◌, List, [], ◌∷◌, ◌++◌, length, get_or, ⊎_elim, sym, subst, ◌∙◌, arith, length-append}
 use Rattle.net_core.proofs.Library.{∥∥₁_elim, props, cases_lt, get_or_append_left, get_or_default, get_or_push}
-use Rattle.short_paths.specs.inner.TightLinks.{AreTables}
-use Rattle.short_paths.specs.inner.Tables.{IsTable}
+use Rattle.short_paths.{specs.inner.TightLinks.AreTables, specs.inner.Tables.IsTable}
 
 module _ (joins : ℕ → ℕ → ℕ → Type 0) (lengths : List ℕ) (far n : ℕ) where
   -- the tables of the first k nodes

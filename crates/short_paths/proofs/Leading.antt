@@ -1,14 +1,8 @@
 -- from the arcs of a state and a table over them to the least of its shortest paths, where both are known without their witnesses
 use Rattle.std.proofs.Common.{◌≡◌, ◌≢◌, ℕ, ◌<◌, ◌≤◌, List, [], ◌∷◌, length, get_or, None, Some, inl, inr, ⊎_elim, refl, subst, arith, slice_get}
 use Rattle.net_core.proofs.Library.{∥∥₁_elim, props, cases_eq}
-use Rattle.plan_terms.specs.Terms.{LinkId, Link, Graph, HasEnds, Joins, Survives, IsLeastPath, AreApart, IsPath, last_node}
-use Rattle.plan_terms.proofs.Lemmas.{path_alike, joins_one, joins_turned, shortcut, walk_back}
-use Rattle.short_paths.specs.declared.forward_star.Arc.{Arc}
-use Rattle.short_paths.specs.inner.TightLinks.{Follows, IsFirstTight, LeadsOn}
-use Rattle.short_paths.specs.inner.ForwardStars.{AreArcs, HasArc}
-use Rattle.short_paths.specs.inner.Tables.{IsTable}
-use Rattle.short_paths.proofs.TightLinks.{IsBack, far_apart, follows_least, has_tight}
-use Rattle.short_paths.proofs.Tables.{arcs_turned}
+use Rattle.plan_terms.{specs.Terms.{LinkId, Link, Graph, HasEnds, Joins, Survives, IsLeastPath, AreApart, IsPath, last_node}, proofs.Lemmas.{path_alike, joins_one, joins_turned, shortcut, walk_back}}
+use Rattle.short_paths.{specs.declared.forward_star.Arc.Arc, specs.inner.TightLinks.{Follows, IsFirstTight, LeadsOn}, specs.inner.ForwardStars.{AreArcs, HasArc}, specs.inner.Tables.IsTable, proofs.TightLinks.{IsBack, far_apart, follows_least, has_tight}, proofs.Tables.arcs_turned}
 
 -- which ends a link has can be tested
 ends_told : (l : Link) (x y : ℕ) → ∥ HasEnds l x y ∥₁ → HasEnds l x y

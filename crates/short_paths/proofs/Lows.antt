@@ -1,11 +1,7 @@
 -- distances of a table are low
 use Rattle.std.proofs.Common.{◌≡◌, ℕ, ◌^◌, ◌<◌, ◌≤◌, None, Some, eqb, length, slice_index, unwrap_or, arith, ⊎_elim, ◌==◌, min, max}
 use Rattle.net_core.proofs.Library.{cases_lt, cond_both, eqb-false, get_or_past}
-use Rattle.short_paths.specs.declared.distance_table.DistanceTable.{DistanceTable}
-use Rattle.short_paths.specs.declared.distance_table.TheConstants.{APART}
-use Rattle.short_paths.specs.inner.Pairs.{pair_place}
-use Rattle.short_paths.specs.inner.Tables.{answer_of}
-use Rattle.short_paths.specs.DistanceTables.{distance_at}
+use Rattle.short_paths.{specs.declared.distance_table.DistanceTable.DistanceTable, specs.declared.distance_table.TheConstants.APART, specs.inner.Pairs.pair_place, specs.inner.Tables.answer_of, specs.DistanceTables.distance_at}
 
 number_low : (t : DistanceTable) (k : ℕ) → unwrap_or (answer_of APART (slice_index t.pairs k)) 0 ≤ 2 ^ 39
 number_low t k =

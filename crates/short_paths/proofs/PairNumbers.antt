@@ -1,13 +1,8 @@
 -- the numbers of each two nodes, gathered row by row
 use Rattle.std.proofs.Common.{◌≡◌, ◌≢◌, ℕ, map, zero, suc, ◌+◌, ◌-◌, ◌*◌, ◌^◌, ◌<◌, ◌≤◌, List, ◌++◌, length, get_or, take, Some, cond, eqb, min, max, ⊎_elim, refl, sym, subst, ap, ◌∙◌, arith, add-one, le_refl, length-append, eq-eqb, ne_eqb, get_or-append-add, get_or-take, length-take-le}
 use Rattle.net_core.proofs.Library.{cases_lt, cases_eq, get_or_append_left, get_or-map, length-map, All-append, All-map, All-take, All-same, All-from_get_or}
-use Rattle.plan_terms.specs.Terms.{IsDistance}
-use Rattle.plan_terms.proofs.Lemmas.{distance_none, distance_back}
-use Rattle.short_paths.specs.declared.dijkstra.TheConstants.{FAR}
-use Rattle.short_paths.specs.declared.distance_table.TheConstants.{APART}
-use Rattle.short_paths.specs.inner.Pairs.{AddsRow, ArePairs, narrowed, pair_count, pair_place}
-use Rattle.short_paths.specs.inner.Tables.{answer_of}
-use Rattle.short_paths.proofs.Tables.{found_low, table_distance}
+use Rattle.plan_terms.{specs.Terms.IsDistance, proofs.Lemmas.{distance_none, distance_back}}
+use Rattle.short_paths.{specs.declared.dijkstra.TheConstants.FAR, specs.declared.distance_table.TheConstants.APART, specs.inner.Pairs.{AddsRow, ArePairs, narrowed, pair_count, pair_place}, specs.inner.Tables.answer_of, proofs.Tables.{found_low, table_distance}}
 
 before : (n : ℕ) → suc n * (suc n - 1) ≡ suc n * n
 before n = let e : suc n - 1 ≡ n = omega arith in rw e refl

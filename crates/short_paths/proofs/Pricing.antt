@@ -1,11 +1,8 @@
 -- a shortest path under scaled prices is a cheapest one
 use Rattle.std.proofs.Common.{◌≡◌, ℕ, ◌+◌, ◌*◌, ◌^◌, ◌<◌, ◌≤◌, List, [], ◌∷◌, length, get_or, map, take, ⊎_elim, ap, ◌∙◌, arith, All}
 use Rattle.net_core.proofs.Library.{cases_lt, get_or-map, get_or_past, length-map, take_more}
-use Rattle.plan_terms.specs.Terms.{LinkId, IsLeastPath, IsPath, Leads, length_of}
-use Rattle.plan_terms.proofs.Lemmas.{path_few, length_push}
-use Rattle.short_paths.specs.PricedPaths.{IsPricedPath}
-use Rattle.short_paths.specs.declared.priced_paths.PricedPath.{PricedPath}
-use Rattle.short_paths.specs.inner.Scales.{scaled}
+use Rattle.plan_terms.{specs.Terms.{LinkId, IsLeastPath, IsPath, Leads, length_of}, proofs.Lemmas.{path_few, length_push}}
+use Rattle.short_paths.{specs.PricedPaths.IsPricedPath, specs.declared.priced_paths.PricedPath.PricedPath, specs.inner.Scales.scaled}
 
 -- a scaled price is above 0
 pub scaled_long : (prices : List ℕ) (e : ℕ) → e < length prices → 0 < get_or (map scaled prices) e 0

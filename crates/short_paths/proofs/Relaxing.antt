@@ -1,9 +1,7 @@
 -- the arcs of a node that are tried one after another
-use Rattle.std.proofs.Common.{◌≡◌, ℕ, ◌+◌, ◌<◌, ◌≤◌, List, length, get_or, take, min, ◌⊎◌, inl, inr, ⊎_elim, refl, sym, subst, arith, All, Contains, slice_set, take_all}
+use Rattle.std.{proofs.Common.{◌≡◌, ℕ, ◌+◌, ◌<◌, ◌≤◌, List, length, get_or, take, min, ◌⊎◌, inl, inr, ⊎_elim, refl, sym, subst, arith, All, Contains, slice_set, take_all}, proofs.lemmas.Grind.common_steps}
 use Rattle.net_core.proofs.Library.{cases_eq, cases_lt, All-more, All-weaker, All-contains, Contains-get_or}
-use Rattle.std.proofs.lemmas.Grind.{common_steps}
-use Rattle.short_paths.specs.declared.forward_star.Arc.{Arc}
-use Rattle.short_paths.specs.inner.ForwardStars.{HasArc}
+use Rattle.short_paths.{specs.declared.forward_star.Arc.Arc, specs.inner.ForwardStars.HasArc}
 
 -- a number that is lowered to what is tried
 lowered : (now : List ℕ) (at by : ℕ) → (k : ℕ) → get_or (slice_set now at (min (get_or now at 0) by)) k 0 ≤ get_or now k 0

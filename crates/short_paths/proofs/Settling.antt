@@ -1,8 +1,7 @@
 -- a search that settles the nearest open node first
 use Rattle.std.proofs.Common.{◌≡◌, ℕ, ◌+◌, ◌*◌, ◌^◌, ◌<◌, ◌≤◌, List, length, get_or, Bool, true, false, not, cond, count_by, ◌⊎◌, inl, inr, ⊎_elim, refl, sym, subst, ap, ◌∙◌, arith, get_or-set_other, get_or-set_same, slice_set, All, mul-le-mul_left}
 use Rattle.net_core.proofs.Library.{cases_eq, cases_lt, cases_Bool, both_ways, sum_by-set, count_by-le-length, get_or_past, get_or_default}
-use Rattle.plan_terms.specs.Terms.{Walk}
-use Rattle.plan_terms.proofs.Lemmas.{walk_none, walk_on}
+use Rattle.plan_terms.{specs.Terms.Walk, proofs.Lemmas.{walk_none, walk_on}}
 use Rattle.short_paths.specs.inner.Tables.{IsTable}
 
 -- a node that is settled, and one that is not

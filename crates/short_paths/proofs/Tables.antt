@@ -1,12 +1,8 @@
 -- from the table of a search to distances
 use Rattle.std.proofs.Common.{◌≡◌, ℕ, ◌+◌, ◌-◌, ◌^◌, ◌<◌, ◌≤◌, List, [], ◌∷◌, length, get_or, Option, None, Some, cond, eqb, true, false, map, ap, refl, sym, subst, ◌∙◌, arith, eqb-true}
 use Rattle.net_core.proofs.Library.{eqb-false, length-map, get_or-map}
-use Rattle.plan_terms.specs.Terms.{LinkId, Leads, last_node, length_of, IsPath, IsDistance}
-use Rattle.plan_terms.proofs.Lemmas.{distance_alike, shortcut}
-use Rattle.short_paths.specs.declared.forward_star.Arc.{Arc}
-use Rattle.short_paths.specs.inner.ForwardStars.{AreArcs, HasArc}
-use Rattle.short_paths.specs.inner.Tables.{IsTable, answer_of}
-use Rattle.short_paths.specs.DistanceRows.{AreDistances}
+use Rattle.plan_terms.{specs.Terms.{LinkId, Leads, last_node, length_of, IsPath, IsDistance}, proofs.Lemmas.{distance_alike, shortcut}}
+use Rattle.short_paths.{specs.declared.forward_star.Arc.Arc, specs.inner.ForwardStars.{AreArcs, HasArc}, specs.inner.Tables.{IsTable, answer_of}, specs.DistanceRows.AreDistances}
 
 module _ (joins : ℕ → ℕ → ℕ → Type 0) (lengths : List ℕ) (far a : ℕ) (found : List ℕ) (t : IsTable joins lengths far a found) where
   -- no walk from a node that is found is shorter than the table says

@@ -1,10 +1,8 @@
 -- the first link that leads on, at each node in turn, gives the least of the shortest paths
 use Rattle.std.proofs.Common.{◌≡◌, ◌≢◌, ℕ, ◌+◌, ◌<◌, ◌≤◌, List, [], ◌∷◌, ◌++◌, length, get_or, inl, inr, ⊎_elim, refl, sym, subst, ap, ◌∙◌, arith}
 use Rattle.net_core.proofs.Library.{cases_lt}
-use Rattle.plan_terms.specs.Terms.{LinkId, IsLexLe, IsLeastPath, AreApart, Leads, last_node, length_of}
-use Rattle.plan_terms.proofs.Lemmas.{Falls, falls_differ}
-use Rattle.short_paths.specs.inner.TightLinks.{Follows, IsFirstTight, IsTightLink, LeadsOn}
-use Rattle.short_paths.specs.inner.Tables.{IsTable}
+use Rattle.plan_terms.{specs.Terms.{LinkId, IsLexLe, IsLeastPath, AreApart, Leads, last_node, length_of}, proofs.Lemmas.{Falls, falls_differ}}
+use Rattle.short_paths.{specs.inner.TightLinks.{Follows, IsFirstTight, IsTightLink, LeadsOn}, specs.inner.Tables.IsTable}
 
 -- lengths to b, read in both directions
 pub record IsBack (joins : ℕ → ℕ → ℕ → Type 0) (lengths : List ℕ) (far b : ℕ) (back : List ℕ) : Type 0 where

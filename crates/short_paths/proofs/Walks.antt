@@ -1,8 +1,7 @@
 -- paths that keep off nodes that were seen
 use Rattle.std.proofs.Common.{◌≡◌, ◌≢◌, ◌↔◌, ℕ, ◌<◌, ◌==◌, Bool, true, false, cond, List, [], ◌∷◌, Option, None, Some, IfSome, get_or, set, length, inl, inr, refl, sym, ◌∙◌, subst, eqb-true, get_or-set_same, get_or-set_other}
 use Rattle.net_core.proofs.Library.{false≢true, AllByRecursion}
-use Rattle.plan_terms.specs.Terms.{LinkId, NodeId, Link, Graph, HasEnds, Joins, Survives, IsNetwork, IsPath, Leads}
-use Rattle.plan_terms.proofs.Lemmas.{joins_from, joins_inside, joins_one}
+use Rattle.plan_terms.{specs.Terms.{LinkId, NodeId, Link, Graph, HasEnds, Joins, Survives, IsNetwork, IsPath, Leads}, proofs.Lemmas.{joins_from, joins_inside, joins_one}}
 use Rattle.short_paths.specs.inner.Walks.{IsUnseen, IsUnseenPath, far_end}
 
 some_by : (b : Bool) (y : NodeId) (o : Option NodeId) (P : NodeId → Type 0) → (b ≡ true → P y) → IfSome o P → IfSome (cond b (Some y) o) P

@@ -1,8 +1,7 @@
 -- what a table says of each two nodes
 use Rattle.std.specs.Prelude.{◌≡◌, ℕ, ◌<◌, List, Option}
 use Rattle.plan_terms.specs.Terms.{IsDistance}
-use Rattle.short_paths.specs.declared.distance_table.DistanceTable.{DistanceTable}
-use Rattle.short_paths.specs.inner.Pairs.{pair_distance}
+use Rattle.short_paths.{specs.declared.distance_table.DistanceTable.DistanceTable, specs.inner.Pairs.pair_distance}
 
 -- the distance of two nodes that the table answers, if it answers one
 abbrev pub distance_at : DistanceTable → ℕ → ℕ → Option ℕ

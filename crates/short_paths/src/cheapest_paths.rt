@@ -1,7 +1,6 @@
 ghost use Rattle.std.specs.Prelude.{◌≡◌, ◌^◌, ◌<◌, All, IfOk, IsErrOf, length, map};
 ghost use Rattle.plan_terms.specs.Terms.{Joins, graph_of, AreApart};
-ghost use Rattle.short_paths.specs.PricedPaths.{IsPricedPath};
-ghost use Rattle.short_paths.specs.inner.Scales.{scaled};
+ghost use Rattle.short_paths.{specs.PricedPaths.IsPricedPath, specs.inner.Scales.scaled};
 
 use crate::least_paths::LeastPaths;
 use crate::priced_paths::{PricedPath, scaled, total_of};

@@ -1,6 +1,5 @@
 ghost use Rattle.std.specs.Prelude.{◌≡◌, ℕ, ◌+◌, ◌<◌, ◌≤◌, ◌^◌, ◌⊎◌, All, IfNone, IfOk, IfSome, false, true, length, min, slice_index, slice_index_or, slice_set};
-ghost use Rattle.short_paths.specs.inner.ForwardStars.{HasArc, HaveLengths};
-ghost use Rattle.short_paths.specs.inner.Tables.{IsTable};
+ghost use Rattle.short_paths.{specs.inner.ForwardStars.{HasArc, HaveLengths}, specs.inner.Tables.IsTable};
 
 use crate::forward_star::{Arc, ForwardStar};
 use net_core::{Lengths, List, NoMemory, NodeId};

@@ -1,7 +1,5 @@
 ghost use Rattle.std.specs.Prelude.{◌≡◌, ◌≢◌, ◌+◌, ◌-◌, ◌*◌, ◌/◌, ◌<◌, ◌≤◌, ◌^◌, All, IfSome, length};
-ghost use Rattle.short_paths.specs.declared.distance_table.TheConstants.{APART};
-ghost use Rattle.short_paths.specs.inner.Pairs.{narrowed, pair_count, pair_place};
-ghost use Rattle.short_paths.specs.inner.Tables.{answer_of};
+ghost use Rattle.short_paths.{specs.declared.distance_table.TheConstants.APART, specs.inner.Pairs.{narrowed, pair_count, pair_place}, specs.inner.Tables.answer_of};
 
 use net_core::{Copied, List, NoMemory, NodeId};
 

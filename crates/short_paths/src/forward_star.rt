@@ -1,5 +1,4 @@
-ghost use Rattle.std.specs.Prelude.{◌≡◌, ℕ, ◌+◌, ◌<◌, ◌≤◌, All, IfOk, OnOk, length};
-ghost use Rattle.std.specs.List.Sorted.{IsPermutation, IsNonDecreasingBy};
+ghost use Rattle.std.{specs.Prelude.{◌≡◌, ℕ, ◌+◌, ◌<◌, ◌≤◌, All, IfOk, OnOk, length}, specs.List.Sorted.{IsPermutation, IsNonDecreasingBy}};
 ghost use Rattle.plan_terms.specs.Terms.{Joins, graph_of};
 ghost use Rattle.short_paths.specs.inner.ForwardStars.{AddsArcs, AreArcs, AreStarts, IsStartOf, HasArc};
 

@@ -1,9 +1,6 @@
 ghost use Rattle.std.specs.Prelude.{◌≡◌, ℕ, ◌+◌, ◌<◌, ◌^◌, ◌↔◌, IfOk, IsErrOf, length, slice_index};
 ghost use Rattle.plan_terms.specs.Terms.{Joins, Survives, graph, graph_of, IsLeastPath, AreApart};
-ghost use Rattle.short_paths.specs.declared.dijkstra.TheConstants.{FAR};
-ghost use Rattle.short_paths.specs.inner.ForwardStars.{AreArcs, HasArc, HaveLengths};
-ghost use Rattle.short_paths.specs.inner.Tables.{IsTable};
-ghost use Rattle.short_paths.specs.inner.TightLinks.{AreTables};
+ghost use Rattle.short_paths.{specs.declared.dijkstra.TheConstants.FAR, specs.inner.ForwardStars.{AreArcs, HasArc, HaveLengths}, specs.inner.Tables.IsTable, specs.inner.TightLinks.AreTables};
 
 use crate::dijkstra::{Search, widened};
 use crate::forward_star::ForwardStar;

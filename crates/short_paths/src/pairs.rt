@@ -1,8 +1,6 @@
 ghost use Rattle.std.specs.Prelude.{◌≡◌, ℕ, ◌+◌, ◌<◌, ◌≤◌, ◌++◌, ◌^◌, All, IfOk, OnOk, length, map, slice_index};
 ghost use Rattle.plan_terms.specs.Terms.{Joins, graph, graph_of};
-ghost use Rattle.short_paths.specs.DistanceTables.{AreAllDistances};
-ghost use Rattle.short_paths.specs.inner.ForwardStars.{HasArc, HaveLengths};
-ghost use Rattle.short_paths.specs.inner.Pairs.{AddsRow, ArePairs, narrowed};
+ghost use Rattle.short_paths.{specs.DistanceTables.AreAllDistances, specs.inner.ForwardStars.{HasArc, HaveLengths}, specs.inner.Pairs.{AddsRow, ArePairs, narrowed}};
 
 use crate::dijkstra::{FAR, Search, widened};
 use crate::distance_table::{DistanceTable, narrowed, pair_count};

@@ -1,7 +1,6 @@
 ghost use Rattle.std.specs.Prelude.{◌≡◌, ℕ, ◌+◌, ◌^◌, ◌<◌, All, IfOk, IsErrOf, length, slice_index};
 ghost use Rattle.plan_terms.specs.Terms.{Joins, Survives, graph_of, IsLeastPath, AreApart};
-ghost use Rattle.short_paths.specs.PricedPaths.{IsPricedPath};
-ghost use Rattle.short_paths.specs.inner.ForwardStars.{AreArcs};
+ghost use Rattle.short_paths.{specs.PricedPaths.IsPricedPath, specs.inner.ForwardStars.AreArcs};
 
 use crate::dijkstra::Search;
 use crate::forward_star::ForwardStar;

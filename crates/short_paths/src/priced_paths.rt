@@ -1,7 +1,6 @@
 ghost use Rattle.std.specs.Prelude.{◌≡◌, ℕ, ◌+◌, ◌*◌, ◌^◌, ◌<◌, ◌≤◌, All, IfOk, IsErrOf, length, map};
 ghost use Rattle.plan_terms.specs.Terms.{Joins, graph, graph_of, AreApart, length_of};
-ghost use Rattle.short_paths.specs.PricedPaths.{IsPricedPath};
-ghost use Rattle.short_paths.specs.inner.Scales.{scaled};
+ghost use Rattle.short_paths.{specs.PricedPaths.IsPricedPath, specs.inner.Scales.scaled};
 
 use crate::path_finder::PathFinder;
 use crate::tight_links::PathFault;

@@ -1,8 +1,6 @@
 ghost use Rattle.std.specs.Prelude.{◌≡◌, ℕ, ◌+◌, ◌<◌, ◌^◌, All, IfOk, length, map};
 ghost use Rattle.plan_terms.specs.Terms.{Joins, graph, graph_of};
-ghost use Rattle.short_paths.specs.DistanceRows.{AreDistances};
-ghost use Rattle.short_paths.specs.inner.ForwardStars.{HaveLengths};
-ghost use Rattle.short_paths.specs.inner.Tables.{answer_of};
+ghost use Rattle.short_paths.{specs.DistanceRows.AreDistances, specs.inner.ForwardStars.HaveLengths, specs.inner.Tables.answer_of};
 
 use crate::dijkstra::{FAR, Search, widened};
 use crate::forward_star::ForwardStar;

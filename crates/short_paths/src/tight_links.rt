@@ -1,6 +1,5 @@
 ghost use Rattle.std.specs.Prelude.{◌≡◌, ◌≢◌, ℕ, ◌+◌, ◌<◌, ◌↔◌, IfOk, IsErrOf, IsTrue, MatchOption, length, slice_index};
-ghost use Rattle.short_paths.specs.inner.ForwardStars.{HasArc, HaveLengths};
-ghost use Rattle.short_paths.specs.inner.TightLinks.{Follows, IsFirstTight, IsTightLink, LeadsOn};
+ghost use Rattle.short_paths.{specs.inner.ForwardStars.{HasArc, HaveLengths}, specs.inner.TightLinks.{Follows, IsFirstTight, IsTightLink, LeadsOn}};
 
 use crate::dijkstra::FAR;
 use crate::forward_star::{Arc, ForwardStar};

@@ -1,11 +1,7 @@
 -- rows combined by factors that have a common divisor, and without it
 use Rattle.std.proofs.Common.{◌≡◌, ℕ, ◌<◌, ◌^◌, List, length, None, pos, sym, ◌∙◌, subst, arith, ℤ, ◌*ℤ◌, ◌<ℤ◌}
-use Rattle.checked_fraction.specs.Terms.{num, IsReduced, combined}
-use Rattle.checked_fraction.proofs.Products.{mixed_times, moved, regroup}
-use Rattle.checked_fraction.proofs.Reduced.{scaled}
-use Rattle.simplex_core.specs.inner.Factors.{AreFactorsOf}
-use Rattle.simplex_core.specs.Turned.{HavePivot, FindsWideProduct}
-use Rattle.simplex_core.specs.declared.factors.Factors.{Factors}
+use Rattle.checked_fraction.{specs.Terms.{num, IsReduced, combined}, proofs.Products.{mixed_times, moved, regroup}, proofs.Reduced.scaled}
+use Rattle.simplex_core.{specs.inner.Factors.AreFactorsOf, specs.Turned.{HavePivot, FindsWideProduct}, specs.declared.factors.Factors.Factors}
 
 -- combining by factors gives the row that combining by these without their common divisor gives
 pub factored : (n : ℕ) (u w : ℕ → ℤ) (p q whole : ℤ) (f : Factors) (nums : ℕ → ℤ) (den : ℤ) → AreFactorsOf p q f

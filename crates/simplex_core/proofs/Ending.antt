@@ -2,27 +2,8 @@
 use Rattle.std.proofs.Common.{◌≡◌, ℕ, ◌<◌, ◌*◌, ◌/◌, ◌^◌, List, length, get_or, refl, sym, ap, subst, ◌∙◌, arith, inl, inr, ⊎_elim, unsigned_abs, Result, Ok, Err, ℤ, pos, negsuc, ◌*ℤ◌, ◌-ℤ◌, ◌<ℤ◌, ◌≤ℤ◌}
 use Rattle.net_core.proofs.Library.{◌∣◌, ints, get_or_from_slice_get}
 use Rattle.checked_fraction.specs.Terms.{num, IsInLowestTerms}
-use Rattle.simplex_law.specs.Terms.{dot, ColumnOf, IsProgramColumn, IsPacking, IsSlack, IsOptimum, AreNames}
-use Rattle.simplex_law.proofs.Lemmas.{dot-same, limited, optimum, greatest, none_gains, value_nonneg, value_low}
-use Rattle.simplex_core.specs.inner.Commons.{IsFractionOf, AreFractionsOf, HaveFractions, num_of_fraction, den_of_fraction, fraction_den, DivideAll, value_at}
-use Rattle.simplex_core.specs.Prices.{GainsAt}
-use Rattle.simplex_core.specs.Tables.{nums_at, den_at}
-use Rattle.simplex_core.specs.Programs.{IsSameProgram, Solves, IsSimplexAnswer}
-use Rattle.simplex_core.proofs.Solving.{IsAt}
-use Rattle.simplex_core.specs.inner.Outcomes.{HasLowValues, IsValued, IsValuesOutcome, IsBasisOutcome}
-use Rattle.simplex_core.specs.inner.Turns.{reduced_cost, Enters, IsDone, HasEntered, IsTurnOutcome}
-use Rattle.simplex_core.specs.declared.basis.Basis.{Basis}
-use Rattle.simplex_core.specs.declared.optimum.Optimum.{Optimum}
-use Rattle.simplex_core.specs.declared.solver.SimplexFault.{SimplexFault}
-use Rattle.simplex_core.specs.declared.solver.SimplexFault.TheVariants.{Wide, NoMemory}
-use Rattle.simplex_core.specs.declared.solver.Turn.{Turn}
-use Rattle.simplex_core.specs.declared.solver.Turn.TheVariants.{Again, Best, Unbounded, Wide as WideTurn, NoMemory as NoMemoryTurn}
-use Rattle.simplex_core.specs.declared.fraction.Fraction.{Fraction}
-use Rattle.simplex_core.specs.declared.value.ValueFault.{ValueFault}
-use Rattle.simplex_core.specs.declared.value.ValueFault.TheVariants.{Sum as SumFault, Common as CommonFault, NoMemory as NoMemoryFault}
-use Rattle.simplex_core.proofs.Evidences.{end_evidence}
-use Rattle.simplex_core.proofs.Multiples.{numerator_times}
-use Rattle.simplex_core.proofs.Starts.{each_at}
+use Rattle.simplex_law.{specs.Terms.{dot, ColumnOf, IsProgramColumn, IsPacking, IsSlack, IsOptimum, AreNames}, proofs.Lemmas.{dot-same, limited, optimum, greatest, none_gains, value_nonneg, value_low}}
+use Rattle.simplex_core.{specs.inner.Commons.{IsFractionOf, AreFractionsOf, HaveFractions, num_of_fraction, den_of_fraction, fraction_den, DivideAll, value_at}, specs.Prices.GainsAt, specs.Tables.{nums_at, den_at}, specs.Programs.{IsSameProgram, Solves, IsSimplexAnswer}, proofs.Solving.IsAt, specs.inner.Outcomes.{HasLowValues, IsValued, IsValuesOutcome, IsBasisOutcome}, specs.inner.Turns.{reduced_cost, Enters, IsDone, HasEntered, IsTurnOutcome}, specs.declared.basis.Basis.Basis, specs.declared.optimum.Optimum.Optimum, specs.declared.solver.SimplexFault.SimplexFault, specs.declared.solver.SimplexFault.TheVariants.{Wide, NoMemory}, specs.declared.solver.Turn.Turn, specs.declared.solver.Turn.TheVariants.{Again, Best, Unbounded, Wide as WideTurn, NoMemory as NoMemoryTurn}, specs.declared.fraction.Fraction.Fraction, specs.declared.value.ValueFault.ValueFault, specs.declared.value.ValueFault.TheVariants.{Sum as SumFault, Common as CommonFault, NoMemory as NoMemoryFault}, proofs.Evidences.end_evidence, proofs.Multiples.numerator_times, proofs.Starts.each_at}
 
 -- a fraction of a row over a common denominator
 over_den : (f : Fraction) (x d : ℤ) (den : ℕ) → IsFractionOf x d f → f.den ∣ den → pos 0 ≤ℤ x → pos 0 <ℤ d → pos (f.num * (den / f.den)) *ℤ d ≡ pos den *ℤ x

@@ -2,8 +2,7 @@
 use Rattle.std.proofs.Common.{◌≡◌, ℕ, zero, suc, ◌<◌, ◌≤◌, ◌+◌, List, [], ◌∷◌, length, drop, get_or, refl, subst, arith, ℤ, pos, ◌+ℤ◌, ◌*ℤ◌}
 use Rattle.net_core.proofs.Library.{AllByRecursion}
 use Rattle.simplex_law.proofs.Lemmas.{entry_dot}
-use Rattle.simplex_core.specs.Columns.{IsEntry}
-use Rattle.simplex_core.specs.declared.columns.Entry.{Entry}
+use Rattle.simplex_core.{specs.Columns.IsEntry, specs.declared.columns.Entry.Entry}
 
 -- the product of a row with entries
 abbrev pub entries_dot : (ℕ → ℤ) → List Entry → ℤ

@@ -1,19 +1,9 @@
 -- what is too wide is evidence
 use Rattle.std.proofs.Common.{◌≡◌, ℕ, ◌<◌, ◌≤◌, ◌^◌, List, length, slice_set, sym, subst, arith, ⊎_elim, ℤ}
 use Rattle.checked_fraction.specs.Terms.{num, IsInLowestTerms}
-use Rattle.net_core.specs.declared.columns.WideKind.{WideKind}
-use Rattle.net_core.specs.declared.columns.WideKind.TheVariants.{Number, Row as RowOf, Product, Sum, Common, Value, Length}
-use Rattle.net_core.proofs.Library.{◌∣◌, dvd_trans}
-use Rattle.simplex_law.specs.Terms.{dot, put, ColumnOf, IsProgramColumn, slack_basis, AreNames, IsReached, HoldsRow, HoldsProduct, HoldsSum, HoldsKind, IsReachedEvidence}
-use Rattle.simplex_core.specs.inner.Commons.{IsFractionOf, den_of_fraction}
-use Rattle.simplex_core.proofs.Starts.{each_at}
-use Rattle.simplex_law.proofs.Lemmas.{sizes, turn_reached, wide_row, wide_duals, wide_product, wide_price, wide_sum, wide_value, wide_common}
-use Rattle.simplex_core.specs.Tables.{nums_at, den_at}
-use Rattle.simplex_core.proofs.Solving.{IsAt, names_turn, lowest_at, pick_at, state_turn, bounds_turn}
-use Rattle.simplex_core.specs.inner.Outcomes.{IsWideEnd}
-use Rattle.simplex_core.specs.inner.Turns.{Picks, GetsWide}
-use Rattle.simplex_core.specs.inner.Values.{sizes_of}
-use Rattle.simplex_core.specs.declared.basis.Basis.{Basis}
+use Rattle.net_core.{specs.declared.columns.WideKind.WideKind, specs.declared.columns.WideKind.TheVariants.{Number, Row as RowOf, Product, Sum, Common, Value, Length}, proofs.Library.{◌∣◌, dvd_trans}}
+use Rattle.simplex_law.{specs.Terms.{dot, put, ColumnOf, IsProgramColumn, slack_basis, AreNames, IsReached, HoldsRow, HoldsProduct, HoldsSum, HoldsKind, IsReachedEvidence}, proofs.Lemmas.{sizes, turn_reached, wide_row, wide_duals, wide_product, wide_price, wide_sum, wide_value, wide_common}}
+use Rattle.simplex_core.{specs.inner.Commons.{IsFractionOf, den_of_fraction}, proofs.Starts.each_at, specs.Tables.{nums_at, den_at}, proofs.Solving.{IsAt, names_turn, lowest_at, pick_at, state_turn, bounds_turn}, specs.inner.Outcomes.IsWideEnd, specs.inner.Turns.{Picks, GetsWide}, specs.inner.Values.sizes_of, specs.declared.basis.Basis.Basis}
 
 module _ {N : Type 0} (m : ℕ) (bound : ℕ → ℤ) (slack : ℕ → N) (is_listed : ColumnOf N → Type 0) where
   lowest : (b : Basis N) → IsAt m bound slack is_listed b → (i : ℕ) → i < m → IsInLowestTerms m (nums_at b.rows i) (den_at b.rows i)

@@ -1,14 +1,9 @@
 -- the values of rows as fractions
 use Rattle.std.proofs.Common.{◌≡◌, ℕ, ◌+◌, ◌*◌, ◌++◌, List, [], ◌∷◌, length, length-append, Some, slice_get, sym, ap, subst, arith, unsigned_abs, ℤ}
 use Rattle.net_core.proofs.Library.{◌∣◌}
-use Rattle.checked_fraction.specs.Terms.{num}
-use Rattle.checked_fraction.specs.declared.row.Row.{Row}
+use Rattle.checked_fraction.{specs.Terms.num, specs.declared.row.Row.Row}
 use Rattle.simplex_law.specs.Terms.{dot}
-use Rattle.simplex_core.specs.inner.Commons.{IsFractionOf}
-use Rattle.simplex_core.specs.Tables.{nums_of, den_of, nums_at, den_at}
-use Rattle.simplex_core.specs.inner.Shapes.{AtEach}
-use Rattle.simplex_core.specs.declared.fraction.Fraction.{Fraction}
-use Rattle.simplex_core.proofs.Starts.{each_push}
+use Rattle.simplex_core.{specs.inner.Commons.IsFractionOf, specs.Tables.{nums_of, den_of, nums_at, den_at}, specs.inner.Shapes.AtEach, specs.declared.fraction.Fraction.Fraction, proofs.Starts.each_push}
 
 pub fraction_is : (x y d : ℤ) (value size : ℕ) (f : Fraction) → value ≡ unsigned_abs y → y ≡ x → size ≡ unsigned_abs d → f.num * size ≡ value * f.den → f.den ∣ size → IsFractionOf x d f
 fraction_is x y d value size f of_value same of_size times divides = record {

@@ -1,9 +1,8 @@
 -- least common multiples
 use Rattle.std.proofs.Common.{◌≡◌, ℕ, zero, suc, ◌+◌, ◌*◌, ◌/◌, ◌<◌, sym, ap, subst, ◌∙◌, arith, ⊎_elim, mul-pos}
 use Rattle.net_core.proofs.Library.{◌∣◌, IsGcd, cases_lt, dvd_trans, one-dvd, dvd-mul_left, dvd-mul_right, dvd_of_mul-dvd-mul_left, mul-dvd-mul_left, mul-dvd-mul_right, mul-div_cancel', positive_divisor}
-use Rattle.simplex_core.specs.Multiples.{IsLeastMultiple, HaveNoMultiple}
-use Rattle.simplex_core.specs.inner.Commons.{IsDenominator, HaveNoDenominator}
 use Rattle.checked_fraction.proofs.Once.{divides_rest, shared_divisor}
+use Rattle.simplex_core.{specs.Multiples.{IsLeastMultiple, HaveNoMultiple}, specs.inner.Commons.{IsDenominator, HaveNoDenominator}}
 
 swapped : (a b : ℕ) → a * b ≡ b * a
 swapped a b = omega arith

@@ -1,13 +1,8 @@
 -- rows combined one after another
 use Rattle.std.proofs.Common.{◌≡◌, ◌≢◌, ℕ, ◌<◌, ◌+◌, List, length, Some, slice_get, slice_set, length-set, sym, ap, subst, ◌∙◌, arith, ⊎_elim, ℤ, ◌*ℤ◌}
 use Rattle.net_core.proofs.Library.{cases_eq}
-use Rattle.checked_fraction.specs.Terms.{num, IsReduced, combined, IsTooWide}
-use Rattle.checked_fraction.specs.declared.row.Row.{Row}
-use Rattle.checked_fraction.specs.declared.wide.WideNumber.{WideNumber}
-use Rattle.simplex_core.specs.Tables.{nums_of, den_of, IsRectangle}
-use Rattle.simplex_core.specs.Turned.{IsCombinedRow, IsCombined, IsTooWideRow, IsTooWideAt, AreTurned, IsWideRow}
-use Rattle.simplex_core.specs.inner.Pivots.{CombinesAt, AreCombined}
-use Rattle.simplex_core.proofs.Lists.{get_same, get_other}
+use Rattle.checked_fraction.{specs.Terms.{num, IsReduced, combined, IsTooWide}, specs.declared.row.Row.Row, specs.declared.wide.WideNumber.WideNumber}
+use Rattle.simplex_core.{specs.Tables.{nums_of, den_of, IsRectangle}, specs.Turned.{IsCombinedRow, IsCombined, IsTooWideRow, IsTooWideAt, AreTurned, IsWideRow}, specs.inner.Pivots.{CombinesAt, AreCombined}, proofs.Lists.{get_same, get_other}}
 
 -- a row but row r is written combined
 pub combines_at : (m : ℕ) (old : List Row) (row new : Row) (products : List ℤ) (pivot : ℕ → ℤ) (q : ℤ) (r i : ℕ) → i < length old → i ≢ r → slice_get old i ≡ Some row → IsRectangle m old

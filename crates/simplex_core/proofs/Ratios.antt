@@ -1,14 +1,9 @@
 -- the order of the ratio test over the rows that the code has
 use Rattle.std.proofs.Common.{◌≡◌, ℕ, suc, ◌<◌, ◌+◌, List, length, Option, Some, None, Ok, refl, sym, ap, subst, ◌∙◌, arith, ⊎_elim, inr, option_map, ℤ, pos, ◌*ℤ◌, ◌<ℤ◌, ◌≤ℤ◌, Ordering, Less, Equal, Greater}
 use Rattle.net_core.proofs.Library.{ints, cases_lt}
-use Rattle.checked_fraction.specs.Terms.{num, combined}
-use Rattle.checked_fraction.specs.declared.row.Row.{Row}
-use Rattle.simplex_law.specs.Terms.{dot, valued, IsNoLater}
-use Rattle.simplex_law.proofs.Lemmas.{lex_at, lex_none, lex_sum, crossed, gone, over}
-use Rattle.simplex_core.specs.Tables.{nums_at}
-use Rattle.simplex_core.specs.inner.Ratios.{IsCandidate, ComparesRatios, IsFirstOf, IsBetter, IsRowNoLater, IsBestBefore, IsLeavingRow}
-use Rattle.simplex_core.specs.Orders.{IsFirstLess, ComparesNumbers}
-use Rattle.simplex_core.specs.declared.ratio_test.Candidate.{Candidate}
+use Rattle.checked_fraction.{specs.Terms.{num, combined}, specs.declared.row.Row.Row}
+use Rattle.simplex_law.{specs.Terms.{dot, valued, IsNoLater}, proofs.Lemmas.{lex_at, lex_none, lex_sum, crossed, gone, over}}
+use Rattle.simplex_core.{specs.Tables.nums_at, specs.inner.Ratios.{IsCandidate, ComparesRatios, IsFirstOf, IsBetter, IsRowNoLater, IsBestBefore, IsLeavingRow}, specs.Orders.{IsFirstLess, ComparesNumbers}, specs.declared.ratio_test.Candidate.Candidate}
 
 pub no_later_trans : (m : ℕ) (bound u : ℕ → ℤ) (p : ℤ) (v : ℕ → ℤ) (q : ℤ) (w : ℕ → ℤ) (r : ℤ) → pos 0 <ℤ p → pos 0 <ℤ q → pos 0 <ℤ r
     → IsNoLater m bound u p v q → IsNoLater m bound v q w r → IsNoLater m bound u p w r

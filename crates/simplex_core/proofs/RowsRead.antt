@@ -1,15 +1,8 @@
 -- what the code reads of a table's rows
 use Rattle.std.proofs.Common.{◌≡◌, ◌≢◌, ℕ, ◌<◌, ◌+◌, ◌^◌, List, length, Option, slice_get, slice_set, get_or, get_or-set_same, get_or-set_other, below_more, sym, ap, subst, ◌∙◌, arith, unsigned_abs, ℤ, ◌*ℤ◌, Ordering}
-use Rattle.checked_fraction.specs.Terms.{num}
-use Rattle.checked_fraction.specs.declared.row.Row.{Row}
+use Rattle.checked_fraction.{specs.Terms.num, specs.declared.row.Row.Row}
 use Rattle.simplex_law.specs.Terms.{dot}
-use Rattle.simplex_core.specs.Columns.{entry_of}
-use Rattle.simplex_core.specs.Orders.{ComparesNumbers}
-use Rattle.simplex_core.specs.Tables.{nums_of, nums_at, IsRectangle}
-use Rattle.simplex_core.specs.inner.Products.{AreProducts}
-use Rattle.simplex_core.specs.inner.Values.{IsValueOf}
-use Rattle.simplex_core.specs.declared.columns.Entry.{Entry}
-use Rattle.simplex_core.proofs.Lists.{read_at}
+use Rattle.simplex_core.{specs.Columns.entry_of, specs.Orders.ComparesNumbers, specs.Tables.{nums_of, nums_at, IsRectangle}, specs.inner.Products.AreProducts, specs.inner.Values.IsValueOf, specs.declared.columns.Entry.Entry, proofs.Lists.read_at}
 
 -- the numbers of row i
 pub numbers_at : (rows : List Row) (i : ℕ) (row : Row) (nums : List ℤ) → i < length rows → row ≡ get_or rows i row → nums ≡ row.nums → nums ≡ nums_of (slice_get rows i)

@@ -1,16 +1,9 @@
 -- what holds of the basis at each turn
 use Rattle.std.proofs.Common.{◌≡◌, ℕ, ◌<◌, ◌^◌, List, length, Some, slice_get, slice_set, length-set, cond, refl, sym, ap, subst, ◌∙◌, arith, ⊎_elim, unsigned_abs, ℤ, pos, ◌≤ℤ◌, eq-eqb, ne_eqb}
 use Rattle.net_core.proofs.Library.{ints, cases_eq}
-use Rattle.checked_fraction.specs.Terms.{num, IsInLowestTerms}
-use Rattle.checked_fraction.specs.declared.row.Row.{Row}
-use Rattle.simplex_law.specs.Terms.{dot, put, ColumnOf, IsProgramColumn, IsPacking, slack_basis, IsPick, AreNames, IsReached}
-use Rattle.simplex_law.proofs.Lemmas.{left_above, AreNumberedDuals, left_falls, IsTableau, dot-same, dot-none, same_pick, started, start_reached, turn_reached, value_nonneg, turned, rises}
-use Rattle.simplex_core.specs.Tables.{nums_of, den_of, nums_at, den_at, IsRectangle}
-use Rattle.simplex_core.specs.inner.Shapes.{IsStartBasis, IsShaped}
-use Rattle.simplex_core.specs.inner.Turns.{Picks, TurnsTo}
-use Rattle.simplex_core.specs.declared.basis.Basis.{Basis}
-use Rattle.simplex_core.proofs.Lists.{get_same, get_other}
-use Rattle.simplex_core.proofs.Starts.{each_at}
+use Rattle.checked_fraction.{specs.Terms.{num, IsInLowestTerms}, specs.declared.row.Row.Row}
+use Rattle.simplex_law.{specs.Terms.{dot, put, ColumnOf, IsProgramColumn, IsPacking, slack_basis, IsPick, AreNames, IsReached}, proofs.Lemmas.{left_above, AreNumberedDuals, left_falls, IsTableau, dot-same, dot-none, same_pick, started, start_reached, turn_reached, value_nonneg, turned, rises}}
+use Rattle.simplex_core.{specs.Tables.{nums_of, den_of, nums_at, den_at, IsRectangle}, specs.inner.Shapes.{IsStartBasis, IsShaped}, specs.inner.Turns.{Picks, TurnsTo}, specs.declared.basis.Basis.Basis, proofs.Lists.{get_same, get_other}, proofs.Starts.each_at}
 
 -- a basis of the program that gaining steps reach, with the rows of its inverse
 pub record IsAt {N : Type 0} (m : ℕ) (bound : ℕ → ℤ) (slack : ℕ → N) (is_listed : ColumnOf N → Type 0) (b : Basis N) : Type 0 where

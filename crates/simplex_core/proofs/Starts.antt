@@ -1,13 +1,9 @@
 -- the slack basis as the code makes it
 use Rattle.std.proofs.Common.{◌≡◌, ℕ, zero, suc, ◌<◌, ◌≤◌, ◌^◌, ◌+◌, ◌++◌, List, [], ◌∷◌, length, length-append, Some, replicate, slice_get, slice_set, length-set, get_or-set_same, get_or-set_other, refl, sym, ap, subst, ◌∙◌, arith, ⊎_elim, ℤ, pos, ◌≤ℤ◌}
 use Rattle.net_core.proofs.Library.{ints, cases_lt, cases_eq, get_or_from_slice_get}
-use Rattle.checked_fraction.specs.Terms.{num, IsNarrow}
-use Rattle.checked_fraction.specs.declared.row.Row.{Row}
-use Rattle.simplex_law.specs.Terms.{unit_vector}
-use Rattle.simplex_law.proofs.Lemmas.{unit-same, unit-other}
-use Rattle.simplex_core.specs.Tables.{nums_of, den_of}
-use Rattle.simplex_core.specs.inner.Shapes.{AtEach, IsUnit, IsStartBasis}
-use Rattle.simplex_core.specs.declared.basis.Basis.{Basis}
+use Rattle.checked_fraction.{specs.Terms.{num, IsNarrow}, specs.declared.row.Row.Row}
+use Rattle.simplex_law.{specs.Terms.unit_vector, proofs.Lemmas.{unit-same, unit-other}}
+use Rattle.simplex_core.{specs.Tables.{nums_of, den_of}, specs.inner.Shapes.{AtEach, IsUnit, IsStartBasis}, specs.declared.basis.Basis.Basis}
 
 -- what fits each place still does with one item more
 pub each_push : {X : Type 0} (P : ℕ → X → Type 0) (xs : List X) (x : X) → AtEach P xs → P (length xs) x → AtEach P (xs ++ x ∷ [])

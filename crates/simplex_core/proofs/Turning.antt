@@ -1,21 +1,9 @@
 -- a turn, from the values that the code has to what it does to the basis
 use Rattle.std.proofs.Common.{◌≡◌, ℕ, ◌<◌, List, [], ◌∷◌, cond, eqb, refl, sym, subst, arith, inl, inr, ⊎_elim, ℤ, pos, ◌+ℤ◌, ◌-ℤ◌, ◌*ℤ◌, ◌<ℤ◌}
-use Rattle.net_core.proofs.Library.{ints}
-use Rattle.checked_fraction.specs.Terms.{num, combined, IsTooWide}
-use Rattle.checked_fraction.specs.declared.row.Row.{Row}
-use Rattle.net_core.specs.declared.columns.WideKind.{WideKind}
-use Rattle.net_core.specs.declared.columns.WideKind.TheVariants.{Number, Row as RowOf, Product, Sum, Common, Value, Length}
-use Rattle.simplex_law.specs.Terms.{dot, unit_vector, ColumnOf, IsSlack, IsNoLater}
-use Rattle.simplex_law.proofs.Lemmas.{dot-unit}
-use Rattle.simplex_core.specs.Columns.{column_from, entry_of}
-use Rattle.simplex_core.specs.Prices.{GainsAt}
-use Rattle.simplex_core.specs.Tables.{nums_at, den_at}
-use Rattle.simplex_core.specs.Turned.{IsWideRow}
-use Rattle.simplex_core.specs.inner.Ratios.{IsRowNoLater}
-use Rattle.simplex_core.specs.inner.Turns.{reduced_cost, Picks, TurnsTo, IsWideOther, GetsWide, Enters, Chooses, HasEntered, IsTurnOutcome}
-use Rattle.simplex_core.specs.declared.basis.Basis.{Basis}
-use Rattle.simplex_core.specs.declared.solver.Turn.{Turn}
-use Rattle.simplex_core.specs.declared.solver.Turn.TheVariants.{Again, Best, Unbounded, Wide, NoMemory}
+use Rattle.net_core.{proofs.Library.ints, specs.declared.columns.WideKind.WideKind, specs.declared.columns.WideKind.TheVariants.{Number, Row as RowOf, Product, Sum, Common, Value, Length}}
+use Rattle.checked_fraction.{specs.Terms.{num, combined, IsTooWide}, specs.declared.row.Row.Row}
+use Rattle.simplex_law.{specs.Terms.{dot, unit_vector, ColumnOf, IsSlack, IsNoLater}, proofs.Lemmas.dot-unit}
+use Rattle.simplex_core.{specs.Columns.{column_from, entry_of}, specs.Prices.GainsAt, specs.Tables.{nums_at, den_at}, specs.Turned.IsWideRow, specs.inner.Ratios.IsRowNoLater, specs.inner.Turns.{reduced_cost, Picks, TurnsTo, IsWideOther, GetsWide, Enters, Chooses, HasEntered, IsTurnOutcome}, specs.declared.basis.Basis.Basis, specs.declared.solver.Turn.Turn, specs.declared.solver.Turn.TheVariants.{Again, Best, Unbounded, Wide, NoMemory}}
 
 -- a wide row, by the products that the basis holds
 pub wide_other : {N : Type 0} (m : ℕ) (old : Basis N) (c : ColumnOf N) (name : N) (cost : ℤ) (r i : ℕ) → Chooses m old c name cost r

@@ -1,7 +1,6 @@
 -- sums of absolute products
 use Rattle.std.proofs.Common.{◌≡◌, ℕ, zero, suc, ◌≤◌, ◌+◌, arith, ap, sym, subst, ⊎_elim}
-use Rattle.net_core.proofs.Library.{cases_lt}
-use Rattle.net_core.specs.Terms.{sum_below}
+use Rattle.net_core.{proofs.Library.cases_lt, specs.Terms.sum_below}
 
 -- the sum of fewer numbers is no more
 pub fewer : (k n : ℕ) (f : ℕ → ℕ) → k ≤ n → sum_below k f ≤ sum_below n f

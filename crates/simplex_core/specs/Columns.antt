@@ -1,10 +1,8 @@
 -- the columns that the code has, as columns of a program
-use Rattle.std.specs.Prelude.{ℕ, ℤ, List, [], ◌∷◌, pos, ◌≢◌, ◌<◌, ◌≤ℤ◌}
-use Rattle.std.specs.List.{AllByRecursion}
+use Rattle.std.{specs.Prelude.{ℕ, ℤ, List, [], ◌∷◌, pos, ◌≢◌, ◌<◌, ◌≤ℤ◌}, specs.List.AllByRecursion}
 use Rattle.checked_fraction.specs.Terms.{IsNarrow}
 use Rattle.simplex_law.specs.Terms.{ColumnOf, entry_at}
-use Rattle.simplex_core.specs.declared.columns.Column.{Column}
-use Rattle.simplex_core.specs.declared.columns.Entry.{Entry}
+use Rattle.simplex_core.{specs.declared.columns.Column.Column, specs.declared.columns.Entry.Entry}
 
 -- what entries hold in row k
 abbrev pub entry_of : List Entry → ℕ → ℤ

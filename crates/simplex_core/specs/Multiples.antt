@@ -1,6 +1,5 @@
 -- least common multiples
-use Rattle.std.specs.Prelude.{ℕ, Option, Some, None, ◌<◌, ◌≤◌, ◌^◌}
-use Rattle.std.specs.Int.{◌∣◌}
+use Rattle.std.{specs.Prelude.{ℕ, Option, Some, None, ◌<◌, ◌≤◌, ◌^◌}, specs.Int.◌∣◌}
 
 -- the least common multiple of both, which is narrow
 pub record IsLeastMultiple (a b multiple : ℕ) : Type 0 where

@@ -1,7 +1,5 @@
 -- the order of numbers
-use Rattle.std.specs.Prelude.{ℕ, ℤ, ◌≡◌, ◌<◌, ◌<ℤ◌}
-use Rattle.std.specs.declared.cmp.Ordering.{Ordering}
-use Rattle.std.specs.declared.cmp.Ordering.TheVariants.{Less, Equal, Greater}
+use Rattle.std.{specs.Prelude.{ℕ, ℤ, ◌≡◌, ◌<◌, ◌<ℤ◌}, specs.declared.cmp.Ordering.Ordering, specs.declared.cmp.Ordering.TheVariants.{Less, Equal, Greater}}
 
 -- how x compares to y
 abbrev pub HasOrder : ℤ → ℤ → Ordering → Type 0

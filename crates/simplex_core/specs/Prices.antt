@@ -1,12 +1,8 @@
 -- what pricing finds
 use Rattle.std.specs.Prelude.{ℕ, ◌*ℤ◌, ◌<ℤ◌}
-use Rattle.checked_fraction.specs.Terms.{num, IsNarrow}
-use Rattle.checked_fraction.specs.declared.row.Row.{Row}
+use Rattle.checked_fraction.{specs.Terms.{num, IsNarrow}, specs.declared.row.Row.Row}
 use Rattle.simplex_law.specs.Terms.{dot, ColumnOf}
-use Rattle.simplex_core.specs.Columns.{column_of, AreEntries}
-use Rattle.simplex_core.specs.declared.columns.Column.{Column}
-use Rattle.simplex_core.specs.declared.columns.Price.{Price}
-use Rattle.simplex_core.specs.declared.columns.Price.TheVariants.{Gain, Optimal, NoMemory}
+use Rattle.simplex_core.{specs.Columns.{column_of, AreEntries}, specs.declared.columns.Column.Column, specs.declared.columns.Price.Price, specs.declared.columns.Price.TheVariants.{Gain, Optimal, NoMemory}}
 
 -- a column's gain exceeds its priced entries
 abbrev pub GainsAt : {N : Type 0} → ℕ → Row → ColumnOf N → Type 0

@@ -2,9 +2,7 @@
 use Rattle.std.specs.Prelude.{ℕ, ℤ, length, get_or, pos, Result, Ok, Err, ◌≡◌, ◌<◌, ◌^◌, ◌≤ℤ◌, ◌↔◌, ◌*ℤ◌}
 use Rattle.checked_fraction.specs.Terms.{num}
 use Rattle.simplex_law.specs.Terms.{int_sum, ColumnOf, IsProgramColumn, slack_basis, AreNames, IsReached, HoldsKind, IsReachedEvidence, IsOptimum, IsGreatestGain}
-use Rattle.simplex_core.specs.declared.optimum.Optimum.{Optimum}
-use Rattle.simplex_core.specs.declared.solver.SimplexFault.{SimplexFault}
-use Rattle.simplex_core.specs.declared.solver.SimplexFault.TheVariants.{Wide, NoMemory}
+use Rattle.simplex_core.{specs.declared.optimum.Optimum.Optimum, specs.declared.solver.SimplexFault.SimplexFault, specs.declared.solver.SimplexFault.TheVariants.{Wide, NoMemory}}
 
 -- two programs have the same rows, bounds, slacks and columns
 pub record IsSameProgram {N : Type 0} (rows others : ℕ) (bound bounds : ℕ → ℤ) (slack slacks : ℕ → N)

@@ -1,8 +1,6 @@
 -- rows as a table of numbers
-use Rattle.std.specs.Prelude.{ℕ, ℤ, List, [], length, Option, Some, None, pos, ◌≡◌, ◌<◌}
-use Rattle.std.specs.List.{slice_get}
-use Rattle.checked_fraction.specs.Terms.{num}
-use Rattle.checked_fraction.specs.declared.row.Row.{Row}
+use Rattle.std.{specs.Prelude.{ℕ, ℤ, List, [], length, Option, Some, None, pos, ◌≡◌, ◌<◌}, specs.List.slice_get}
+use Rattle.checked_fraction.{specs.Terms.num, specs.declared.row.Row.Row}
 
 abbrev pub nums_of : Option Row → List ℤ
 nums_of None = []

@@ -1,10 +1,6 @@
 -- the rows of the next basis
-use Rattle.std.specs.Prelude.{ℕ, ℤ, List, length, Option, Some, None, pos, ◌≡◌, ◌≢◌, ◌<◌, ◌^◌, ◌/◌, ◌*ℤ◌, ◌<ℤ◌, ◌⊎◌, unsigned_abs}
-use Rattle.std.specs.Int.{IsGcd}
-use Rattle.std.specs.List.{slice_get}
-use Rattle.checked_fraction.specs.Terms.{num, IsNarrow, IsReduced, combined, IsTooWide}
-use Rattle.checked_fraction.specs.declared.row.Row.{Row}
-use Rattle.checked_fraction.specs.declared.wide.WideNumber.{WideNumber}
+use Rattle.std.{specs.Prelude.{ℕ, ℤ, List, length, Option, Some, None, pos, ◌≡◌, ◌≢◌, ◌<◌, ◌^◌, ◌/◌, ◌*ℤ◌, ◌<ℤ◌, ◌⊎◌, unsigned_abs}, specs.Int.IsGcd, specs.List.slice_get}
+use Rattle.checked_fraction.{specs.Terms.{num, IsNarrow, IsReduced, combined, IsTooWide}, specs.declared.row.Row.Row, specs.declared.wide.WideNumber.WideNumber}
 use Rattle.simplex_law.specs.Terms.{IsWide}
 use Rattle.simplex_core.specs.Tables.{nums_at, den_at, nums_of, den_of}
 

@@ -1,8 +1,6 @@
-ghost use Rattle.std.specs.Prelude.{◌≡◌, ◌<◌, ◌≤◌, ◌^◌, ◌/◌, ◌<ℤ◌, ℕ, pos, length, int_div, unsigned_abs, IsTrue, false};
-ghost use Rattle.std.specs.Int.{IsGcd};
+ghost use Rattle.std.{specs.Prelude.{◌≡◌, ◌<◌, ◌≤◌, ◌^◌, ◌/◌, ◌<ℤ◌, ℕ, pos, length, int_div, unsigned_abs, IsTrue, false}, specs.Int.IsGcd};
 ghost use Rattle.checked_fraction.specs.Terms.{num, IsNarrow};
-ghost use Rattle.simplex_core.specs.Turned.{IsNarrowOver, FindsWideProduct};
-ghost use Rattle.simplex_core.specs.inner.Factors.{AreFactorsOf};
+ghost use Rattle.simplex_core.{specs.Turned.{IsNarrowOver, FindsWideProduct}, specs.inner.Factors.AreFactorsOf};
 
 use checked_fraction::{gcd, is_narrow, narrowed};
 

@@ -1,5 +1,4 @@
-ghost use Rattle.std.specs.Prelude.{◌≡◌, ◌*◌, ◌<◌, ◌^◌};
-ghost use Rattle.std.specs.Int.{◌∣◌};
+ghost use Rattle.std.{specs.Prelude.{◌≡◌, ◌*◌, ◌<◌, ◌^◌}, specs.Int.◌∣◌};
 
 use checked_fraction::gcd;
 

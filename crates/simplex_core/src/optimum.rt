@@ -1,8 +1,5 @@
-ghost use Rattle.std.specs.Prelude.{◌≡◌, ◌*◌, ◌/◌, ◌<◌, ◌^◌, ℕ, length, IfOk};
-ghost use Rattle.std.specs.Int.{◌∣◌};
-ghost use Rattle.simplex_core.specs.Multiples.{IsCommonMultiple};
-ghost use Rattle.simplex_core.specs.inner.Commons.{IsCommonDenominator, fraction_den, value_at};
-ghost use Rattle.simplex_core.specs.inner.Shapes.{AtEach};
+ghost use Rattle.std.{specs.Prelude.{◌≡◌, ◌*◌, ◌/◌, ◌<◌, ◌^◌, ℕ, length, IfOk}, specs.Int.◌∣◌};
+ghost use Rattle.simplex_core.{specs.Multiples.IsCommonMultiple, specs.inner.Commons.{IsCommonDenominator, fraction_den, value_at}, specs.inner.Shapes.AtEach};
 
 use crate::fraction::Fraction;
 use checked_fraction::{Row, gcd};

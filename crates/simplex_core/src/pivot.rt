@@ -1,8 +1,6 @@
 ghost use Rattle.std.specs.Prelude.{◌≡◌, ◌≢◌, ◌<◌, ◌^◌, ◌*ℤ◌, ◌<ℤ◌, ℕ, pos, length, OnOk, IfErr};
 ghost use Rattle.checked_fraction.specs.Terms.{num, IsNarrow, IsReduced, combined, IsTooWide};
-ghost use Rattle.simplex_core.specs.Tables.{nums_at, IsRectangle};
-ghost use Rattle.simplex_core.specs.Turned.{IsNarrowOver, HavePivot, IsTooWideAt, AreTurned, IsWideRow};
-ghost use Rattle.simplex_core.specs.inner.Pivots.{CombinesAt, AreCombined};
+ghost use Rattle.simplex_core.{specs.Tables.{nums_at, IsRectangle}, specs.Turned.{IsNarrowOver, HavePivot, IsTooWideAt, AreTurned, IsWideRow}, specs.inner.Pivots.{CombinesAt, AreCombined}};
 
 use crate::factors::{Factors, factors_of};
 use checked_fraction::{Row, WideNumber, combine, narrowed, rescale};

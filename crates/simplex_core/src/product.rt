@@ -1,10 +1,7 @@
-ghost use Rattle.std.specs.Prelude.{◌≡◌, ◌<◌, ◌≤◌, ◌^◌, ◌+ℤ◌, ◌-ℤ◌, ◌*ℤ◌, ◌<ℤ◌, ◌↔◌, ℕ, unsigned_abs, length, IsTrue};
-ghost use Rattle.std.specs.List.{AllByRecursion};
+ghost use Rattle.std.{specs.Prelude.{◌≡◌, ◌<◌, ◌≤◌, ◌^◌, ◌+ℤ◌, ◌-ℤ◌, ◌*ℤ◌, ◌<ℤ◌, ◌↔◌, ℕ, unsigned_abs, length, IsTrue}, specs.List.AllByRecursion};
 ghost use Rattle.checked_fraction.specs.Terms.{num, IsNarrow, total, IsExact, HasRoom};
 ghost use Rattle.simplex_law.specs.Terms.{dot};
-ghost use Rattle.simplex_core.specs.Columns.{entry_of, IsEntry};
-ghost use Rattle.simplex_core.specs.inner.Products.{HaveProducts};
-ghost use Rattle.simplex_core.specs.Tables.{IsRectangle};
+ghost use Rattle.simplex_core.{specs.Columns.{entry_of, IsEntry}, specs.inner.Products.HaveProducts, specs.Tables.IsRectangle};
 
 use crate::columns::Entry;
 use checked_fraction::{Row, Sum};

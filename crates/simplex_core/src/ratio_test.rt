@@ -1,12 +1,7 @@
-ghost use Rattle.std.specs.Prelude.{◌≡◌, ◌+◌, ◌<◌, ◌≤◌, ◌^◌, ◌*ℤ◌, ◌<ℤ◌, ◌≤ℤ◌, ℤ, ℕ, pos, length, unsigned_abs, IfOk, IfErr, ◌⊎◌};
-ghost use Rattle.std.specs.Option.{ForSome, option_map};
+ghost use Rattle.std.{specs.Prelude.{◌≡◌, ◌+◌, ◌<◌, ◌≤◌, ◌^◌, ◌*ℤ◌, ◌<ℤ◌, ◌≤ℤ◌, ℤ, ℕ, pos, length, unsigned_abs, IfOk, IfErr, ◌⊎◌}, specs.Option.{ForSome, option_map}};
 ghost use Rattle.checked_fraction.specs.Terms.{num, IsNarrow};
 ghost use Rattle.simplex_law.specs.Terms.{dot};
-ghost use Rattle.simplex_core.specs.Tables.{nums_at, IsRectangle};
-ghost use Rattle.simplex_core.specs.inner.Products.{AreBoundedRows};
-ghost use Rattle.simplex_core.specs.Orders.{HasOrder, ComparesNumbers};
-ghost use Rattle.simplex_core.specs.inner.Ratios.{IsPlaced, IsCandidate, HaveRowValues, ComparesRows, IsFirstOf, IsBetter, IsBestBefore, IsLeavingRow};
-ghost use Rattle.simplex_core.specs.inner.Values.{sizes_of};
+ghost use Rattle.simplex_core.{specs.Tables.{nums_at, IsRectangle}, specs.inner.Products.AreBoundedRows, specs.Orders.{HasOrder, ComparesNumbers}, specs.inner.Ratios.{IsPlaced, IsCandidate, HaveRowValues, ComparesRows, IsFirstOf, IsBetter, IsBestBefore, IsLeavingRow}, specs.inner.Values.sizes_of};
 
 use crate::value::row_value;
 use checked_fraction::{Row, cmp, is_narrow, narrowed, product};

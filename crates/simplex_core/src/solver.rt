@@ -1,15 +1,7 @@
-ghost use Rattle.std.specs.Prelude.{◌≡◌, ◌<◌, ◌≤◌, ◌^◌, ◌<ℤ◌, ◌≤ℤ◌, ℕ, ℤ, pos, length, slice_set, unsigned_abs, IsTrue, false};
-ghost use Rattle.std.specs.List.{AllByRecursion};
+ghost use Rattle.std.{specs.Prelude.{◌≡◌, ◌<◌, ◌≤◌, ◌^◌, ◌<ℤ◌, ◌≤ℤ◌, ℕ, ℤ, pos, length, slice_set, unsigned_abs, IsTrue, false}, specs.List.AllByRecursion};
 ghost use Rattle.checked_fraction.specs.Terms.{num, IsNarrow};
 ghost use Rattle.simplex_law.specs.Terms.{dot, ColumnOf, IsProgramColumn, IsPacking};
-ghost use Rattle.simplex_core.specs.Columns.{IsEntry, column_from};
-ghost use Rattle.simplex_core.specs.Turned.{IsNarrowOver, HavePivot};
-ghost use Rattle.simplex_core.specs.Tables.{nums_at};
-ghost use Rattle.simplex_core.specs.Programs.{IsSameProgram, IsSimplexAnswer};
-ghost use Rattle.simplex_core.specs.inner.Shapes.{IsShaped};
-ghost use Rattle.simplex_core.specs.inner.Values.{sizes_of};
-ghost use Rattle.simplex_core.specs.inner.Outcomes.{IsBasisOutcome, IsValuesOutcome, HasLowValues};
-ghost use Rattle.simplex_core.specs.inner.Turns.{reduced_cost, Chooses, Enters, IsTurnOutcome};
+ghost use Rattle.simplex_core.{specs.Columns.{IsEntry, column_from}, specs.Turned.{IsNarrowOver, HavePivot}, specs.Tables.nums_at, specs.Programs.{IsSameProgram, IsSimplexAnswer}, specs.inner.Shapes.IsShaped, specs.inner.Values.sizes_of, specs.inner.Outcomes.{IsBasisOutcome, IsValuesOutcome, HasLowValues}, specs.inner.Turns.{reduced_cost, Chooses, Enters, IsTurnOutcome}};
 
 use crate::basis::{Basis, slack_basis};
 use crate::columns::{Column, Columns, Entry, Price};

@@ -1,9 +1,7 @@
 ghost use Rattle.std.specs.Prelude.{◌≡◌, ◌+◌, ◌*◌, ◌<◌, ◌≤◌, ◌^◌, ◌+ℤ◌, ◌*ℤ◌, ℕ, pos, unsigned_abs, length, IfSome, IfNone};
 ghost use Rattle.checked_fraction.specs.Terms.{num, IsNarrow};
 ghost use Rattle.simplex_law.specs.Terms.{dot};
-ghost use Rattle.simplex_core.specs.inner.Commons.{IsFractionOf, HaveFractions};
-ghost use Rattle.simplex_core.specs.inner.Products.{AreBoundedRows};
-ghost use Rattle.simplex_core.specs.inner.Values.{sizes_of, IsValueOf};
+ghost use Rattle.simplex_core.{specs.inner.Commons.{IsFractionOf, HaveFractions}, specs.inner.Products.AreBoundedRows, specs.inner.Values.{sizes_of, IsValueOf}};
 
 use crate::fraction::{Fraction, fraction_of};
 use checked_fraction::{Row, product, size_of_den};

@@ -1,8 +1,8 @@
 -- the ring laws and the order of whole numbers
 use Rattle.std.proofs.Common.{◌≡◌, zero, suc, ◌≤◌, ◌+◌, ◌*◌, sym, ap, ◌∙◌, arith, subst, ℤ, pos, negsuc, ◌+ℤ◌, ◌-ℤ◌, ◌*ℤ◌, mul-le-mul_left, ◌<ℤ◌, ◌≤ℤ◌}
 use Rattle.net_core.proofs.Library.{*ℤ_comm, *ℤ-zero, ints, by_lt_z}
-use borrow.Author.Differences.{up, down, sum_is_lem}
 use Rattle.checked_fraction.proofs.Products.{regroup, positive_product, cancelled}
+use borrow.Author.Differences.{up, down, sum_is_lem}
 
 pub distribute : (a b c : ℤ) → (a +ℤ b) *ℤ c ≡ (a *ℤ c) +ℤ (b *ℤ c)
 distribute a b c = let u = ap (λ t. t * up c) (sum_is_lem a b) in let d = ap (λ t. t * down c) (sum_is_lem a b) in omega (arith, ints)

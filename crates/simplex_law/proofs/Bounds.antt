@@ -2,11 +2,7 @@
 use Rattle.std.proofs.Common.{◌≡◌, ℕ, zero, suc, ◌<◌, ◌≤◌, ◌+◌, ◌*◌, inl, inr, ⊎_elim, refl, sym, ap, ◌∙◌, arith, subst, unsigned_abs, ℤ, pos, ◌-ℤ◌, ◌*ℤ◌, ◌<ℤ◌}
 use Rattle.checked_fraction.specs.Terms.{combined}
 use Rattle.net_core.specs.Terms.{sum_below}
-use Rattle.simplex_law.specs.Sums.{dot}
-use Rattle.simplex_law.specs.Programs.{ColumnOf}
-use Rattle.simplex_law.specs.inner.Lexicographic.{IsLexNonneg, valued}
-use Rattle.simplex_law.specs.inner.Pivots.{IsPick}
-use Rattle.simplex_law.proofs.Sums.{dot-same}
+use Rattle.simplex_law.{specs.Sums.dot, specs.Programs.ColumnOf, specs.inner.Lexicographic.{IsLexNonneg, valued}, specs.inner.Pivots.IsPick, proofs.Sums.dot-same}
 
 lex_same : (n : ℕ) (u v : ℕ → ℤ) → ((k : ℕ) → k < n → u k ≡ v k) → IsLexNonneg n u → IsLexNonneg n v
 lex_same zero u v e h = tt

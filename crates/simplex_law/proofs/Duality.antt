@@ -1,10 +1,7 @@
 -- weak duality, and columns that fill the rows
 use Rattle.std.proofs.Common.{◌≡◌, ℕ, ◌<◌, sym, ap, ◌∙◌, arith, ℤ, ◌*ℤ◌}
 use Rattle.net_core.proofs.Library.{ints}
-use Rattle.simplex_law.specs.Sums.{int_sum, dot}
-use Rattle.simplex_law.specs.Optima.{PackingDuality}
-use Rattle.simplex_law.proofs.Arithmetic.{moved_out, le_times}
-use Rattle.simplex_law.proofs.Sums.{sum-times, sum-same, sum-swapped, sum-le}
+use Rattle.simplex_law.{specs.Sums.{int_sum, dot}, specs.Optima.PackingDuality, proofs.Arithmetic.{moved_out, le_times}, proofs.Sums.{sum-times, sum-same, sum-swapped, sum-le}}
 
 -- amounts x of columns, priced by y, in either order
 pub priced : (n m : ℕ) (x y : ℕ → ℤ) (entry : ℕ → ℕ → ℤ) → int_sum n (λ c. x c *ℤ dot m y (entry c)) ≡ int_sum m (λ k. y k *ℤ int_sum n (λ c. x c *ℤ entry c k))

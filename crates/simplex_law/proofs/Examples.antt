@@ -1,13 +1,7 @@
 -- the definitions on small programs, worked out by hand
 use Rattle.std.proofs.Common.{◌≡◌, ℕ, zero, suc, ◌+◌, ◌<◌, ◌^◌, ◌⊎◌, refl, sym, arith, inl, inr, ⊎_elim, cond, eqb, subst, ℤ, pos, negsuc, ◌*ℤ◌, ◌<ℤ◌}
 use Rattle.net_core.proofs.Library.{ints, eq-one_of_dvd-one}
-use Rattle.simplex_law.specs.Sums.{dot, unit_vector, put}
-use Rattle.simplex_law.specs.Programs.{ColumnOf, IsProgramColumn, slack_basis}
-use Rattle.simplex_law.specs.Bases.{IsFeasible, IsBest, IsReached}
-use Rattle.simplex_law.specs.Evidence.{HoldsRow, HoldsProduct}
-use Rattle.simplex_law.specs.Optima.{IsOptimum}
-use Rattle.simplex_law.proofs.Reached.{slack_is}
-use Rattle.simplex_law.proofs.Optimal.{none_gains}
+use Rattle.simplex_law.{specs.Sums.{dot, unit_vector, put}, specs.Programs.{ColumnOf, IsProgramColumn, slack_basis}, specs.Bases.{IsFeasible, IsBest, IsReached}, specs.Evidence.{HoldsRow, HoldsProduct}, specs.Optima.IsOptimum, proofs.Reached.slack_is, proofs.Optimal.none_gains}
 
 both : (P : ℕ → Type 0) → P 0 → P 1 → (j : ℕ) → j < 2 → P j
 both P a b zero l = a

@@ -1,12 +1,8 @@
 -- the inverse from the other side: the columns times the rows
 use Rattle.std.proofs.Common.{◌≡◌, ℕ, ◌<◌, refl, sym, ap, ◌∙◌, arith, ⊎_elim, subst, cond, eqb, Bool, true, false, ℤ, pos, ◌+ℤ◌, ◌-ℤ◌, ◌*ℤ◌, ◌<ℤ◌, eq-eqb, ne_eqb}
 use Rattle.net_core.proofs.Library.{*ℤ_comm, *ℤ-zero, zero-*ℤ, ints, cases_eq}
-use Rattle.checked_fraction.specs.Terms.{combined}
-use Rattle.simplex_law.specs.Sums.{int_sum, dot, unit_vector, put}
-use Rattle.simplex_law.specs.inner.Tableaux.{IsFilling}
-use Rattle.simplex_law.proofs.Arithmetic.{distribute_minus, minus_left, swap_last, moved_out}
-use Rattle.simplex_law.proofs.Sums.{sum-same, sum-times, sum-minus, sum-swapped, sum-put, sum-unit}
-use Rattle.checked_fraction.proofs.Products.{regroup, positive_product, cancelled}
+use Rattle.checked_fraction.{specs.Terms.combined, proofs.Products.{regroup, positive_product, cancelled}}
+use Rattle.simplex_law.{specs.Sums.{int_sum, dot, unit_vector, put}, specs.inner.Tableaux.IsFilling, proofs.Arithmetic.{distribute_minus, minus_left, swap_last, moved_out}, proofs.Sums.{sum-same, sum-times, sum-minus, sum-swapped, sum-put, sum-unit}}
 
 -- any right side is filled
 pub fills : (m : ℕ) (basic nums : ℕ → ℕ → ℤ) (den w b : ℕ → ℤ) (all : ℤ) → IsFilling m basic nums den w all

@@ -1,13 +1,7 @@
 -- a column that gains is limited by a row
 use Rattle.std.proofs.Common.{◌≡◌, ℕ, ◌<◌, sym, ◌∙◌, arith, subst, ℤ, pos, ◌*ℤ◌, ◌<ℤ◌, ◌≤ℤ◌}
 use Rattle.net_core.proofs.Library.{*ℤ_comm, *ℤ-zero, ints, by_lt_z}
-use Rattle.simplex_law.specs.Sums.{dot}
-use Rattle.simplex_law.specs.Programs.{ColumnOf, IsPacking}
-use Rattle.simplex_law.specs.Bases.{Gains}
-use Rattle.simplex_law.specs.inner.Tableaux.{IsTableau}
-use Rattle.simplex_law.proofs.Arithmetic.{times_nonpositive, positive_cancel, le_cancel, weaken}
-use Rattle.simplex_law.proofs.Sums.{sum-le, sum-none, dot-none-column}
-use Rattle.simplex_law.proofs.Filling.{fills}
+use Rattle.simplex_law.{specs.Sums.dot, specs.Programs.{ColumnOf, IsPacking}, specs.Bases.Gains, specs.inner.Tableaux.IsTableau, proofs.Arithmetic.{times_nonpositive, positive_cancel, le_cancel, weaken}, proofs.Sums.{sum-le, sum-none, dot-none-column}, proofs.Filling.fills}
 
 -- a weight is positive
 pub weight_positive : (w den all : ℤ) → pos 0 <ℤ den → pos 0 <ℤ all → w *ℤ den ≡ all → pos 0 <ℤ w

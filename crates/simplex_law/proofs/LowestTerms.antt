@@ -1,11 +1,8 @@
 -- each row has lowest terms
-use Rattle.std.proofs.Common.{◌≡◌, ℕ, zero, suc, ◌<◌, ◌+◌, ◌*◌, ◌/◌, ◌%◌, refl, sym, ap, ◌∙◌, arith, subst, unsigned_abs, ℤ, pos, negsuc, ◌-ℤ◌, ◌*ℤ◌, ◌<ℤ◌}
+use Rattle.std.{proofs.Common.{◌≡◌, ℕ, zero, suc, ◌<◌, ◌+◌, ◌*◌, ◌/◌, ◌%◌, refl, sym, ap, ◌∙◌, arith, subst, unsigned_abs, ℤ, pos, negsuc, ◌-ℤ◌, ◌*ℤ◌, ◌<ℤ◌}, proofs.Math.Nat.dvd-one}
 use Rattle.net_core.proofs.Library.{◌∣◌, IsGcd, ints, unsigned_abs-mul, IsGcd-from_zero, IsGcd-from_mod, mul-div_cancel', mul-dvd-mul_left, dvd_of_mul-dvd-mul_left, positive_divisor}
-use Rattle.std.proofs.Math.Nat.{dvd-one}
-use Rattle.checked_fraction.specs.Terms.{IsInLowestTerms, IsRowGcd}
-use Rattle.checked_fraction.proofs.Divisors.{row_gcd_none, row_gcd_more}
-use Rattle.simplex_law.proofs.Rows.{IsMultiple}
-use Rattle.simplex_law.proofs.Arithmetic.{positive_cancel, minus_left}
+use Rattle.checked_fraction.{specs.Terms.{IsInLowestTerms, IsRowGcd}, proofs.Divisors.{row_gcd_none, row_gcd_more}}
+use Rattle.simplex_law.{proofs.Rows.IsMultiple, proofs.Arithmetic.{positive_cancel, minus_left}}
 
 -- two numbers have a greatest common divisor, and so have all numbers of a row
 some_gcd : (fuel a b : ℕ) → b < fuel → (g : ℕ) × IsGcd a b g

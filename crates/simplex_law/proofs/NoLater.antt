@@ -1,16 +1,8 @@
 -- the order of the ratio test, and picks, over any rows of a basis
 use Rattle.std.proofs.Common.{◌≡◌, ℕ, suc, ◌<◌, sym, ap, ◌∙◌, arith, subst, ℤ, pos, ◌-ℤ◌, ◌*ℤ◌, ◌<ℤ◌}
 use Rattle.net_core.proofs.Library.{*ℤ_comm, ints}
-use Rattle.checked_fraction.specs.Terms.{combined}
-use Rattle.simplex_law.specs.Sums.{dot}
-use Rattle.simplex_law.specs.Programs.{ColumnOf}
-use Rattle.simplex_law.specs.inner.Lexicographic.{valued}
-use Rattle.simplex_law.specs.inner.Pivots.{IsNoLater, IsPick}
-use Rattle.simplex_law.specs.inner.Tableaux.{IsTableau}
-use Rattle.simplex_law.proofs.Arithmetic.{minus_left, moved_out, positive_cancel}
-use Rattle.simplex_law.proofs.Order.{lex_scaled}
-use Rattle.simplex_law.proofs.Unique.{dot_scaled, row_unique, inverse_unique, value_unique}
-use Rattle.checked_fraction.proofs.Products.{regroup, positive_product}
+use Rattle.checked_fraction.{specs.Terms.combined, proofs.Products.{regroup, positive_product}}
+use Rattle.simplex_law.{specs.Sums.dot, specs.Programs.ColumnOf, specs.inner.Lexicographic.valued, specs.inner.Pivots.{IsNoLater, IsPick}, specs.inner.Tableaux.IsTableau, proofs.Arithmetic.{minus_left, moved_out, positive_cancel}, proofs.Order.lex_scaled, proofs.Unique.{dot_scaled, row_unique, inverse_unique, value_unique}}
 
 -- at one place of two rows
 pub gone : (u v p q : ℤ) → u *ℤ q ≡ v *ℤ p → (v *ℤ p) -ℤ (q *ℤ u) ≡ pos 0

@@ -1,13 +1,9 @@
 -- the number of a vector of fractions rises with the vector
-use Rattle.std.proofs.Common.{◌≡◌, ℕ, zero, suc, ◌<◌, ◌≤◌, ◌+◌, ◌*◌, ◌-◌, ◌^◌, ◌/◌, refl, sym, ap, arith, ⊎_elim, subst, unsigned_abs, ℤ, pos, ◌+ℤ◌, ◌*ℤ◌, ◌<ℤ◌}
-use Rattle.std.proofs.Math.Nat.{mul-le-mul_right, div-mul-le_self, le-div_iff_mul-le, div-lt_iff_lt-mul, pow-zero, pow-succ'}
+use Rattle.std.{proofs.Common.{◌≡◌, ℕ, zero, suc, ◌<◌, ◌≤◌, ◌+◌, ◌*◌, ◌-◌, ◌^◌, ◌/◌, refl, sym, ap, arith, ⊎_elim, subst, unsigned_abs, ℤ, pos, ◌+ℤ◌, ◌*ℤ◌, ◌<ℤ◌}, proofs.Math.Nat.{mul-le-mul_right, div-mul-le_self, le-div_iff_mul-le, div-lt_iff_lt-mul, pow-zero, pow-succ'}}
 use Rattle.net_core.proofs.Library.{le_of_mul-le-mul_left, ints, unsigned_abs-mul, mul-le}
-use borrow.Author.Differences.{up, down}
-use Rattle.simplex_law.specs.inner.Lexicographic.{valued}
-use Rattle.simplex_law.specs.inner.Measures.{AreNarrowDuals, digit, lex_number, left_below, left_over}
-use Rattle.simplex_law.specs.Sums.{dot}
 use Rattle.checked_fraction.specs.Terms.{IsNarrow}
-use Rattle.simplex_law.proofs.Order.{IsLexBelow, Rises}
+use Rattle.simplex_law.{specs.inner.Lexicographic.valued, specs.inner.Measures.{AreNarrowDuals, digit, lex_number, left_below, left_over}, specs.Sums.dot, proofs.Order.{IsLexBelow, Rises}}
+use borrow.Author.Differences.{up, down}
 
 -- duals and their value are small enough to be numbered
 pub record AreNumberedDuals (m : ℕ) (bound duals : ℕ → ℤ) (den : ℤ) : Type 0 where

@@ -2,17 +2,7 @@
 use Rattle.std.proofs.Common.{◌≡◌, ℕ, ◌<◌, refl, sym, ap, ◌∙◌, arith, inr, ⊎_elim, subst, ℤ, pos, ◌*ℤ◌, ◌<ℤ◌, ◌≤ℤ◌}
 use Rattle.net_core.proofs.Library.{*ℤ-zero, ints, by_lt_z}
 use Rattle.checked_fraction.specs.Terms.{IsInLowestTerms}
-use Rattle.simplex_law.specs.Sums.{int_sum, dot, unit_vector}
-use Rattle.simplex_law.specs.Programs.{ColumnOf, IsSlack, slack_basis, IsProgramColumn}
-use Rattle.simplex_law.specs.Bases.{Gains}
-use Rattle.simplex_law.specs.Optima.{IsOptimum, IsGreatestGain}
-use Rattle.simplex_law.specs.inner.Tableaux.{IsTableau}
-use Rattle.simplex_law.proofs.Arithmetic.{moved_out, le_times, le_cancel, weaken}
-use Rattle.simplex_law.proofs.Sums.{dot-unit}
-use Rattle.simplex_law.proofs.Duality.{packing_duality, equal_value}
-use Rattle.simplex_law.proofs.Filling.{filled_over}
-use Rattle.simplex_law.proofs.Values.{values_nonneg}
-use Rattle.simplex_law.proofs.Reached.{feasible, slack_is}
+use Rattle.simplex_law.{specs.Sums.{int_sum, dot, unit_vector}, specs.Programs.{ColumnOf, IsSlack, slack_basis, IsProgramColumn}, specs.Bases.Gains, specs.Optima.{IsOptimum, IsGreatestGain}, specs.inner.Tableaux.IsTableau, proofs.Arithmetic.{moved_out, le_times, le_cancel, weaken}, proofs.Sums.dot-unit, proofs.Duality.{packing_duality, equal_value}, proofs.Filling.filled_over, proofs.Values.values_nonneg, proofs.Reached.{feasible, slack_is}}
 
 -- no listed column and no slack gains at duals of 0 or more
 pub none_gains : {N : Type 0} (m : ℕ) (bound : ℕ → ℤ) (slack : ℕ → N) (is_listed : ColumnOf N → Type 0) (duals : ℕ → ℤ) (duals_den : ℤ)

@@ -1,10 +1,8 @@
 -- the lexicographic order of rows
 use Rattle.std.proofs.Common.{◌≡◌, ◌⊎◌, ℕ, zero, suc, ◌<◌, ◌≤◌, ◌+◌, sym, ap, ◌∙◌, arith, inl, inr, ⊎_elim, subst, ℤ, pos, ◌+ℤ◌, ◌-ℤ◌, ◌*ℤ◌, ◌<ℤ◌, ◌≤ℤ◌}
 use Rattle.net_core.proofs.Library.{*ℤ_comm, *ℤ-zero, ints, by_lt_z}
-use Rattle.checked_fraction.specs.Terms.{combined}
-use Rattle.simplex_law.specs.inner.Lexicographic.{IsLexNonneg, valued}
-use Rattle.simplex_law.proofs.Arithmetic.{distribute_minus, minus_left, swap_last, moved_out, times_negative, times_nonneg, times_less, positive_cancel, zero_cancel, lt_cancel, weaken}
-use Rattle.checked_fraction.proofs.Products.{regroup, positive_product, cancelled}
+use Rattle.checked_fraction.{specs.Terms.combined, proofs.Products.{regroup, positive_product, cancelled}}
+use Rattle.simplex_law.{specs.inner.Lexicographic.{IsLexNonneg, valued}, proofs.Arithmetic.{distribute_minus, minus_left, swap_last, moved_out, times_negative, times_nonneg, times_less, positive_cancel, zero_cancel, lt_cancel, weaken}}
 
 -- the first of n numbers that isn't 0 is positive
 abbrev pub IsLexPositive : ℕ → (ℕ → ℤ) → Type 0

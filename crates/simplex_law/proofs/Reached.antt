@@ -1,15 +1,7 @@
 -- a state's basis is feasible, a turn is a step, and the start is the slack basis
 use Rattle.std.proofs.Common.{◌≡◌, ℕ, suc, ◌<◌, refl, sym, ap, ◌∙◌, arith, inl, inr, ⊎_elim, cond, eqb, Bool, true, false, subst, ℤ, pos, ◌-ℤ◌, ◌*ℤ◌, ◌<ℤ◌, ◌≤ℤ◌}
 use Rattle.net_core.proofs.Library.{*ℤ-zero, ints, by_lt_z}
-use Rattle.simplex_law.specs.Sums.{dot, put, unit_vector}
-use Rattle.simplex_law.specs.Programs.{ColumnOf, IsSlack, slack_basis, IsProgramColumn}
-use Rattle.simplex_law.specs.Bases.{IsFeasible, GainingStep, IsReached}
-use Rattle.simplex_law.specs.inner.Lexicographic.{IsLexNonneg, valued}
-use Rattle.simplex_law.specs.inner.Tableaux.{IsTableau}
-use Rattle.simplex_law.specs.inner.Pivots.{IsPick}
-use Rattle.simplex_law.proofs.Sums.{sum-one, unit-same, unit-other, dot-unit, dot-of-unit}
-use Rattle.simplex_law.proofs.Order.{lex_at}
-use Rattle.simplex_law.proofs.Turned.{turned_raw}
+use Rattle.simplex_law.{specs.Sums.{dot, put, unit_vector}, specs.Programs.{ColumnOf, IsSlack, slack_basis, IsProgramColumn}, specs.Bases.{IsFeasible, GainingStep, IsReached}, specs.inner.Lexicographic.{IsLexNonneg, valued}, specs.inner.Tableaux.IsTableau, specs.inner.Pivots.IsPick, proofs.Sums.{sum-one, unit-same, unit-other, dot-unit, dot-of-unit}, proofs.Order.lex_at, proofs.Turned.turned_raw}
 
 first_value : (m : ℕ) (b u : ℕ → ℤ) → IsLexNonneg (suc m) (valued m b u) → pos 0 ≤ℤ dot m u b
 first_value m b u h = ⊎_elim (λ l. omega (arith, ints, l)) (λ z. omega (arith, ints, z.0)) h

@@ -1,13 +1,8 @@
 -- rows combined with the row of a pivot, and rows in lowest terms
 use Rattle.std.proofs.Common.{◌≡◌, ℕ, zero, suc, ◌<◌, sym, ap, ◌∙◌, arith, cond, ⊎_elim, subst, eq-eqb, ne_eqb, ℤ, pos, ◌+ℤ◌, ◌-ℤ◌, ◌*ℤ◌, ◌<ℤ◌}
 use Rattle.net_core.proofs.Library.{cases_eq, *ℤ-zero, ints}
-use Rattle.checked_fraction.specs.Terms.{IsReduced, combined}
-use Rattle.checked_fraction.proofs.Once.{times_reduced}
-use Rattle.simplex_law.specs.Sums.{dot, unit_vector, put}
-use Rattle.simplex_law.specs.Bases.{IsRow}
-use Rattle.simplex_law.proofs.Arithmetic.{distribute, distribute_left, distribute_minus, swap_last, combined_times}
-use Rattle.simplex_law.proofs.Sums.{sum-same, dot-times}
-use Rattle.checked_fraction.proofs.Products.{regroup, cancelled}
+use Rattle.checked_fraction.{specs.Terms.{IsReduced, combined}, proofs.Once.times_reduced, proofs.Products.{regroup, cancelled}}
+use Rattle.simplex_law.{specs.Sums.{dot, unit_vector, put}, specs.Bases.IsRow, proofs.Arithmetic.{distribute, distribute_left, distribute_minus, swap_last, combined_times}, proofs.Sums.{sum-same, dot-times}}
 
 pub dot-combined : (m : ℕ) (u w v : ℕ → ℤ) (p q : ℤ) → dot m (combined u p w q) v ≡ (dot m u v *ℤ q) -ℤ (p *ℤ dot m w v)
 dot-combined zero u w v p q = omega (arith, ints)

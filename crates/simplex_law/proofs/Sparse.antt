@@ -1,10 +1,7 @@
 -- the product with a column's entries alone is the product with the column
 use Rattle.std.proofs.Common.{◌≡◌, ℕ, ◌<◌, List, [], ◌∷◌, sym, ap, ◌∙◌, arith, cond, eqb, ℤ, pos, ◌+ℤ◌, ◌*ℤ◌, eq-eqb, ne_eqb}
 use Rattle.net_core.proofs.Library.{*ℤ-zero, ints, AllByRecursion}
-use Rattle.simplex_law.specs.Sums.{dot}
-use Rattle.simplex_law.specs.Programs.{entry_at}
-use Rattle.simplex_law.proofs.Arithmetic.{distribute_left}
-use Rattle.simplex_law.proofs.Sums.{sum-plus, sum-same, sum-one, dot-none-column}
+use Rattle.simplex_law.{specs.Sums.dot, specs.Programs.entry_at, proofs.Arithmetic.distribute_left, proofs.Sums.{sum-plus, sum-same, sum-one, dot-none-column}}
 
 -- the product of a row with entries
 abbrev pub entry_dot : {E : Type 0} → (E → ℕ) → (E → ℤ) → (ℕ → ℤ) → List E → ℤ

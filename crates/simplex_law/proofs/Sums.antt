@@ -1,9 +1,8 @@
 -- sums of whole numbers
 use Rattle.std.proofs.Common.{◌≡◌, ◌≢◌, ℕ, zero, suc, ◌+◌, ◌<◌, ◌≤◌, refl, sym, ap, ◌∙◌, arith, cond, ⊎_elim, eq-eqb, ne_eqb, ℤ, pos, ◌+ℤ◌, ◌-ℤ◌, ◌*ℤ◌, ◌≤ℤ◌}
 use Rattle.net_core.proofs.Library.{cases_eq, cases_lt, *ℤ_comm, zero-*ℤ, *ℤ-zero, ints}
-use Rattle.simplex_law.specs.Sums.{int_sum, dot, unit_vector, put}
-use Rattle.simplex_law.proofs.Arithmetic.{distribute_left}
 use Rattle.checked_fraction.proofs.Products.{regroup}
+use Rattle.simplex_law.{specs.Sums.{int_sum, dot, unit_vector, put}, proofs.Arithmetic.distribute_left}
 
 pub sum-plus : (n : ℕ) (f g : ℕ → ℤ) → int_sum n (λ k. f k +ℤ g k) ≡ int_sum n f +ℤ int_sum n g
 sum-plus zero f g = refl

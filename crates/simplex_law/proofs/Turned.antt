@@ -1,19 +1,8 @@
 -- one turn of the simplex method
 use Rattle.std.proofs.Common.{◌≡◌, ◌≢◌, ℕ, suc, ◌<◌, refl, sym, ap, ◌∙◌, arith, ◌⊎◌, ⊎_elim, cond, eqb, Bool, true, false, subst, eq-eqb, ne_eqb, ℤ, pos, ◌-ℤ◌, ◌*ℤ◌, ◌<ℤ◌}
 use Rattle.net_core.proofs.Library.{cases_eq, ints, by_lt_z}
-use Rattle.checked_fraction.specs.Terms.{combined}
-use Rattle.simplex_law.specs.Sums.{dot, unit_vector, put}
-use Rattle.simplex_law.specs.Programs.{ColumnOf}
-use Rattle.simplex_law.specs.Bases.{IsRow}
-use Rattle.simplex_law.specs.inner.Lexicographic.{IsLexNonneg, valued}
-use Rattle.simplex_law.proofs.Order.{IsLexBelow, Rises, lex_negative, lex_zero, lex_positive, lex_rises, below_scaled}
-use Rattle.simplex_law.specs.inner.Tableaux.{IsTableau}
-use Rattle.simplex_law.specs.inner.Pivots.{IsPick, IsTurned}
-use Rattle.simplex_law.proofs.Sums.{unit-same, unit-other, dot-none}
-use Rattle.simplex_law.proofs.Rows.{multiple, dot-combined, next_row, pivot_row, reduced_row}
-use Rattle.simplex_law.proofs.Unique.{valued_scaled, row_unique, same_tableau}
-use Rattle.simplex_law.proofs.Filling.{next_nums, next_den, next_filling, same_filling}
-use Rattle.checked_fraction.proofs.Products.{positive_product}
+use Rattle.checked_fraction.{specs.Terms.combined, proofs.Products.positive_product}
+use Rattle.simplex_law.{specs.Sums.{dot, unit_vector, put}, specs.Programs.ColumnOf, specs.Bases.IsRow, specs.inner.Lexicographic.{IsLexNonneg, valued}, proofs.Order.{IsLexBelow, Rises, lex_negative, lex_zero, lex_positive, lex_rises, below_scaled}, specs.inner.Tableaux.IsTableau, specs.inner.Pivots.{IsPick, IsTurned}, proofs.Sums.{unit-same, unit-other, dot-none}, proofs.Rows.{multiple, dot-combined, next_row, pivot_row, reduced_row}, proofs.Unique.{valued_scaled, row_unique, same_tableau}, proofs.Filling.{next_nums, next_den, next_filling, same_filling}}
 
 -- the columns of the next basis
 entry_put : {N : Type 0} (basis : ℕ → ColumnOf N) (c : ColumnOf N) (r j : ℕ) → (put basis r c j).entry ≡ put (λ i. (basis i).entry) r c.entry j

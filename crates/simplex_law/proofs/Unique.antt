@@ -1,16 +1,8 @@
 -- the rows of a basis are unique but for a factor, so any of them make a tableau
 use Rattle.std.proofs.Common.{◌≡◌, ℕ, zero, suc, ◌<◌, sym, ap, ◌∙◌, arith, ⊎_elim, cond, subst, eq-eqb, ne_eqb, ℤ, pos, ◌*ℤ◌, ◌<ℤ◌}
 use Rattle.net_core.proofs.Library.{cases_eq, *ℤ_comm, *ℤ-zero, ints}
-use Rattle.simplex_law.specs.Sums.{int_sum, dot, unit_vector, put}
-use Rattle.simplex_law.specs.Programs.{ColumnOf}
-use Rattle.simplex_law.specs.Bases.{IsRow}
-use Rattle.simplex_law.specs.inner.Lexicographic.{valued}
-use Rattle.simplex_law.specs.inner.Tableaux.{IsFilling, IsTableau}
-use Rattle.simplex_law.proofs.Arithmetic.{swap_last, moved_out}
-use Rattle.simplex_law.proofs.Sums.{sum-same, sum-times, sum-one, unit-same, unit-other, dot-times}
-use Rattle.simplex_law.proofs.Duality.{priced}
-use Rattle.simplex_law.proofs.Order.{lex_scaled}
 use Rattle.checked_fraction.proofs.Products.{regroup, positive_product, cancelled}
+use Rattle.simplex_law.{specs.Sums.{int_sum, dot, unit_vector, put}, specs.Programs.ColumnOf, specs.Bases.IsRow, specs.inner.Lexicographic.valued, specs.inner.Tableaux.{IsFilling, IsTableau}, proofs.Arithmetic.{swap_last, moved_out}, proofs.Sums.{sum-same, sum-times, sum-one, unit-same, unit-other, dot-times}, proofs.Duality.priced, proofs.Order.lex_scaled}
 
 -- products with numbers that are equal but for factors
 pub dot_scaled : (m : ℕ) (u v a : ℕ → ℤ) (d e : ℤ) → ((l : ℕ) → l < m → e *ℤ u l ≡ d *ℤ v l) → e *ℤ dot m u a ≡ d *ℤ dot m v a

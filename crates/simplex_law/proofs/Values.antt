@@ -1,18 +1,8 @@
 -- a value is at most a bound
 use Rattle.std.proofs.Common.{◌≡◌, ℕ, zero, suc, ◌<◌, ◌≤◌, ◌-◌, ◌*◌, ◌^◌, ◌⊎◌, inl, inr, sym, ap, ◌∙◌, arith, ⊎_elim, subst, unsigned_abs, ℤ, pos, ◌*ℤ◌, ◌<ℤ◌, ◌≤ℤ◌}
 use Rattle.net_core.proofs.Library.{cases_lt, mul-le, *ℤ_comm, *ℤ-zero, ints, by_lt_z, unsigned_abs-mul}
-use Rattle.checked_fraction.specs.Terms.{IsNarrow}
-use Rattle.simplex_law.specs.Sums.{int_sum, dot, unit_vector}
-use Rattle.simplex_law.specs.Programs.{ColumnOf, IsPacking}
-use Rattle.simplex_law.specs.Bases.{IsRow}
-use Rattle.simplex_law.specs.inner.Tableaux.{IsTableau, HasTableau}
-use Rattle.simplex_law.proofs.Arithmetic.{moved_out, le_times, times_nonneg, le_cancel, weaken}
-use Rattle.simplex_law.proofs.Sums.{dot-none-column, unit-same}
-use Rattle.simplex_law.proofs.Filling.{fills}
-use Rattle.simplex_law.proofs.Limited.{weight_positive}
-use Rattle.simplex_law.proofs.Reached.{value_nonneg}
-use Rattle.simplex_law.proofs.Unique.{value_unique}
-use Rattle.checked_fraction.proofs.Products.{regroup}
+use Rattle.checked_fraction.{specs.Terms.IsNarrow, proofs.Products.regroup}
+use Rattle.simplex_law.{specs.Sums.{int_sum, dot, unit_vector}, specs.Programs.{ColumnOf, IsPacking}, specs.Bases.IsRow, specs.inner.Tableaux.{IsTableau, HasTableau}, proofs.Arithmetic.{moved_out, le_times, times_nonneg, le_cancel, weaken}, proofs.Sums.{dot-none-column, unit-same}, proofs.Filling.fills, proofs.Limited.weight_positive, proofs.Reached.value_nonneg, proofs.Unique.value_unique}
 
 -- one of n numbers that aren't negative is positive, or all are 0
 pub some_positive : (n : ℕ) (v : ℕ → ℤ) → ((k : ℕ) → k < n → pos 0 ≤ℤ v k) → ((k : ℕ) × (k < n) × (pos 0 <ℤ v k)) ⊎ ((k : ℕ) → k < n → v k ≡ pos 0)

@@ -1,21 +1,8 @@
 -- where a number is too wide, its kind holds of the basis
-use Rattle.std.proofs.Common.{◌≡◌, ◌≢◌, ℕ, ◌<◌, ◌≤◌, ◌-◌, ◌*◌, ◌^◌, refl, sym, ap, ◌∙◌, arith, inl, inr, ⊎_elim, cond, subst, unsigned_abs, eq-eqb, ne_eqb, ℤ, pos, ◌-ℤ◌, ◌*ℤ◌, ◌<ℤ◌}
-use Rattle.net_core.proofs.Library.{cases_lt, ◌∣◌, ints, unsigned_abs-mul, mul-le}
-use Rattle.std.proofs.lemmas.Nat.Gcd.{le_of_dvd}
-use Rattle.checked_fraction.specs.Terms.{IsInLowestTerms, IsNarrow, combined, IsTooWide, IsFirstWide}
-use Rattle.checked_fraction.specs.declared.wide.WideNumber.{WideNumber}
-use Rattle.net_core.specs.Terms.{sum_below}
-use Rattle.simplex_law.specs.Sums.{dot, unit_vector, put}
-use Rattle.simplex_law.specs.Programs.{ColumnOf}
-use Rattle.simplex_law.specs.Bases.{IsRow}
-use Rattle.simplex_law.specs.Evidence.{IsWide, IsRowOf, HoldsRow, HoldsProduct, HoldsSum, HoldsCommon}
-use Rattle.simplex_law.specs.inner.Tableaux.{IsTableau}
-use Rattle.simplex_law.specs.inner.Pivots.{IsPick}
-use Rattle.simplex_law.proofs.LowestTerms.{some_lowest}
-use Rattle.simplex_law.proofs.Sums.{sum-same, dot-times}
-use Rattle.simplex_law.proofs.Rows.{multiple, reduced_row}
-use Rattle.simplex_law.proofs.Turned.{other_row, objective_row}
-use Rattle.checked_fraction.proofs.Products.{positive_product}
+use Rattle.std.{proofs.Common.{◌≡◌, ◌≢◌, ℕ, ◌<◌, ◌≤◌, ◌-◌, ◌*◌, ◌^◌, refl, sym, ap, ◌∙◌, arith, inl, inr, ⊎_elim, cond, subst, unsigned_abs, eq-eqb, ne_eqb, ℤ, pos, ◌-ℤ◌, ◌*ℤ◌, ◌<ℤ◌}, proofs.lemmas.Nat.Gcd.le_of_dvd}
+use Rattle.net_core.{proofs.Library.{cases_lt, ◌∣◌, ints, unsigned_abs-mul, mul-le}, specs.Terms.sum_below}
+use Rattle.checked_fraction.{specs.Terms.{IsInLowestTerms, IsNarrow, combined, IsTooWide, IsFirstWide}, specs.declared.wide.WideNumber.WideNumber, proofs.Products.positive_product}
+use Rattle.simplex_law.{specs.Sums.{dot, unit_vector, put}, specs.Programs.ColumnOf, specs.Bases.IsRow, specs.Evidence.{IsWide, IsRowOf, HoldsRow, HoldsProduct, HoldsSum, HoldsCommon}, specs.inner.Tableaux.IsTableau, specs.inner.Pivots.IsPick, proofs.LowestTerms.some_lowest, proofs.Sums.{sum-same, dot-times}, proofs.Rows.{multiple, reduced_row}, proofs.Turned.{other_row, objective_row}}
 
 -- a multiple by a divisor of a narrow number that has 2 ^ 124 or more is one of a wide number
 pub large_part : (g : ℕ) (den whole x : ℤ) → pos 0 <ℤ den → whole ≡ pos g *ℤ den → IsNarrow whole → 2 ^ 124 ≤ unsigned_abs (pos g *ℤ x) → 2 ^ 62 ≤ unsigned_abs x

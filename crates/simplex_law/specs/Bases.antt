@@ -1,8 +1,6 @@
 -- bases of a packing program, and the steps from one to another
-use Rattle.std.specs.Prelude.{ℕ, ℤ, List, length, zero, suc, pos, Some, ◌≡◌, ◌<◌, ◌*ℤ◌, ◌<ℤ◌, ◌≤ℤ◌}
-use Rattle.std.specs.List.{slice_get}
-use Rattle.simplex_law.specs.Sums.{dot, unit_vector, put}
-use Rattle.simplex_law.specs.Programs.{ColumnOf}
+use Rattle.std.{specs.Prelude.{ℕ, ℤ, List, length, zero, suc, pos, Some, ◌≡◌, ◌<◌, ◌*ℤ◌, ◌<ℤ◌, ◌≤ℤ◌}, specs.List.slice_get}
+use Rattle.simplex_law.{specs.Sums.{dot, unit_vector, put}, specs.Programs.ColumnOf}
 
 -- the product of nums with each basic column j is den times target j
 abbrev pub IsRow : ℕ → (ℕ → ℕ → ℤ) → (ℕ → ℤ) → (ℕ → ℤ) → ℤ → Type 0

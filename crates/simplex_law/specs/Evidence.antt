@@ -1,13 +1,8 @@
 -- evidence that a number of a basis is too wide
-use Rattle.std.specs.Prelude.{ℕ, ℤ, List, pos, ◌≡◌, ◌<◌, ◌≤◌, ◌*◌, ◌^◌, ◌*ℤ◌, ◌-ℤ◌, ◌⊎◌, cond, eqb, unsigned_abs}
-use Rattle.std.specs.Int.{◌∣◌}
+use Rattle.std.{specs.Prelude.{ℕ, ℤ, List, pos, ◌≡◌, ◌<◌, ◌≤◌, ◌*◌, ◌^◌, ◌*ℤ◌, ◌-ℤ◌, ◌⊎◌, cond, eqb, unsigned_abs}, specs.Int.◌∣◌}
 use Rattle.checked_fraction.specs.Terms.{IsInLowestTerms}
-use Rattle.net_core.specs.declared.columns.WideKind.{WideKind}
-use Rattle.net_core.specs.declared.columns.WideKind.TheVariants.{Number, Row, Product, Sum, Common}
-use Rattle.net_core.specs.Terms.{sum_below}
-use Rattle.simplex_law.specs.Sums.{dot, unit_vector}
-use Rattle.simplex_law.specs.Programs.{ColumnOf, slack_basis}
-use Rattle.simplex_law.specs.Bases.{IsBasisRow, AreNames, IsFeasible, IsReached}
+use Rattle.net_core.{specs.declared.columns.WideKind.WideKind, specs.declared.columns.WideKind.TheVariants.{Number, Row, Product, Sum, Common}, specs.Terms.sum_below}
+use Rattle.simplex_law.{specs.Sums.{dot, unit_vector}, specs.Programs.{ColumnOf, slack_basis}, specs.Bases.{IsBasisRow, AreNames, IsFeasible, IsReached}}
 
 -- 2 ^ 62 or more in absolute value
 abbrev pub IsWide : ℤ → Type 0

@@ -1,9 +1,7 @@
 -- optima of a packing program
 use Rattle.std.specs.Prelude.{ℕ, ℤ, pos, ◌≡◌, ◌<◌, ◌*ℤ◌, ◌<ℤ◌, ◌≤ℤ◌}
 use Rattle.checked_fraction.specs.Terms.{IsInLowestTerms}
-use Rattle.simplex_law.specs.Sums.{int_sum, dot}
-use Rattle.simplex_law.specs.Programs.{ColumnOf}
-use Rattle.simplex_law.specs.Bases.{IsBest}
+use Rattle.simplex_law.{specs.Sums.{int_sum, dot}, specs.Programs.ColumnOf, specs.Bases.IsBest}
 
 -- amounts of columns over scale that fit into the bounds
 pub record FitBounds (columns rows : ℕ) (entry : ℕ → ℕ → ℤ) (bound amounts : ℕ → ℤ) (scale : ℤ) : Type 0 where

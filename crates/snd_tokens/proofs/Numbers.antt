@@ -1,8 +1,7 @@
 -- numbers, digit by digit
 use Rattle.std.proofs.Common.{◌≡◌, ℕ, true, zero, suc, ◌+◌, ◌-◌, ◌*◌, ◌^◌, ◌<◌, ◌≤◌, min, List, [], ◌∷◌, ◌++◌, length, get_or, take, drop, replicate, ap, ◌∙◌, subst, refl, sym, arith, drop-cons, add-one, length-append, length-take, pow-add, pow-suc, mul-le-mul_left}
 use Rattle.net_core.proofs.Library.{list_all, and_from, and_parts, length-replicate, pow-le-pow_right}
-use Rattle.snd_tokens.specs.Digits.{is_digit, number_of, number_after}
-use Rattle.snd_tokens.specs.Amounts.{first_places}
+use Rattle.snd_tokens.{specs.Digits.{is_digit, number_of, number_after}, specs.Amounts.first_places}
 
 -- the first of the digits goes after the number
 cons : (n b : ℕ) (bytes : List ℕ) → number_after n (b ∷ bytes) ≡ number_after (n * 10 + (b - 48)) bytes

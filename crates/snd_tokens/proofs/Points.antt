@@ -1,8 +1,7 @@
 -- a word's parts before and after its point
 use Rattle.std.proofs.Common.{◌≡◌, ℕ, ◌+◌, ◌-◌, ◌<◌, Bool, true, false, cond, not, ◌||◌, List, [], ◌∷◌, length, take, drop, IsTrue, sym, refl, ap, ◌∙◌, subst, arith}
 use Rattle.net_core.proofs.Library.{list_all, list_any, position_or_len, false≢true, and_parts, and_from, take_rest, drop_all}
-use Rattle.snd_tokens.specs.Digits.{is_digit, are_digits}
-use Rattle.snd_tokens.specs.Amounts.{AreParts, is_point, is_decimal, whole_part, places_of}
+use Rattle.snd_tokens.{specs.Digits.{is_digit, are_digits}, specs.Amounts.{AreParts, is_point, is_decimal, whole_part, places_of}}
 
 -- where no element passes, the first that passes is past the end
 list_any-none : (p : ℕ → Bool) (xs : List ℕ) → position_or_len p xs ≡ length xs → list_any p xs ≡ false

@@ -1,11 +1,7 @@
 -- what the tokens of a text are, byte by byte
-use Rattle.std.proofs.Common.{◌≡◌, ℕ, zero, suc, ◌+◌, ◌-◌, ◌<◌, ◌≤◌, ◌==◌, Bool, true, false, cond, not, List, [], ◌∷◌, ◌++◌, length, get_or, take, drop, sym, refl, ap, ◌∙◌, subst, arith, drop-cons, add-one, add-zero, drop-drop}
-use Rattle.std.proofs.Math.Seq.{drop-length}
-use Rattle.net_core.proofs.Library.{false≢true, or_parts, and_from, prefix_len-le-length, list_all, prefix_len}
-use Rattle.std.proofs.lemmas.Bool.{eqb-true, ne_eqb, not-true}
-use Rattle.net_core.specs.Terms.{is_space, is_word_byte, is_plain}
-use Rattle.snd_tokens.specs.Tokens.{Token, TokenKind, starts_token, line_length, run_length, extent, token_of, begun, tokens_past, tokens_from, token_bytes, IsTokenOf}
-use Rattle.snd_tokens.specs.declared.token.TokenKind.TheVariants.{Word, Open, Close}
+use Rattle.std.{proofs.Common.{◌≡◌, ℕ, zero, suc, ◌+◌, ◌-◌, ◌<◌, ◌≤◌, ◌==◌, Bool, true, false, cond, not, List, [], ◌∷◌, ◌++◌, length, get_or, take, drop, sym, refl, ap, ◌∙◌, subst, arith, drop-cons, add-one, add-zero, drop-drop}, proofs.Math.Seq.drop-length, proofs.lemmas.Bool.{eqb-true, ne_eqb, not-true}}
+use Rattle.net_core.{proofs.Library.{false≢true, or_parts, and_from, prefix_len-le-length, list_all, prefix_len}, specs.Terms.{is_space, is_word_byte, is_plain}}
+use Rattle.snd_tokens.{specs.Tokens.{Token, TokenKind, starts_token, line_length, run_length, extent, token_of, begun, tokens_past, tokens_from, token_bytes, IsTokenOf}, specs.declared.token.TokenKind.TheVariants.{Word, Open, Close}}
 
 -- what is skipped is as good as not there
 tokens_past-skip : (n at : ℕ) (bytes : List ℕ) → n ≤ length bytes → tokens_past n at bytes ≡ tokens_past 0 (at + n) (drop n bytes)

@@ -1,9 +1,7 @@
 -- A text has at most as many lexemes as the file has bytes.
 use Rattle.std.proofs.Common.{◌≡◌, ℕ, zero, suc, ◌+◌, ◌≤◌, ◌==◌, true, false, cond, not, List, [], ◌∷◌, length, drop, arith, length-append, length-drop, refl}
-use Rattle.snd_tokens.specs.declared.token.TokenKind.{TokenKind}
+use Rattle.snd_tokens.{specs.declared.token.TokenKind.TokenKind, specs.Tokens.{Token, starts_token, run_length, extent, token_of, begun, tokens_past, tokens_from, token_bytes}, specs.Lexemes.{Text, put_before, text_of, text_from, size}}
 use Rattle.snd_tokens.specs.declared.token.TokenKind.TheVariants as kinds
-use Rattle.snd_tokens.specs.Tokens.{Token, starts_token, run_length, extent, token_of, begun, tokens_past, tokens_from, token_bytes}
-use Rattle.snd_tokens.specs.Lexemes.{Text, put_before, text_of, text_from, size}
 
 -- a byte begins one token or none
 begun_few : (at b : ℕ) (bytes : List ℕ) → length (begun at b bytes) ≤ 1

@@ -1,11 +1,7 @@
 -- decimal numbers with a fixed number of places after the point that count, as amounts are
-use Rattle.std.specs.Prelude.{◌≡◌, ℕ, IsTrue, ◌+◌, ◌*◌, ◌^◌, ◌==◌, nat_lt, Bool, cond, not, ◌||◌, ◌&&◌, List, ◌++◌, take, drop, replicate, Result, Ok, Err}
-use Rattle.std.specs.List.{list_all, list_any, before_first, after_first}
-use Rattle.net_core.specs.declared.places.Places.{Places}
-use Rattle.net_core.specs.Terms.{digits_after_point}
-use Rattle.snd_tokens.specs.declared.amounts.NumberFault.{NumberFault}
-use Rattle.snd_tokens.specs.declared.amounts.NumberFault.TheVariants.{NotANumber, TooFine, TooLarge}
-use Rattle.snd_tokens.specs.Digits.{is_digit, are_digits, number_of}
+use Rattle.std.{specs.Prelude.{◌≡◌, ℕ, IsTrue, ◌+◌, ◌*◌, ◌^◌, ◌==◌, nat_lt, Bool, cond, not, ◌||◌, ◌&&◌, List, ◌++◌, take, drop, replicate, Result, Ok, Err}, specs.List.{list_all, list_any, before_first, after_first}}
+use Rattle.net_core.{specs.declared.places.Places.Places, specs.Terms.digits_after_point}
+use Rattle.snd_tokens.{specs.declared.amounts.NumberFault.NumberFault, specs.declared.amounts.NumberFault.TheVariants.{NotANumber, TooFine, TooLarge}, specs.Digits.{is_digit, are_digits, number_of}}
 
 -- the byte `.`
 abbrev pub is_point : ℕ → Bool

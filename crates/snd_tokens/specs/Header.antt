@@ -1,6 +1,5 @@
 -- the header of a text: its first line, without blanks at its end
-use Rattle.std.specs.Prelude.{◌≡◌, ℕ, ◌+◌, ◌-◌, ◌==◌, min, Bool, ◌||◌, List, length, take}
-use Rattle.std.specs.List.{before_first, suffix_len}
+use Rattle.std.{specs.Prelude.{◌≡◌, ℕ, ◌+◌, ◌-◌, ◌==◌, min, Bool, ◌||◌, List, length, take}, specs.List.{before_first, suffix_len}}
 
 -- space, tab and carriage return
 abbrev pub is_blank : ℕ → Bool

@@ -1,12 +1,8 @@
 -- the words and parentheses of a text
 use Rattle.std.specs.Prelude.{◌≡◌, ℕ, ◌≤◌, List, [], ◌∷◌, length, IsTrue}
-use Rattle.snd_tokens.specs.declared.token.Token.{Token}
-use Rattle.snd_tokens.specs.declared.token.TokenKind.{TokenKind}
-use Rattle.snd_tokens.specs.declared.token.TokenKind.TheVariants as kinds
 use Rattle.net_core.specs.Terms.{is_plain}
-use Rattle.snd_tokens.specs.Tokens.{token_bytes, tokens_from}
-use Rattle.snd_tokens.specs.declared.cursor.Cursor.{Cursor}
-use Rattle.snd_tokens.specs.declared.lexeme.Next.{Next}
+use Rattle.snd_tokens.{specs.declared.token.Token.Token, specs.declared.token.TokenKind.TokenKind, specs.Tokens.{token_bytes, tokens_from}, specs.declared.cursor.Cursor.Cursor, specs.declared.lexeme.Next.Next}
+use Rattle.snd_tokens.specs.declared.token.TokenKind.TheVariants as kinds
 use Rattle.snd_tokens.specs.declared.lexeme.Next.TheVariants as next
 
 -- a word with its bytes, or a parenthesis

@@ -1,10 +1,9 @@
 -- the tokens of a text: words, and parentheses, each a token of its own
-use Rattle.std.specs.Prelude.{◌≡◌, ℕ, zero, suc, ◌+◌, ◌≤◌, ◌==◌, Bool, cond, not, ◌||◌, IsTrue, List, [], ◌∷◌, ◌++◌, length, drop, slice_range}
-use Rattle.std.specs.List.{prefix_len, position_or_len}
+use Rattle.std.{specs.Prelude.{◌≡◌, ℕ, zero, suc, ◌+◌, ◌≤◌, ◌==◌, Bool, cond, not, ◌||◌, IsTrue, List, [], ◌∷◌, ◌++◌, length, drop, slice_range}, specs.List.{prefix_len, position_or_len}}
 use Rattle.net_core.specs.Terms.{is_space, is_word_byte, is_plain}
+use Rattle.snd_tokens.specs.declared.token.TokenKind.TheVariants.{Word, Open, Close}
 pub use Rattle.snd_tokens.specs.declared.token.Token.{Token}
 pub use Rattle.snd_tokens.specs.declared.token.TokenKind.{TokenKind}
-use Rattle.snd_tokens.specs.declared.token.TokenKind.TheVariants.{Word, Open, Close}
 
 -- neither white space nor the sign of a comment
 abbrev pub starts_token : ℕ → Bool

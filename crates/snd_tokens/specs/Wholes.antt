@@ -1,8 +1,6 @@
 -- whole numbers, each of which has one form
 use Rattle.std.specs.Prelude.{ℕ, ◌^◌, ◌==◌, nat_lt, Bool, false, cond, not, ◌||◌, ◌&&◌, List, [], ◌∷◌, Result, Ok, Err, bytes_eq}
-use Rattle.snd_tokens.specs.declared.whole_number.WholeFault.{WholeFault}
-use Rattle.snd_tokens.specs.declared.whole_number.WholeFault.TheVariants.{NotANumber, TooLarge}
-use Rattle.snd_tokens.specs.Digits.{are_digits, number_of}
+use Rattle.snd_tokens.{specs.declared.whole_number.WholeFault.WholeFault, specs.declared.whole_number.WholeFault.TheVariants.{NotANumber, TooLarge}, specs.Digits.{are_digits, number_of}}
 
 -- the first byte is `0`
 abbrev pub begins_with_zero : List ℕ → Bool

@@ -1,8 +1,6 @@
-ghost use Rattle.std.specs.Prelude.{◌≡◌, ◌+◌, ◌*◌, ◌^◌, ◌<◌, ◌≤◌, ◌==◌, drop, IsTrue, IfOk, MatchOption, MatchResult};
-ghost use Rattle.std.specs.List.{list_all};
+ghost use Rattle.std.{specs.Prelude.{◌≡◌, ◌+◌, ◌*◌, ◌^◌, ◌<◌, ◌≤◌, ◌==◌, drop, IsTrue, IfOk, MatchOption, MatchResult}, specs.List.list_all};
 ghost use Rattle.net_core.specs.Terms.{digits_after_point};
-ghost use Rattle.snd_tokens.specs.Amounts.{AreParts, amount_of, decimal_below, first_places, is_decimal, is_point, money_of, units_of};
-ghost use Rattle.snd_tokens.specs.Digits.{is_digit, number_of};
+ghost use Rattle.snd_tokens.{specs.Amounts.{AreParts, amount_of, decimal_below, first_places, is_decimal, is_point, money_of, units_of}, specs.Digits.{is_digit, number_of}};
 
 use crate::digits::{are_digits, number_below};
 use crate::find::find_byte;

@@ -1,21 +1,9 @@
 -- Whole files with the places with which they are read: what is read is spelled, nothing else is, and no fault is too early.
 use Rattle.std.proofs.Common.{◌≡◌, ℕ, Bool, true, false, cond, List, take, Ok, Err, IfOk, IfErr, refl, sym, ap, subst, ◌∙◌}
-use Rattle.net_core.proofs.Library.{false≢true}
-use Rattle.net_core.specs.declared.demand.Demand.{Demand}
-use Rattle.net_core.specs.declared.network.Network.{Network}
-use Rattle.net_core.specs.declared.places.Places.{Places}
-use Rattle.net_core.specs.declared.places.Places.TheVariants.{Three, Six}
+use Rattle.net_core.{proofs.Library.false≢true, specs.declared.demand.Demand.Demand, specs.declared.network.Network.Network, specs.declared.places.Places.Places, specs.declared.places.Places.TheVariants.{Three, Six}}
 use Rattle.snd_tokens.specs.declared.amounts.NumberFault.TheVariants.{NotANumber, TooFine, TooLarge}
-use Rattle.text_kit.specs.Terms.{ReadsAllAs, SpellsBy, body, EndsBefore, Read}
-use Rattle.text_kit.specs.declared.refusal.Refusal.TheVariants.{Bad, NoMemory}
-use Rattle.text_kit.proofs.Lemmas.{fault_kept, found_spelled, only_spelled, spelled_faultless, err_parts}
-use Rattle.sndlib_reader.specs.declared.fault.ReadKind.{ReadKind}
-use Rattle.sndlib_reader.specs.declared.fault.ReadKind.TheVariants.{Header, Section, Token, Ended, Limit, Number, UnknownName, DoubleName, SelfLink, SelfDemand, ZeroModule, FixedLink}
-use Rattle.sndlib_reader.specs.NetworkFiles.{IsNoEarlyFault, IsReadWith, Spells, in_its_places, is_too_fine, network_in, network_of}
-use Rattle.sndlib_reader.specs.Reading.{native_sections_at}
-use Rattle.sndlib_reader.specs.Spelling.{Parts, SpellsParts, header, parts_of}
-use Rattle.sndlib_reader.proofs.Online.{sections_online}
-use Rattle.sndlib_reader.proofs.Whole.{Answer, seen, sections_spelled}
+use Rattle.text_kit.{specs.Terms.{ReadsAllAs, SpellsBy, body, EndsBefore, Read}, specs.declared.refusal.Refusal.TheVariants.{Bad, NoMemory}, proofs.Lemmas.{fault_kept, found_spelled, only_spelled, spelled_faultless, err_parts}}
+use Rattle.sndlib_reader.{specs.declared.fault.ReadKind.ReadKind, specs.declared.fault.ReadKind.TheVariants.{Header, Section, Token, Ended, Limit, Number, UnknownName, DoubleName, SelfLink, SelfDemand, ZeroModule, FixedLink}, specs.NetworkFiles.{IsNoEarlyFault, IsReadWith, Spells, in_its_places, is_too_fine, network_in, network_of}, specs.Reading.native_sections_at, specs.Spelling.{Parts, SpellsParts, header, parts_of}, proofs.Online.sections_online, proofs.Whole.{Answer, seen, sections_spelled}}
 
 abbrev Given : Type 0
 Given = Read ReadKind (Parts × List Demand)

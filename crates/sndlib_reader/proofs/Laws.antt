@@ -1,24 +1,10 @@
 -- What is read of a network file is spelled, and what is spelled is read.
 use Rattle.std.proofs.Common.{◌≡◌, ◌≢◌, ℕ, ◌+◌, ◌*◌, ◌^◌, ◌<◌, ◌≤◌, ◌==◌, nat_lt, Bool, true, false, cond, List, [], ◌∷◌, ◌++◌, length, get_or, All, AllPairs, Option, None, Some, Ok, refl, sym, ap, subst, ◌∙◌, arith, append-nil, append_assoc, flat_map, ltb-false}
-use Rattle.net_core.proofs.Library.{sum_by-cons, sum_by-append, sum_by_push}
-use Rattle.net_core.specs.Terms.{AreDemands, IsDemand, IsLink, IsModule, total_need}
-use Rattle.net_core.specs.declared.demand.Demand.{Demand}
-use Rattle.net_core.specs.declared.ids.NodeId.{NodeId}
-use Rattle.net_core.specs.declared.network.Module.{Module}
-use Rattle.net_core.specs.declared.places.Places.{Places}
-use Rattle.text_kit.specs.Terms.{ComeAfter, AreSpelled, Item, Verbatim, Money, Opening, Closing, word_at, Parenthesis, list_at, no_fault, number_or}
-use Rattle.text_kit.proofs.Lemmas.{all_after, after_all, after_as, after_both, lawful_amount, number_takes, IsNew, are_new, lawful_new_name, lawful_place, new_are, AnyText, Lawful, Starts, after_few, few_after, lawful_as, lawful_close, lawful_give, lawful_list, lawful_open, lawful_then, lawful_word, Spelled, after_parts, parts_after, spelled_as, spelled_give, spelled_law, spelled_list, spelled_then, spelled_word}
+use Rattle.net_core.{proofs.Library.{sum_by-cons, sum_by-append, sum_by_push}, specs.Terms.{AreDemands, IsDemand, IsLink, IsModule, total_need}, specs.declared.demand.Demand.Demand, specs.declared.ids.NodeId.NodeId, specs.declared.network.Module.Module, specs.declared.places.Places.Places}
+use Rattle.text_kit.{specs.Terms.{ComeAfter, AreSpelled, Item, Verbatim, Money, Opening, Closing, word_at, Parenthesis, list_at, no_fault, number_or}, proofs.Lemmas.{all_after, after_all, after_as, after_both, lawful_amount, number_takes, IsNew, are_new, lawful_new_name, lawful_place, new_are, AnyText, Lawful, Starts, after_few, few_after, lawful_as, lawful_close, lawful_give, lawful_list, lawful_open, lawful_then, lawful_word, Spelled, after_parts, parts_after, spelled_as, spelled_give, spelled_law, spelled_list, spelled_then, spelled_word}}
 use Rattle.snd_tokens.specs.Terms.{amount_of, units_of}
-use Rattle.sndlib_reader.specs.declared.costs.CostedLink.{CostedLink}
-use Rattle.sndlib_reader.specs.declared.demand.DemandRest.{DemandRest}
-use Rattle.sndlib_reader.specs.declared.link.LinkNumbers.{LinkNumbers}
-use Rattle.sndlib_reader.specs.declared.link.LinkRest.{LinkRest}
+use Rattle.sndlib_reader.{specs.declared.costs.CostedLink.CostedLink, specs.declared.demand.DemandRest.DemandRest, specs.declared.link.LinkNumbers.LinkNumbers, specs.declared.link.LinkRest.LinkRest, specs.declared.fault.ReadKind.ReadKind, specs.declared.fault.ReadKind.TheVariants.{Token, Ended, Limit, Number, DoubleName, UnknownName, SelfLink, SelfDemand, FixedLink}, specs.Spelling.{IsHops, IsShortLink, SpellsDemand, node_pair_items, link_items, module_items}, specs.Reading.{other_node, amount, unit, capacity, need, hops, ends_at, module_at, unserved, link_numbers_at, link_rest_at, named_link, native_link_at, costed_links_at, demand_rest_at, native_demand_at, native_demands_at}, proofs.WordTests.{IsCapacity, IsNodeIn, capacity_again, capacity_takes, hops_again, hops_takes, need_again, need_takes, other_again, other_takes}}
 use Rattle.sndlib_reader.specs.declared.fault.Limited.TheVariants as limits
-use Rattle.sndlib_reader.specs.declared.fault.ReadKind.{ReadKind}
-use Rattle.sndlib_reader.specs.declared.fault.ReadKind.TheVariants.{Token, Ended, Limit, Number, DoubleName, UnknownName, SelfLink, SelfDemand, FixedLink}
-use Rattle.sndlib_reader.specs.Spelling.{IsHops, IsShortLink, SpellsDemand, node_pair_items, link_items, module_items}
-use Rattle.sndlib_reader.specs.Reading.{other_node, amount, unit, capacity, need, hops, ends_at, module_at, unserved, link_numbers_at, link_rest_at, named_link, native_link_at, costed_links_at, demand_rest_at, native_demand_at, native_demands_at}
-use Rattle.sndlib_reader.proofs.WordTests.{IsCapacity, IsNodeIn, capacity_again, capacity_takes, hops_again, hops_takes, need_again, need_takes, other_again, other_takes}
 
 abbrev pub AreDifferent : List (List ℕ) → Type 0
 AreDifferent nodes = AllPairs (λ x y. x ≢ y) nodes

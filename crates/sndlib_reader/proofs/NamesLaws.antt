@@ -1,8 +1,7 @@
 -- Names, and what is looked up among them.
 use Rattle.std.proofs.Common.{◌≡◌, ℕ, ◌==◌, false, List, [], ◌∷◌, ◌++◌, map, refl, sym, subst, ◌∙◌, ⊎_elim, Bor, position, ne_eqb}
-use Rattle.net_core.proofs.Library.{list_any, position_or_len, pointwise, cases_eq, length-map, map_push}
+use Rattle.net_core.{proofs.Library.{list_any, position_or_len, pointwise, cases_eq, length-map, map_push}, specs.Terms.{are_same, is_named}}
 use Rattle.indexmap.specs.IndexSet.{insert_key}
-use Rattle.net_core.specs.Terms.{are_same, is_named}
 
 -- the names of some things, and a name among them
 pub named_map : {X : Type 0} (name_of : X → List ℕ) (w : List ℕ) (xs : List X) → is_named (λ n. n) w (map name_of xs) ≡ is_named name_of w xs

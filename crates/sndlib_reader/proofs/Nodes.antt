@@ -1,17 +1,9 @@
 -- The list of nodes: names, and coordinates after them.
 use Rattle.std.proofs.Common.{◌≡◌, ℕ, ◌≤◌, ◌<◌, Bool, true, false, cond, List, [], ◌∷◌, ◌++◌, map, length, IsTrue, Option, None, Some, Ok, Err, refl, sym, ap, subst, ◌∙◌, arith}
 use Rattle.snd_tokens.specs.Terms.{Text, WordAt, OpenAt, CloseAt, EndAt, size}
-use Rattle.text_kit.specs.Terms.{Fails, ComeAfter, Item, Verbatim, Opening, Closing, Begins, Read, after, give, placed, step_at, Parenthesis, past_ending, no_fault, sound}
-use Rattle.text_kit.specs.declared.refusal.Refusal.{Refusal}
-use Rattle.text_kit.specs.declared.refusal.Refusal.TheVariants.{Bad, NoMemory}
-use Rattle.text_kit.proofs.Lemmas.{AnyText, IsOnline, TakesSome, ok_parts, online_give, online_step, online_then, takes_some, Spelled, list_fails, list_turn, lists_alike, IsNew, fault_none, none_fault}
+use Rattle.text_kit.{specs.Terms.{Fails, ComeAfter, Item, Verbatim, Opening, Closing, Begins, Read, after, give, placed, step_at, Parenthesis, past_ending, no_fault, sound}, specs.declared.refusal.Refusal.Refusal, specs.declared.refusal.Refusal.TheVariants.{Bad, NoMemory}, proofs.Lemmas.{AnyText, IsOnline, TakesSome, ok_parts, online_give, online_step, online_then, takes_some, Spelled, list_fails, list_turn, lists_alike, IsNew, fault_none, none_fault}}
+use Rattle.sndlib_reader.{specs.declared.fault.ReadKind.ReadKind, specs.declared.fault.ReadKind.TheVariants.{Token, Ended, Limit, DoubleName}, specs.Spelling.{NodePart, NodeName, Coordinates, names_of, ends_named, IsPartAfter, SpellsPart}, specs.Reading.{node_fault, name_part, coordinates, part_after, part_at, native_nodes_at, skipped_at}, specs.inner.Nodes.parts_so_far, proofs.Skipped.{skipped_online, skipped_spelled}}
 use Rattle.sndlib_reader.specs.declared.fault.Limited.TheVariants as limits
-use Rattle.sndlib_reader.specs.declared.fault.ReadKind.{ReadKind}
-use Rattle.sndlib_reader.specs.declared.fault.ReadKind.TheVariants.{Token, Ended, Limit, DoubleName}
-use Rattle.sndlib_reader.specs.Spelling.{NodePart, NodeName, Coordinates, names_of, ends_named, IsPartAfter, SpellsPart}
-use Rattle.sndlib_reader.specs.Reading.{node_fault, name_part, coordinates, part_after, part_at, native_nodes_at, skipped_at}
-use Rattle.sndlib_reader.specs.inner.Nodes.{parts_so_far}
-use Rattle.sndlib_reader.proofs.Skipped.{skipped_online, skipped_spelled}
 
 -- ---- one part more
 

@@ -1,10 +1,7 @@
 -- Which costs the first links have, and those with one link more.
-use Rattle.std.proofs.Common.{◌≡◌, ℕ, ◌+◌, ◌<◌, ◌==◌, ◌||◌, Bool, not, List, length, take, get_or, refl, ap, ◌∙◌, sym}
-use Rattle.net_core.proofs.Library.{list_any}
-use Rattle.std.proofs.lemmas.List.Folds.{list_any_more}
-use Rattle.net_core.specs.declared.network.Notes.{Notes}
-use Rattle.sndlib_reader.specs.declared.costs.CostedLink.{CostedLink}
-use Rattle.sndlib_reader.specs.Spelling.{notes_of}
+use Rattle.std.{proofs.Common.{◌≡◌, ℕ, ◌+◌, ◌<◌, ◌==◌, ◌||◌, Bool, not, List, length, take, get_or, refl, ap, ◌∙◌, sym}, proofs.lemmas.List.Folds.list_any_more}
+use Rattle.net_core.{proofs.Library.list_any, specs.declared.network.Notes.Notes}
+use Rattle.sndlib_reader.{specs.declared.costs.CostedLink.CostedLink, specs.Spelling.notes_of}
 
 module _ (links : List CostedLink) (i : ℕ) (l : CostedLink) (within : i < length links) (is : l ≡ get_or links i l) where
   some_more : (has : CostedLink → Bool) → list_any has (take (i + 1) links) ≡ (list_any has (take i links) || has l)

@@ -1,18 +1,8 @@
 -- No answer depends on a lexeme after what was taken, or after the place of the fault.
 use Rattle.std.proofs.Common.{ℕ, true, false, List, [], Ok, Err, refl, codes}
-use Rattle.net_core.specs.declared.demand.Demand.{Demand}
-use Rattle.net_core.specs.declared.network.Module.{Module}
-use Rattle.net_core.specs.declared.places.Places.{Places}
-use Rattle.text_kit.specs.Terms.{Reading, word_at, expected, Parenthesis, no_fault, list_at, each_at}
-use Rattle.text_kit.proofs.Lemmas.{IsOnline, TakesSome, online_close, online_end, online_give, online_list, online_open, online_step, online_then, online_word, takes_some}
-use Rattle.sndlib_reader.specs.declared.costs.CostedLink.{CostedLink}
-use Rattle.sndlib_reader.specs.declared.fault.ReadKind.{ReadKind}
-use Rattle.sndlib_reader.specs.declared.fault.ReadKind.TheVariants.{Section, Token, Ended, SelfLink, SelfDemand}
-use Rattle.sndlib_reader.specs.Spelling.{names_of}
-use Rattle.sndlib_reader.specs.Reading.{known_name, path_name, node_named, other_node, amount, unit, capacity, need, hops, native_section_at, part_at, ends_at, module_at, unserved, link_numbers_at, link_rest_at, native_link_at, costed_links_at, demand_rest_at, native_demand_at, native_demands_at, some_at, native_path_at, path_line_at, is_meta, after_meta, start_at, is_paths, after_paths, paths_at, parts, after_links_at, after_nodes_at, node_section_at, native_sections_at}
-use Rattle.net_core.specs.Terms.{total_need}
-use Rattle.sndlib_reader.proofs.Nodes.{part_online, part_some}
-use Rattle.sndlib_reader.proofs.Skipped.{skipped_online}
+use Rattle.net_core.{specs.declared.demand.Demand.Demand, specs.declared.network.Module.Module, specs.declared.places.Places.Places, specs.Terms.total_need}
+use Rattle.text_kit.{specs.Terms.{Reading, word_at, expected, Parenthesis, no_fault, list_at, each_at}, proofs.Lemmas.{IsOnline, TakesSome, online_close, online_end, online_give, online_list, online_open, online_step, online_then, online_word, takes_some}}
+use Rattle.sndlib_reader.{specs.declared.costs.CostedLink.CostedLink, specs.declared.fault.ReadKind.ReadKind, specs.declared.fault.ReadKind.TheVariants.{Section, Token, Ended, SelfLink, SelfDemand}, specs.Spelling.names_of, specs.Reading.{known_name, path_name, node_named, other_node, amount, unit, capacity, need, hops, native_section_at, part_at, ends_at, module_at, unserved, link_numbers_at, link_rest_at, native_link_at, costed_links_at, demand_rest_at, native_demand_at, native_demands_at, some_at, native_path_at, path_line_at, is_meta, after_meta, start_at, is_paths, after_paths, paths_at, parts, after_links_at, after_nodes_at, node_section_at, native_sections_at}, proofs.Nodes.{part_online, part_some}, proofs.Skipped.skipped_online}
 
 ends_online : (kind : ReadKind) (nodes : List (List ℕ)) → IsOnline (ends_at kind nodes)
 unfolding ends_at

@@ -1,12 +1,8 @@
 -- What is skipped balances, and what balances is skipped.
 use Rattle.std.proofs.Common.{◌≡◌, ℕ, zero, suc, ◌+◌, ◌≤◌, List, [], ◌∷◌, ◌++◌, map, take, Ok, Err, refl, sym, ap, subst, ◌∙◌, arith}
 use Rattle.snd_tokens.specs.Terms.{Lexeme, Word, Open, Close, Text, WordAt, OpenAt, CloseAt, EndAt}
-use Rattle.text_kit.specs.Terms.{Item, Verbatim, Opening, Closing, Begins, place}
-use Rattle.text_kit.proofs.Lemmas.{Same, past, plus, AnyText, Failed, IsOnline, Took, err_parts, ok_parts, Spelled}
-use Rattle.sndlib_reader.specs.declared.fault.ReadKind.{ReadKind}
-use Rattle.sndlib_reader.specs.declared.fault.ReadKind.TheVariants.{Ended}
-use Rattle.sndlib_reader.specs.Balance.{opened, closed, IsSkipped, item_of}
-use Rattle.sndlib_reader.specs.Reading.{skipped_at}
+use Rattle.text_kit.{specs.Terms.{Item, Verbatim, Opening, Closing, Begins, place}, proofs.Lemmas.{Same, past, plus, AnyText, Failed, IsOnline, Took, err_parts, ok_parts, Spelled}}
+use Rattle.sndlib_reader.{specs.declared.fault.ReadKind.ReadKind, specs.declared.fault.ReadKind.TheVariants.Ended, specs.Balance.{opened, closed, IsSkipped, item_of}, specs.Reading.skipped_at}
 
 -- with n parentheses open before, each is closed and none more
 record Closes (n : ℕ) (ls : List Lexeme) : Type 0 where

@@ -1,28 +1,9 @@
 -- Paths, sections and whole files: what is read is spelled, and what is spelled is read.
 use Rattle.std.proofs.Common.{◌≡◌, ◌≢◌, ℕ, ◌≤◌, Bool, true, false, cond, List, [], ◌∷◌, ◌++◌, map, length, All, AllPairs, Result, Ok, Err, refl, sym, ap, subst, ◌∙◌, append-nil, append_assoc, ◌||◌, inl, inr, codes, flat_map}
-use Rattle.net_core.proofs.Library.{AllByRecursion, length-map, map_push, All-from_recursion, All-map, recursion_from_All, same_is}
-use Rattle.net_core.specs.Terms.{IsLink, IsNetwork, are_same, is_named}
-use Rattle.net_core.specs.declared.demand.Demand.{Demand}
-use Rattle.net_core.specs.declared.network.Link.{Link}
-use Rattle.net_core.specs.declared.network.Network.{Network}
-use Rattle.net_core.specs.declared.places.Places.{Places}
+use Rattle.net_core.{proofs.Library.{AllByRecursion, length-map, map_push, All-from_recursion, All-map, recursion_from_All, same_is}, specs.Terms.{IsLink, IsNetwork, are_same, is_named}, specs.declared.demand.Demand.Demand, specs.declared.network.Link.Link, specs.declared.network.Network.Network, specs.declared.places.Places.Places}
 use Rattle.snd_tokens.specs.Terms.{first_line, trimmed, Text, WordAt, OpenAt, CloseAt, EndAt}
-use Rattle.text_kit.specs.Terms.{ReadsAllAs, ReadsAs, body, ComeAfter, AreSpelled, Item, Verbatim, Opening, Closing, Begins, Read, Reading, after, give, placed, ◌>>=◌, word_at, open_at, end_at, expected, Parenthesis, no_fault, list_at, each_at, section}
-use Rattle.text_kit.specs.declared.refusal.Refusal.{Refusal}
-use Rattle.text_kit.specs.declared.refusal.Refusal.TheVariants.{Bad, NoMemory}
-use Rattle.text_kit.proofs.Lemmas.{after_all, after_differ, differ_after, spelled_read, AnyText, IsEnd, Starts, lawful_key, lawful_open, ok_parts, Spelled, after_parts, parts_after, spelled_as, spelled_give, spelled_law, spelled_list, spelled_then, spelled_word, IsNew, are_new, new_are}
-use Rattle.sndlib_reader.specs.declared.costs.CostedLink.{CostedLink}
-use Rattle.sndlib_reader.specs.declared.fault.ReadKind.{ReadKind}
-use Rattle.sndlib_reader.specs.declared.fault.ReadKind.TheVariants.{Header, Section, Token, Ended}
-use Rattle.sndlib_reader.specs.Balance.{IsSkipped}
-use Rattle.sndlib_reader.specs.Paths.{AreMany, ArePaths, AreSome, IsKnownName, IsPathLine, IsNamedPath, IsShortName}
-use Rattle.sndlib_reader.specs.NetworkFiles.{network_in}
-use Rattle.sndlib_reader.specs.Spelling.{IsMeta, IsShortLink, NodePart, NodeName, Coordinates, Parts, SpellsDemand, SpellsParts, SpellsPart, header, link_items, names_of, notes_of, parts_of}
-use Rattle.sndlib_reader.specs.Reading.{path_name, known_name, native_section_at, part_at, native_nodes_at, costed_links_at, native_demands_at, some_at, native_path_at, path_line_at, is_meta, after_meta, start_at, is_paths, after_paths, paths_at, parts, after_links_at, after_nodes_at, node_section_at, native_sections_at}
-use Rattle.sndlib_reader.proofs.WordTests.{known_again, known_takes, path_name_again, path_name_takes}
-use Rattle.sndlib_reader.proofs.Skipped.{skipped_spelled}
-use Rattle.sndlib_reader.proofs.Nodes.{IsNewPart, are_parts, part_spelled, parts_are, parts_short}
-use Rattle.sndlib_reader.proofs.Laws.{AreDifferent, AreLinks, IsDemandAfter, IsLinkAfter, are_demands, are_links, demands_are, demands_spelled, links_are, links_lawful}
+use Rattle.text_kit.{specs.Terms.{ReadsAllAs, ReadsAs, body, ComeAfter, AreSpelled, Item, Verbatim, Opening, Closing, Begins, Read, Reading, after, give, placed, ◌>>=◌, word_at, open_at, end_at, expected, Parenthesis, no_fault, list_at, each_at, section}, specs.declared.refusal.Refusal.Refusal, specs.declared.refusal.Refusal.TheVariants.{Bad, NoMemory}, proofs.Lemmas.{after_all, after_differ, differ_after, spelled_read, AnyText, IsEnd, Starts, lawful_key, lawful_open, ok_parts, Spelled, after_parts, parts_after, spelled_as, spelled_give, spelled_law, spelled_list, spelled_then, spelled_word, IsNew, are_new, new_are}}
+use Rattle.sndlib_reader.{specs.declared.costs.CostedLink.CostedLink, specs.declared.fault.ReadKind.ReadKind, specs.declared.fault.ReadKind.TheVariants.{Header, Section, Token, Ended}, specs.Balance.IsSkipped, specs.Paths.{AreMany, ArePaths, AreSome, IsKnownName, IsPathLine, IsNamedPath, IsShortName}, specs.NetworkFiles.network_in, specs.Spelling.{IsMeta, IsShortLink, NodePart, NodeName, Coordinates, Parts, SpellsDemand, SpellsParts, SpellsPart, header, link_items, names_of, notes_of, parts_of}, specs.Reading.{path_name, known_name, native_section_at, part_at, native_nodes_at, costed_links_at, native_demands_at, some_at, native_path_at, path_line_at, is_meta, after_meta, start_at, is_paths, after_paths, paths_at, parts, after_links_at, after_nodes_at, node_section_at, native_sections_at}, proofs.WordTests.{known_again, known_takes, path_name_again, path_name_takes}, proofs.Skipped.skipped_spelled, proofs.Nodes.{IsNewPart, are_parts, part_spelled, parts_are, parts_short}, proofs.Laws.{AreDifferent, AreLinks, IsDemandAfter, IsLinkAfter, are_demands, are_links, demands_are, demands_spelled, links_are, links_lawful}}
 
 -- ---- what is given of what was read
 

@@ -1,18 +1,10 @@
 -- What a word says, and which words say it.
 use Rattle.std.proofs.Common.{◌≡◌, ◌≢◌, ℕ, ◌+◌, ◌*◌, ◌^◌, ◌<◌, ◌≤◌, ◌==◌, ◌||◌, Bool, true, false, cond, nat_lt, List, [], length, get_or, AllPairs, None, Some, Result, Ok, Err, IsTrue, refl, sym, ap, subst, ◌∙◌, inl, inr, arith, codes, ltb-true, ltb-false, le-ltb, lt-ltb, ne_eqb}
-use Rattle.net_core.proofs.Library.{eqb-false, same_is}
-use Rattle.snd_tokens.specs.declared.amounts.NumberFault.TheVariants.{NotANumber, TooLarge}
-use Rattle.snd_tokens.specs.Terms.{amount_of, money_of, units, are_digits}
-use Rattle.net_core.specs.declared.network.Module.{Module}
-use Rattle.net_core.specs.declared.places.Places.{Places}
-use Rattle.net_core.specs.Terms.{are_same, is_named}
-use Rattle.text_kit.specs.Terms.{sound}
-use Rattle.text_kit.proofs.Lemmas.{amount_again, amount_takes, number_takes, IsPlaceIn, place_again, place_takes, if_ok, ok_is, unless_ok}
+use Rattle.net_core.{proofs.Library.{eqb-false, same_is}, specs.declared.network.Module.Module, specs.declared.places.Places.Places, specs.Terms.{are_same, is_named}}
+use Rattle.snd_tokens.{specs.declared.amounts.NumberFault.TheVariants.{NotANumber, TooLarge}, specs.Terms.{amount_of, money_of, units, are_digits}}
+use Rattle.text_kit.{specs.Terms.sound, proofs.Lemmas.{amount_again, amount_takes, number_takes, IsPlaceIn, place_again, place_takes, if_ok, ok_is, unless_ok}}
+use Rattle.sndlib_reader.{specs.declared.fault.ReadKind.ReadKind, specs.declared.fault.ReadKind.TheVariants.{Limit, Number, UnknownName, ZeroModule}, specs.Spelling.IsHops, specs.Reading.{path_name, known_name, node_named, apart, other_node, amount, carried, capacity, wanted, need, hops}}
 use Rattle.sndlib_reader.specs.declared.fault.Limited.TheVariants as limits
-use Rattle.sndlib_reader.specs.declared.fault.ReadKind.{ReadKind}
-use Rattle.sndlib_reader.specs.declared.fault.ReadKind.TheVariants.{Limit, Number, UnknownName, ZeroModule}
-use Rattle.sndlib_reader.specs.Spelling.{IsHops}
-use Rattle.sndlib_reader.specs.Reading.{path_name, known_name, node_named, apart, other_node, amount, carried, capacity, wanted, need, hops}
 
 -- ---- names
 

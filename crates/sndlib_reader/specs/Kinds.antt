@@ -1,9 +1,7 @@
 -- how the kinds of faults are written
 use Rattle.std.specs.Prelude.{ℕ, List, codes}
 use Rattle.text_kit.specs.Terms.{number_word}
-use Rattle.sndlib_reader.specs.declared.fault.Limited.TheVariants.{Name, Nodes, Links, Modules, Demands, Total}
-use Rattle.sndlib_reader.specs.declared.fault.ReadKind.{ReadKind}
-use Rattle.sndlib_reader.specs.declared.fault.ReadKind.TheVariants.{Header, Section, Token, Ended, Limit, Number, UnknownName, DoubleName, SelfLink, SelfDemand, ZeroModule, FixedLink}
+use Rattle.sndlib_reader.{specs.declared.fault.Limited.TheVariants.{Name, Nodes, Links, Modules, Demands, Total}, specs.declared.fault.ReadKind.ReadKind, specs.declared.fault.ReadKind.TheVariants.{Header, Section, Token, Ended, Limit, Number, UnknownName, DoubleName, SelfLink, SelfDemand, ZeroModule, FixedLink}}
 
 -- the word of each kind
 abbrev pub kind_word : ReadKind → List ℕ

@@ -1,17 +1,9 @@
 -- Whole network files: in which places they are read, and what they spell.
 use Rattle.std.specs.Prelude.{◌≡◌, ℕ, Bool, true, false, if◌then◌else◌, List, take, Ok, Err}
-use Rattle.net_core.specs.declared.demand.Demand.{Demand}
-use Rattle.net_core.specs.declared.network.Network.{Network}
-use Rattle.net_core.specs.declared.places.Places.{Places}
-use Rattle.net_core.specs.declared.places.Places.TheVariants.{Three, Six}
+use Rattle.net_core.{specs.declared.demand.Demand.Demand, specs.declared.network.Network.Network, specs.declared.places.Places.Places, specs.declared.places.Places.TheVariants.{Three, Six}}
 use Rattle.snd_tokens.specs.declared.amounts.NumberFault.TheVariants.{TooFine}
-use Rattle.text_kit.specs.Terms.{SpellsBy, body, file_at, EndsBefore, Read}
-use Rattle.text_kit.specs.declared.refusal.Refusal.{Refusal}
-use Rattle.text_kit.specs.declared.refusal.Refusal.TheVariants.{Bad, NoMemory}
-use Rattle.sndlib_reader.specs.declared.fault.ReadKind.{ReadKind}
-use Rattle.sndlib_reader.specs.declared.fault.ReadKind.TheVariants.{Header, Number}
-use Rattle.sndlib_reader.specs.Reading.{native_sections_at}
-use Rattle.sndlib_reader.specs.Spelling.{Parts, SpellsParts, header, parts_of}
+use Rattle.text_kit.{specs.Terms.{SpellsBy, body, file_at, EndsBefore, Read}, specs.declared.refusal.Refusal.Refusal, specs.declared.refusal.Refusal.TheVariants.{Bad, NoMemory}}
+use Rattle.sndlib_reader.{specs.declared.fault.ReadKind.ReadKind, specs.declared.fault.ReadKind.TheVariants.{Header, Number}, specs.Reading.native_sections_at, specs.Spelling.{Parts, SpellsParts, header, parts_of}}
 
 -- a whole file, read with places p: its network and demands, or its first fault by place
 abbrev pub network_in : Places → List ℕ → Read ReadKind (Parts × List Demand)

@@ -1,21 +1,10 @@
 -- Reading a network file from left to right: the tests of its words, and their order.
 use Rattle.std.specs.Prelude.{ℕ, zero, suc, ◌+◌, ◌*◌, ◌^◌, ◌==◌, nat_lt, Bool, true, false, ◌||◌, ◌&&◌, if◌then◌else◌, List, [], length, map, Option, Some, None, Result, Ok, Err, codes}
-use Rattle.snd_tokens.specs.declared.amounts.NumberFault.TheVariants.{NotANumber, TooLarge}
-use Rattle.snd_tokens.specs.Terms.{amount_of, units_of, are_digits, WordAt, OpenAt, CloseAt, EndAt}
-use Rattle.net_core.specs.Terms.{are_same, is_named, total_need}
-use Rattle.net_core.specs.declared.ids.NodeId.{NodeId}
-use Rattle.net_core.specs.declared.network.Module.{Module}
-use Rattle.net_core.specs.declared.places.Places.{Places}
-use Rattle.net_core.specs.declared.demand.Demand.{Demand}
+use Rattle.snd_tokens.{specs.declared.amounts.NumberFault.TheVariants.{NotANumber, TooLarge}, specs.Terms.{amount_of, units_of, are_digits, WordAt, OpenAt, CloseAt, EndAt}}
+use Rattle.net_core.{specs.Terms.{are_same, is_named, total_need}, specs.declared.ids.NodeId.NodeId, specs.declared.network.Module.Module, specs.declared.places.Places.Places, specs.declared.demand.Demand.Demand}
 use Rattle.text_kit.specs.Terms.{long_name_fault, named_place, new_name_fault, number_or, Reading, ◌>>=◌, give, step_at, word_at, open_at, close_at, end_at, expected, mapped, Parenthesis, sound, list_at, no_fault, each_at}
+use Rattle.sndlib_reader.{specs.declared.fault.ReadKind.ReadKind, specs.declared.fault.ReadKind.TheVariants.{Section, Token, Ended, Limit, Number, UnknownName, DoubleName, SelfLink, SelfDemand, ZeroModule, FixedLink}, specs.declared.costs.CostedLink.CostedLink, specs.declared.demand.DemandRest.DemandRest, specs.declared.link.LinkNumbers.LinkNumbers, specs.declared.link.LinkRest.LinkRest, specs.Spelling.{NodePart, NodeName, Coordinates, names_of, ends_named, notes_of, Parts}}
 use Rattle.sndlib_reader.specs.declared.fault.Limited.TheVariants as limits
-use Rattle.sndlib_reader.specs.declared.fault.ReadKind.{ReadKind}
-use Rattle.sndlib_reader.specs.declared.fault.ReadKind.TheVariants.{Section, Token, Ended, Limit, Number, UnknownName, DoubleName, SelfLink, SelfDemand, ZeroModule, FixedLink}
-use Rattle.sndlib_reader.specs.declared.costs.CostedLink.{CostedLink}
-use Rattle.sndlib_reader.specs.declared.demand.DemandRest.{DemandRest}
-use Rattle.sndlib_reader.specs.declared.link.LinkNumbers.{LinkNumbers}
-use Rattle.sndlib_reader.specs.declared.link.LinkRest.{LinkRest}
-use Rattle.sndlib_reader.specs.Spelling.{NodePart, NodeName, Coordinates, names_of, ends_named, notes_of, Parts}
 
 -- ---- what a word says
 

@@ -1,19 +1,9 @@
 -- The grammar of a network file: which items spell which network and demands.
-use Rattle.std.specs.Prelude.{◌≡◌, ℕ, ◌*◌, ◌≤◌, ◌<◌, ◌^◌, ◌==◌, ◌⊎◌, not, Bool, true, false, List, [], ◌∷◌, ◌++◌, length, get_or, map, flat_map, All, IsTrue, Ok, codes}
-use Rattle.std.specs.List.{list_any}
+use Rattle.std.{specs.Prelude.{◌≡◌, ℕ, ◌*◌, ◌≤◌, ◌<◌, ◌^◌, ◌==◌, ◌⊎◌, not, Bool, true, false, List, [], ◌∷◌, ◌++◌, length, get_or, map, flat_map, All, IsTrue, Ok, codes}, specs.List.list_any}
 use Rattle.snd_tokens.specs.Terms.{amount_of, units_of, are_digits}
-use Rattle.net_core.specs.Terms.{IsNetwork, AreDemands}
-use Rattle.net_core.specs.declared.ids.NodeId.{NodeId}
-use Rattle.net_core.specs.declared.network.Module.{Module}
-use Rattle.net_core.specs.declared.network.Link.{Link}
-use Rattle.net_core.specs.declared.network.Notes.{Notes}
-use Rattle.net_core.specs.declared.network.Network.{Network}
-use Rattle.net_core.specs.declared.places.Places.{Places}
-use Rattle.net_core.specs.declared.demand.Demand.{Demand}
-use Rattle.sndlib_reader.specs.declared.costs.CostedLink.{CostedLink}
+use Rattle.net_core.{specs.Terms.{IsNetwork, AreDemands}, specs.declared.ids.NodeId.NodeId, specs.declared.network.Module.Module, specs.declared.network.Link.Link, specs.declared.network.Notes.Notes, specs.declared.network.Network.Network, specs.declared.places.Places.Places, specs.declared.demand.Demand.Demand}
 use Rattle.text_kit.specs.Terms.{Item, Verbatim, Money, Opening, Closing, ComeAfter, AreSpelled, section}
-use Rattle.sndlib_reader.specs.Balance.{IsSkipped}
-use Rattle.sndlib_reader.specs.Paths.{ArePaths}
+use Rattle.sndlib_reader.{specs.declared.costs.CostedLink.CostedLink, specs.Balance.IsSkipped, specs.Paths.ArePaths}
 
 -- an entry of the list of nodes: a node's name, or the coordinates of the node before them
 pub data NodePart : Type 0 where

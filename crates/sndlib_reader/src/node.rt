@@ -2,8 +2,7 @@ ghost use Rattle.std.specs.Prelude.{◌≡◌, ◌≤◌, ◌<◌, None, false, 
 ghost use Rattle.net_core.specs.Terms.{is_named};
 ghost use Rattle.snd_tokens.specs.Terms.{left, size};
 ghost use Rattle.text_kit.specs.Terms.{ReadsAs, TakesElement, word_at};
-ghost use Rattle.sndlib_reader.specs.Reading.{ends_at, node_fault, node_named, native_nodes_at, other_node};
-ghost use Rattle.sndlib_reader.specs.inner.Nodes.{parts_so_far};
+ghost use Rattle.sndlib_reader.{specs.Reading.{ends_at, node_fault, node_named, native_nodes_at, other_node}, specs.inner.Nodes.parts_so_far};
 
 use crate::fault::{Limited, ReadKind, ReadRefusal};
 use crate::names::Names;

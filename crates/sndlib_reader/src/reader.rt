@@ -1,15 +1,8 @@
 ghost use Rattle.std.specs.Prelude.{◌≡◌, ◌≤◌, ℕ, List, [], length, map, IfOk, IfErr, Ok, Err, codes};
 ghost use Rattle.snd_tokens.specs.Terms.{Text, left};
-ghost use Rattle.net_core.specs.Terms.{IsNetwork};
-ghost use Rattle.net_core.specs.declared.network.Network.{Network as Net};
-ghost use Rattle.net_core.specs.declared.demand.Demand.{Demand as Dem};
-ghost use Rattle.text_kit.specs.Terms.{ReadsAllAs, ReadsAs, word_at};
-ghost use Rattle.text_kit.specs.declared.refusal.Refusal.{Refusal};
-ghost use Rattle.sndlib_reader.specs.declared.fault.ReadKind.{ReadKind};
-ghost use Rattle.sndlib_reader.specs.NetworkFiles.{IsNoEarlyFault, Spells, network_in, network_of};
-ghost use Rattle.sndlib_reader.specs.inner.Refused.{was_too_fine};
-ghost use Rattle.sndlib_reader.specs.Spelling.{parts_of};
-ghost use Rattle.sndlib_reader.specs.Reading.{after_links_at, after_nodes_at, native_demands_at, is_meta, costed_links_at, parts, native_nodes_at, native_section_at, native_sections_at, node_section_at, start_at};
+ghost use Rattle.net_core.{specs.Terms.IsNetwork, specs.declared.network.Network.{Network as Net}, specs.declared.demand.Demand.{Demand as Dem}};
+ghost use Rattle.text_kit.{specs.Terms.{ReadsAllAs, ReadsAs, word_at}, specs.declared.refusal.Refusal.Refusal};
+ghost use Rattle.sndlib_reader.{specs.declared.fault.ReadKind.ReadKind, specs.NetworkFiles.{IsNoEarlyFault, Spells, network_in, network_of}, specs.inner.Refused.was_too_fine, specs.Spelling.parts_of, specs.Reading.{after_links_at, after_nodes_at, native_demands_at, is_meta, costed_links_at, parts, native_nodes_at, native_section_at, native_sections_at, node_section_at, start_at}};
 
 use crate::costs::{CostedLink, links_of, notes_of};
 use crate::demand::demands;

@@ -2,8 +2,7 @@
 use Rattle.std.proofs.Common.{◌≡◌, ◌≢◌, ℕ, ◌+◌, ◌<◌, ⊎_elim, List, subst, sym, ap, ◌∙◌, arith}
 use Rattle.net_core.proofs.Library.{cases_eq, dvd_trans, IsGcd, ◌∣◌}
 use Rattle.plan_terms.specs.Terms.{Link}
-use Rattle.line_check.specs.Terms.{module_number, capped}
-use Rattle.line_check.specs.declared.inequality.Inequality.{Inequality}
+use Rattle.line_check.{specs.Terms.{module_number, capped}, specs.declared.inequality.Inequality.Inequality}
 
 -- a module more
 pub gives_more : (f : ℕ → ℕ) (m gives common next : ℕ) → ((k : ℕ) → k < m → common ∣ f k) → gives ≡ f m → IsGcd common gives next → (k : ℕ) → k < m + 1 → next ∣ f k

@@ -1,10 +1,8 @@
 -- what a point gives, module by module
 use Rattle.std.proofs.Common.{◌≡◌, ℕ, ◌+◌, ◌*◌, ◌<◌, List, get_or, length, take}
 use Rattle.net_core.proofs.Library.{sum_by_more}
-use Rattle.line_check.specs.Terms.{entry}
-use Rattle.line_check.specs.declared.inequality.Inequality.{Inequality}
-use Rattle.table_maker.specs.Made.{given_at}
-use Rattle.table_maker.specs.declared.task.Part.{Part}
+use Rattle.line_check.{specs.Terms.entry, specs.declared.inequality.Inequality.Inequality}
+use Rattle.table_maker.{specs.Made.given_at, specs.declared.task.Part.Part}
 
 -- a module more
 pub given_more : (line : Inequality) (point : List Part) (i : ℕ) (d : Part) → i < length point

@@ -1,14 +1,8 @@
 -- lines that a test says hold
 use Rattle.std.proofs.Common.{◌≡◌, ℕ, ◌*◌, ◌≤◌, ◌<◌, List, All, IsTrue, false, refl, inr}
 use Rattle.plan_terms.specs.Terms.{Case}
-use Rattle.line_check.specs.Terms.{need_of, IsTestedAs}
-use Rattle.line_check.specs.declared.line.Line.{Line}
-use Rattle.line_check.specs.declared.line.Line.TheVariants.{Table}
-use Rattle.line_check.specs.declared.line.TableKind.{TableKind}
-use Rattle.line_check.specs.declared.tested_lines.Tested.{Tested}
-use Rattle.table_maker.specs.Made.{IsMissedTable, IsNarrowLine, MayCarryTable, given_at, line_over}
-use Rattle.table_maker.specs.inner.Weighing.{IsLightTable}
-use Rattle.table_maker.specs.declared.task.Part.{Part}
+use Rattle.line_check.{specs.Terms.{need_of, IsTestedAs}, specs.declared.line.Line.Line, specs.declared.line.Line.TheVariants.Table, specs.declared.line.TableKind.TableKind, specs.declared.tested_lines.Tested.Tested}
+use Rattle.table_maker.{specs.Made.{IsMissedTable, IsNarrowLine, MayCarryTable, given_at, line_over}, specs.inner.Weighing.IsLightTable, specs.declared.task.Part.Part}
 
 -- what a test finds narrow is a narrow line
 pub narrow_is : (p : Case) (tested : List Tested) (index divisor : ℕ) (line : Line) (t : Tested) → line ≡ line_over index divisor → IsTestedAs p tested (inr line) t → MayCarryTable t → IsNarrowLine p tested line

@@ -2,12 +2,9 @@
 use Rattle.std.proofs.Common.{◌≡◌, ℕ, zero, suc, ◌+◌, ◌*◌, ◌<◌, ◌≤◌, ◌++◌, List, [], ◌∷◌, Some, All, AllPairs, Bool, true, false, if◌then◌else◌, length, length-append, map, ap, subst, sym, ◌∙◌, arith, slice_get, slice_index}
 use Rattle.net_core.proofs.Library.{All-push, All-weaker, all_pairs_push, get_or-map, get_or_from_slice_get, slice_get_within}
 use Rattle.plan_terms.specs.Terms.{Case, CutLine, Graph, IsCut, Keeps, Link, graph_in}
-use Rattle.metric_cut.specs.Cuts.{IsLineAt, MayKeepCut}
-use Rattle.metric_cut.specs.declared.cut.Cut.{Cut}
-use Rattle.metric_cut.proofs.Lines.{line_is_cut}
+use Rattle.metric_cut.{specs.Cuts.{IsLineAt, MayKeepCut}, specs.declared.cut.Cut.Cut, proofs.Lines.line_is_cut}
 use Rattle.master_law.specs.Terms.{IsSameCut}
-use Rattle.table_maker.specs.SetCuts.{IsNewTo, IsSetCut, PartsNodes, boundary_of}
-use Rattle.table_maker.specs.inner.Finding.{CutsNodes, IsBoundary}
+use Rattle.table_maker.{specs.SetCuts.{IsNewTo, IsSetCut, PartsNodes, boundary_of}, specs.inner.Finding.{CutsNodes, IsBoundary}}
 
 -- the number of a link in a list with one for each
 number_of : (f : Link → ℕ) (links : List Link) (e : ℕ) (l : Link) → slice_get links e ≡ Some l → slice_index (map f links) e ≡ f l

@@ -2,10 +2,7 @@
 use Rattle.std.proofs.Common.{◌≡◌, ◌≢◌, ⊎_elim, ℕ, ◌+◌, ◌-◌, ◌*◌, ◌^◌, ◌<◌, ◌≤◌, List, [], ◌∷◌, false, length, refl, ap, subst, sym, ◌∙◌, arith, inr, div-lt_iff_lt-mul}
 use Rattle.net_core.proofs.Library.{All-cons, All-nil, cases_eq, le-div, sum_by-cons}
 use Rattle.plan_terms.specs.Terms.{Case, Link}
-use Rattle.line_check.specs.Terms.{WeightedLine, entry, module_price, need_of, summed_need, IsDividedLine, divided_line, divided_up, IsTestedAs, names_by, test_at, weighed, Multiplier}
-use Rattle.line_check.specs.declared.inequality.Inequality.{Inequality}
-use Rattle.line_check.specs.declared.line.Line.{Line}
-use Rattle.line_check.specs.declared.tested_lines.Tested.{Tested}
+use Rattle.line_check.{specs.Terms.{WeightedLine, entry, module_price, need_of, summed_need, IsDividedLine, divided_line, divided_up, IsTestedAs, names_by, test_at, weighed, Multiplier}, specs.declared.inequality.Inequality.Inequality, specs.declared.line.Line.Line, specs.declared.tested_lines.Tested.Tested}
 use Rattle.table_maker.specs.Made.{HasLineOver, IsWideLine, MayCarryTable, line_over}
 
 -- a quotient that is rounded up is between 1 and what it is of

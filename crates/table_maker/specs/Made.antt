@@ -1,16 +1,8 @@
 -- lines that are made for a program: which they are, and that they hold
-use Rattle.std.specs.Int.{◌∣◌}
-use Rattle.std.specs.Prelude.{◌≡◌, ◌⊎◌, ℕ, ◌*◌, ◌^◌, ◌≤◌, ◌<◌, false, List, [], ◌∷◌, All, Contains, IsTrue, length, sum_by}
-use Rattle.std.proofs.Common.{inr}
+use Rattle.std.{specs.Int.◌∣◌, specs.Prelude.{◌≡◌, ◌⊎◌, ℕ, ◌*◌, ◌^◌, ◌≤◌, ◌<◌, false, List, [], ◌∷◌, All, Contains, IsTrue, length, sum_by}, proofs.Common.inr}
 use Rattle.plan_terms.specs.Terms.{Case, Link, case_of}
-use Rattle.line_check.specs.Terms.{entry, module_number, need_of, names_by, test_at, IsMadeFrom, capped, divided_up}
-use Rattle.line_check.specs.declared.inequality.Inequality.{Inequality}
-use Rattle.line_check.specs.declared.line.Line.{Line}
-use Rattle.line_check.specs.declared.line.Line.TheVariants.{Divided, Table}
-use Rattle.line_check.specs.declared.line.TableKind.{TableKind}
-use Rattle.line_check.specs.declared.tested_lines.Tested.{Tested}
-use Rattle.table_maker.specs.declared.task.Part.{Part}
-use Rattle.table_maker.specs.declared.task.TableTask.{TableTask}
+use Rattle.line_check.{specs.Terms.{entry, module_number, need_of, names_by, test_at, IsMadeFrom, capped, divided_up}, specs.declared.inequality.Inequality.Inequality, specs.declared.line.Line.Line, specs.declared.line.Line.TheVariants.{Divided, Table}, specs.declared.line.TableKind.TableKind, specs.declared.tested_lines.Tested.Tested}
+use Rattle.table_maker.{specs.declared.task.Part.Part, specs.declared.task.TableTask.TableTask}
 
 -- a line that was tested holds, and tables over it are small enough
 abbrev pub MayCarryTable : Tested → Type 0

@@ -1,8 +1,7 @@
 ghost use Rattle.std.specs.Prelude.{◌≡◌, ◌≤◌, ◌<◌, All, AllPairs, IfOk, IfSome, OnOk, false, length, map, nat_eq, slice_index};
 ghost use Rattle.plan_terms.specs.Terms.{IsCut, case_of};
 ghost use Rattle.master_law.specs.Terms.{IsSameCut};
-ghost use Rattle.table_maker.specs.SetCuts.{IsNewTo, IsSetCut, boundary_of};
-ghost use Rattle.table_maker.specs.inner.Finding.{AreFound, CutsNodes, IsBoundary, IsSameSearch};
+ghost use Rattle.table_maker.{specs.SetCuts.{IsNewTo, IsSetCut, boundary_of}, specs.inner.Finding.{AreFound, CutsNodes, IsBoundary, IsSameSearch}};
 
 use crate::sides::{mark_of, sides_of};
 use master_bound::is_same_cut;

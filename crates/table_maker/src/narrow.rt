@@ -1,9 +1,7 @@
-ghost use Rattle.std.specs.Int.{◌∣◌};
-ghost use Rattle.std.specs.Prelude.{◌≡◌, ◌+◌, ◌^◌, ◌≤◌, ◌<◌, ◌↔◌, ℕ, All, IfOk, IsTrue, OnOk, length, min};
+ghost use Rattle.std.{specs.Int.◌∣◌, specs.Prelude.{◌≡◌, ◌+◌, ◌^◌, ◌≤◌, ◌<◌, ◌↔◌, ℕ, All, IfOk, IsTrue, OnOk, length, min}};
 ghost use Rattle.plan_terms.specs.Terms.{case_of};
 ghost use Rattle.line_check.specs.Terms.{need_of, test_at, capped};
-ghost use Rattle.table_maker.specs.Made.{DividesLine, HasLineOver, IsFineDivisor, IsNarrowLine, IsWideLine, MayCarryTable, line_over};
-ghost use Rattle.table_maker.specs.inner.Weighing.{IsNarrowDivisor};
+ghost use Rattle.table_maker.{specs.Made.{DividesLine, HasLineOver, IsFineDivisor, IsNarrowLine, IsWideLine, MayCarryTable, line_over}, specs.inner.Weighing.IsNarrowDivisor};
 
 use crate::kinds::need_of;
 use checked_fraction::gcd;

@@ -1,9 +1,7 @@
-ghost use Rattle.std.specs.Prelude.{◌+◌, ◌≤◌, ◌<◌, All, IfOk, IfSome, OnOk, length};
-ghost use Rattle.std.proofs.Common.{inr};
+ghost use Rattle.std.{specs.Prelude.{◌+◌, ◌≤◌, ◌<◌, All, IfOk, IfSome, OnOk, length}, proofs.Common.inr};
 ghost use Rattle.plan_terms.specs.Terms.{case_of};
 ghost use Rattle.line_check.specs.Testing.{IsTestedAs};
-ghost use Rattle.table_maker.specs.Made.{IsTableFor};
-ghost use Rattle.table_maker.specs.inner.Weighing.{IsLightTable};
+ghost use Rattle.table_maker.{specs.Made.IsTableFor, specs.inner.Weighing.IsLightTable};
 
 use crate::kinds::{costs_of, need_of, weights_of};
 use crate::missed::missed;

@@ -1,13 +1,7 @@
 -- Items that are added to a text one after another.
 use Rattle.std.proofs.Common.{◌≡◌, ℕ, ◌+◌, ◌<◌, ◌≤◌, ◌^◌, ◌/◌, List, [], ◌∷◌, ◌++◌, length, get_or, take, sym, ap, subst, ◌∙◌, arith, append_assoc, append-nil, length-append, flat_map, Result, Ok, Err, OnOk, decimal, take_all}
-use Rattle.net_core.proofs.Library.{AllByRecursion, length-decimal-le, flat_map-append, take_more}
-use Rattle.net_core.specs.declared.places.Places.{Places}
-use Rattle.net_core.specs.Terms.{IsName, digits_after_point}
-use Rattle.text_kit.specs.Edits.{enclosed, section}
-use Rattle.text_kit.specs.Items.{Item, Verbatim, Whole, Money, Opening, Closing}
-use Rattle.text_kit.specs.Written.{AddsItems, IsShortItem, IsWritable, last_digits, money_word, written}
-use Rattle.text_kit.proofs.Numerals.{last_few, money_plain, places_few, whole_below}
-use Rattle.text_kit.proofs.Written.{written_both}
+use Rattle.net_core.{proofs.Library.{AllByRecursion, length-decimal-le, flat_map-append, take_more}, specs.declared.places.Places.Places, specs.Terms.{IsName, digits_after_point}}
+use Rattle.text_kit.{specs.Edits.{enclosed, section}, specs.Items.{Item, Verbatim, Whole, Money, Opening, Closing}, specs.Written.{AddsItems, IsShortItem, IsWritable, last_digits, money_word, written}, proofs.Numerals.{last_few, money_plain, places_few, whole_below}, proofs.Written.written_both}
 
 -- an amount's word is as short as a name
 pub amount_short : (p : Places) (n : ℕ) → n < 2 ^ 64 → IsName (money_word p n)

@@ -1,7 +1,6 @@
 -- What each element is after those before it, and what all of them are.
 use Rattle.std.proofs.Common.{◌≡◌, ◌≢◌, ℕ, false, List, [], ◌∷◌, ◌++◌, All, AllPairs, subst, sym, append-nil, append_assoc}
-use Rattle.net_core.proofs.Library.{All-cons, All-nil, All-head, All-tail, all_pairs_push, new_name, no_pairs, none_named}
-use Rattle.net_core.specs.Terms.{is_named}
+use Rattle.net_core.{proofs.Library.{All-cons, All-nil, All-head, All-tail, all_pairs_push, new_name, no_pairs, none_named}, specs.Terms.is_named}
 use Rattle.text_kit.specs.Items.{ComeAfter}
 
 -- what each is, said otherwise

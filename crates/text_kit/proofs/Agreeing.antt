@@ -1,13 +1,9 @@
 -- Files that agree on their first bytes have the same lexemes there.
-use Rattle.std.proofs.Common.{◌≡◌, ℕ, zero, suc, ◌+◌, ◌-◌, ◌≤◌, ◌<◌, ◌==◌, ◌||◌, ⊎_elim, Bool, true, false, cond, not, List, [], ◌∷◌, ◌++◌, length, take, drop, refl, sym, ap, subst, ◌∙◌, arith}
-use Rattle.net_core.proofs.Library.{prefix_len, cases_eq, cases_lt, prefix_len-le-length}
-use Rattle.std.proofs.lemmas.List.{drop-drop, drop-take}
-use Rattle.snd_tokens.specs.declared.token.Token.{Token}
+use Rattle.std.{proofs.Common.{◌≡◌, ℕ, zero, suc, ◌+◌, ◌-◌, ◌≤◌, ◌<◌, ◌==◌, ◌||◌, ⊎_elim, Bool, true, false, cond, not, List, [], ◌∷◌, ◌++◌, length, take, drop, refl, sym, ap, subst, ◌∙◌, arith}, proofs.lemmas.List.{drop-drop, drop-take}}
+use Rattle.net_core.{proofs.Library.{prefix_len, cases_eq, cases_lt, prefix_len-le-length}, specs.Terms.{is_space, is_word_byte}}
+use Rattle.snd_tokens.{specs.declared.token.Token.Token, specs.Terms.{starts_token, line_length, run_length, extent, token_of, token_bytes, begun, tokens_past, tokens_from, WordAt, OpenAt, CloseAt, text_of, text_from}}
+use Rattle.text_kit.{specs.Places.EndsBefore, proofs.Alike.AgreeThrough}
 use Rattle.snd_tokens.specs.declared.token.TokenKind.TheVariants as kinds
-use Rattle.net_core.specs.Terms.{is_space, is_word_byte}
-use Rattle.snd_tokens.specs.Terms.{starts_token, line_length, run_length, extent, token_of, token_bytes, begun, tokens_past, tokens_from, WordAt, OpenAt, CloseAt, text_of, text_from}
-use Rattle.text_kit.specs.Places.{EndsBefore}
-use Rattle.text_kit.proofs.Alike.{AgreeThrough}
 
 -- lists that agree on m elements agree on fewer
 pub take_less : (n m : ℕ) (xs ys : List ℕ) → n ≤ m → take m xs ≡ take m ys → take n xs ≡ take n ys

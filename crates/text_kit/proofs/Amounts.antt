@@ -1,16 +1,8 @@
 -- Words of amounts are those of money below 2^40 units of the network.
 use Rattle.std.proofs.Common.{◌≡◌, ℕ, ◌^◌, ◌<◌, true, cond, not, nat_lt, List, [], ◌∷◌, Result, Ok, Err, ap, subst, arith, refl, ltb-true, lt-ltb}
-use Rattle.net_core.specs.declared.places.Places.{Places}
-use Rattle.net_core.specs.Terms.{digits_after_point}
-use Rattle.snd_tokens.specs.declared.amounts.NumberFault.{NumberFault}
-use Rattle.snd_tokens.specs.declared.amounts.NumberFault.TheVariants.{NotANumber, TooFine, TooLarge}
-use Rattle.snd_tokens.specs.Terms.{amount_of, money_of, decimal_below, is_coarse, is_decimal, units}
-use Rattle.text_kit.specs.Items.{Money}
-use Rattle.text_kit.specs.Numbers.{number_or}
-use Rattle.text_kit.specs.Reading.{word_at}
-use Rattle.text_kit.proofs.Lawful.{AnyText, Lawful, lawful_word}
-use Rattle.text_kit.proofs.Outcomes.{unless_ok, if_ok, ok_is}
-use Rattle.net_core.proofs.Checks.{not_true}
+use Rattle.net_core.{specs.declared.places.Places.Places, specs.Terms.digits_after_point, proofs.Checks.not_true}
+use Rattle.snd_tokens.{specs.declared.amounts.NumberFault.NumberFault, specs.declared.amounts.NumberFault.TheVariants.{NotANumber, TooFine, TooLarge}, specs.Terms.{amount_of, money_of, decimal_below, is_coarse, is_decimal, units}}
+use Rattle.text_kit.{specs.Items.Money, specs.Numbers.number_or, specs.Reading.word_at, proofs.Lawful.{AnyText, Lawful, lawful_word}, proofs.Outcomes.{unless_ok, if_ok, ok_is}}
 
 -- a number that was read: its word is a decimal without digits that are too fine, and it is below the limit
 record IsBelow (places limit : ℕ) (w : List ℕ) (n : ℕ) : Type 0 where

@@ -1,10 +1,8 @@
 -- Texts that begin with items, and where lists of items end.
 use Rattle.std.proofs.Common.{◌≡◌, ℕ, ◌<◌, ◌≤◌, Bool, true, false, cond, List, [], ◌∷◌, ◌++◌, Option, None, Some, Ok, refl, sym, ap, subst, arith}
-use Rattle.net_core.proofs.Library.{Decides-eqb, slice_eq-Decides, same_is}
-use Rattle.net_core.specs.Terms.{are_same}
+use Rattle.net_core.{proofs.Library.{Decides-eqb, slice_eq-Decides, same_is}, specs.Terms.are_same}
 use Rattle.snd_tokens.specs.Terms.{Text, WordAt, OpenAt, CloseAt, EndAt, size}
-use Rattle.text_kit.specs.Items.{Item, Verbatim, Whole, Money, Opening, Closing, SpellsItem, Begins}
-use Rattle.text_kit.specs.Reading.{Ending, Parenthesis, TheEnd, TheWord, past_ending, sound}
+use Rattle.text_kit.{specs.Items.{Item, Verbatim, Whole, Money, Opening, Closing, SpellsItem, Begins}, specs.Reading.{Ending, Parenthesis, TheEnd, TheWord, past_ending, sound}}
 
 -- what is left is any text, or the end
 abbrev pub AnyText : Text → Type 0

@@ -1,25 +1,8 @@
 -- Laws of whole files, for each reading that is lawful.
 use Rattle.std.proofs.Common.{◌≡◌, ℕ, suc, ◌+◌, ◌≤◌, ◌<◌, ◌==◌, min, Bool, true, false, cond, not, List, [], ◌∷◌, ◌++◌, length, take, drop, Result, Ok, Err, IfOk, IfErr, refl, sym, ap, subst, ◌∙◌, arith, ⊎_elim, ◌⊎◌, inl, inr, length-append, drop-drop, length-take}
-use Rattle.net_core.proofs.Library.{position_or_len, cases_eq, cases_lt, prefix_len-le-length, same_is}
-use Rattle.net_core.specs.Terms.{are_same}
-use Rattle.snd_tokens.specs.Terms.{first_line, second_line, trimmed, Text, WordAt, OpenAt, CloseAt, EndAt, text_from, text_of, tokens_from}
-use Rattle.snd_tokens.proofs.Scan.{tokens_from-end}
-use Rattle.text_kit.specs.Answers.{AnswersAs, ReadsAllAs}
-use Rattle.text_kit.specs.Files.{IsNotTooEarly, SpellsAs, SpellsBy, body, file_at}
-use Rattle.text_kit.specs.Items.{Item, Begins}
-use Rattle.text_kit.specs.Laws.{WrittenIsRead}
-use Rattle.text_kit.specs.Places.{EndsBefore}
-use Rattle.text_kit.specs.Reading.{Read, Reading, after, give, mapped}
-use Rattle.text_kit.specs.Written.{written}
-use Rattle.text_kit.specs.declared.refusal.Refusal.{Refusal}
-use Rattle.text_kit.specs.declared.refusal.Refusal.TheVariants.{Bad, NoMemory}
-use Rattle.text_kit.proofs.Agreeing.{files_agree, run_same, take_less}
-use Rattle.text_kit.proofs.Lawful.{IsEnd, Lawful, is_same}
-use Rattle.text_kit.proofs.Numerals.{drop_first, take_first}
-use Rattle.text_kit.proofs.Online.{IsOnline, err_parts, ok_parts, online_give, online_then, same_fault}
-use Rattle.text_kit.proofs.Spelled.{Spelled}
-use Rattle.text_kit.proofs.Rising.{RisesFrom, file_rises}
-use Rattle.text_kit.proofs.Written.{written_begins}
+use Rattle.net_core.{proofs.Library.{position_or_len, cases_eq, cases_lt, prefix_len-le-length, same_is}, specs.Terms.are_same}
+use Rattle.snd_tokens.{specs.Terms.{first_line, second_line, trimmed, Text, WordAt, OpenAt, CloseAt, EndAt, text_from, text_of, tokens_from}, proofs.Scan.tokens_from-end}
+use Rattle.text_kit.{specs.Answers.{AnswersAs, ReadsAllAs}, specs.Files.{IsNotTooEarly, SpellsAs, SpellsBy, body, file_at}, specs.Items.{Item, Begins}, specs.Laws.WrittenIsRead, specs.Places.EndsBefore, specs.Reading.{Read, Reading, after, give, mapped}, specs.Written.written, specs.declared.refusal.Refusal.Refusal, specs.declared.refusal.Refusal.TheVariants.{Bad, NoMemory}, proofs.Agreeing.{files_agree, run_same, take_less}, proofs.Lawful.{IsEnd, Lawful, is_same}, proofs.Numerals.{drop_first, take_first}, proofs.Online.{IsOnline, err_parts, ok_parts, online_give, online_then, same_fault}, proofs.Spelled.Spelled, proofs.Rising.{RisesFrom, file_rises}, proofs.Written.written_begins}
 
 -- ---- first lines
 

@@ -1,14 +1,10 @@
 -- Readings that take exactly the texts of what they give.
 use Rattle.std.proofs.Common.{◌≡◌, ℕ, ◌<◌, ◌≤◌, Bool, true, false, cond, List, [], ◌∷◌, ◌++◌, length, Option, None, Result, Ok, Err, refl, sym, ap, subst, ◌∙◌, arith, append-nil, length-append, flat_map}
-use Rattle.net_core.specs.Terms.{are_same}
+use Rattle.net_core.{specs.Terms.are_same, proofs.Checks.same_is}
 use Rattle.snd_tokens.specs.Terms.{Text, WordAt, OpenAt, CloseAt, EndAt}
-use Rattle.text_kit.specs.Items.{ComeAfter, AreSpelled, Item, Verbatim, Whole, Money, Opening, Closing, SpellsItem, Begins}
-use Rattle.text_kit.specs.Reading.{Read, Reading, after, ◌>>=◌, give, word_at, open_at, close_at, end_at, expected, Ending, Parenthesis, list_at, not_empty, whole_at}
+use Rattle.text_kit.{specs.Items.{ComeAfter, AreSpelled, Item, Verbatim, Whole, Money, Opening, Closing, SpellsItem, Begins}, specs.Reading.{Read, Reading, after, ◌>>=◌, give, word_at, open_at, close_at, end_at, expected, Ending, Parenthesis, list_at, not_empty, whole_at}, proofs.Online.{ok_parts, placed_ok}, proofs.Spelled.{after_parts, law_spelled, parts_after, spelled_as, spelled_elements, spelled_law}}
 pub use Rattle.text_kit.proofs.Beginnings.{AnyText, IsEnd, IsLeftBy, Starts, StartsBefore, begins_both, begins_parts, ending_again, ending_items, ending_takes, is_same, no_ending, sound_ok, starts_less}
-use Rattle.text_kit.proofs.Online.{ok_parts, placed_ok}
 pub use Rattle.text_kit.proofs.Spelled.{Lawful}
-use Rattle.text_kit.proofs.Spelled.{after_parts, law_spelled, parts_after, spelled_as, spelled_elements, spelled_law}
-use Rattle.net_core.proofs.Checks.{same_is}
 
 pub lawful_give : {K X : Type 0} (v : X) → Lawful {K = K} (give v) (λ x. []) (λ x. v ≡ x) AnyText
 lawful_give {K} v = record {

@@ -1,13 +1,7 @@
 -- Which words are names: any, new ones, and those that name something.
 use Rattle.std.proofs.Common.{◌≡◌, ◌≢◌, ℕ, ◌<◌, ◌≤◌, Bool, true, false, cond, nat_lt, List, [], ◌∷◌, length, get_or, All, AllPairs, Option, None, Some, Ok, refl, sym, ap, subst, ◌∙◌, arith, position, ltb-true, ltb-false, le-ltb, lt-ltb}
-use Rattle.net_core.proofs.Library.{position_or_len, position-Some, position_or_len_is, differ, same_is}
-use Rattle.net_core.specs.Terms.{are_same, is_named}
-use Rattle.text_kit.specs.Items.{ComeAfter, Verbatim}
-use Rattle.text_kit.specs.Names.{any_name, found_or, long_name_fault, named_place, new_name, new_name_fault}
-use Rattle.text_kit.specs.Reading.{sound, word_at}
-use Rattle.text_kit.proofs.After.{all_after, after_all, after_as, after_both, after_differ, differ_after}
-use Rattle.text_kit.proofs.Lawful.{AnyText, Lawful, after_few, few_after, is_same, lawful_word, sound_ok}
-use Rattle.text_kit.proofs.Outcomes.{unless_ok}
+use Rattle.net_core.{proofs.Library.{position_or_len, position-Some, position_or_len_is, differ, same_is}, specs.Terms.{are_same, is_named}}
+use Rattle.text_kit.{specs.Items.{ComeAfter, Verbatim}, specs.Names.{any_name, found_or, long_name_fault, named_place, new_name, new_name_fault}, specs.Reading.{sound, word_at}, proofs.After.{all_after, after_all, after_as, after_both, after_differ, differ_after}, proofs.Lawful.{AnyText, Lawful, after_few, few_after, is_same, lawful_word, sound_ok}, proofs.Outcomes.unless_ok}
 
 -- ---- any name
 

@@ -1,12 +1,6 @@
 -- Numbers and money as they are written, and read again.
-use Rattle.std.proofs.Common.{◌≡◌, ℕ, zero, suc, ◌+◌, ◌-◌, ◌*◌, ◌^◌, ◌/◌, ◌%◌, ◌≤◌, ◌<◌, ◌==◌, ◌||◌, Bool, true, false, nat_le, List, [], ◌∷◌, ◌++◌, length, take, drop, replicate, Ok, refl, sym, ap, ◌∙◌, arith, append-nil, length-append, subst, decimal, bytes_eq, ne_eqb, lt-ltb, le-leb, leb-true, drop-drop}
-use Rattle.net_core.proofs.Library.{list_all, position_or_len, and_from, or_right, and_parts, pow-le-pow_right, drop_all}
-use Rattle.std.proofs.Math.Nat.{pow-suc, mul-le-mul_left, div-div-eq-div-mul}
-use Rattle.std.proofs.lemmas.List.Folds.{list_all-append}
-use Rattle.std.proofs.lemmas.Fmt.{decimal_by_steps_wide}
-use Rattle.net_core.specs.declared.places.Places.{Places}
-use Rattle.net_core.specs.declared.places.Places.TheVariants.{Three, Six}
-use Rattle.net_core.specs.Terms.{digits_after_point, is_plain, is_word_byte}
+use Rattle.std.{proofs.Common.{◌≡◌, ℕ, zero, suc, ◌+◌, ◌-◌, ◌*◌, ◌^◌, ◌/◌, ◌%◌, ◌≤◌, ◌<◌, ◌==◌, ◌||◌, Bool, true, false, nat_le, List, [], ◌∷◌, ◌++◌, length, take, drop, replicate, Ok, refl, sym, ap, ◌∙◌, arith, append-nil, length-append, subst, decimal, bytes_eq, ne_eqb, lt-ltb, le-leb, leb-true, drop-drop}, proofs.Math.Nat.{pow-suc, mul-le-mul_left, div-div-eq-div-mul}, proofs.lemmas.List.Folds.list_all-append, proofs.lemmas.Fmt.decimal_by_steps_wide}
+use Rattle.net_core.{proofs.Library.{list_all, position_or_len, and_from, or_right, and_parts, pow-le-pow_right, drop_all}, specs.declared.places.Places.Places, specs.declared.places.Places.TheVariants.{Three, Six}, specs.Terms.{digits_after_point, is_plain, is_word_byte}}
 use Rattle.snd_tokens.specs.Terms.{decimal_below, first_places, is_coarse, is_decimal, is_point, money_of, places_of, units, whole_part, is_digit, are_digits, number_of, begins_with_zero, whole_of}
 use Rattle.text_kit.specs.Written.{last_digit, last_digits, money_word}
 

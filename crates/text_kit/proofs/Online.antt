@@ -2,10 +2,7 @@
 use Rattle.std.proofs.Common.{◌≡◌, ℕ, zero, suc, ◌<◌, ◌≤◌, Bool, true, false, cond, List, [], ◌∷◌, ◌++◌, Option, None, Some, Result, Ok, Err, refl, sym, ap, subst, ◌∙◌, arith}
 use Rattle.net_core.specs.Terms.{are_same}
 use Rattle.snd_tokens.specs.Terms.{Text, WordAt, OpenAt, CloseAt, EndAt, size}
-use Rattle.text_kit.specs.Places.{place}
-use Rattle.text_kit.specs.Reading.{Read, Reading, after, ◌>>=◌, give, placed, step_at, word_at, open_at, close_at, end_at, over_at, Ending, Parenthesis, TheEnd, TheWord, past_ending, sound, ended_or, elements_at, list_at, whole_at}
-use Rattle.text_kit.proofs.Beginnings.{is_same, this_word}
-use Rattle.text_kit.proofs.Alike.{AgreeThrough, Rises, Same, agree_same, past, past_size, past_sum, plus, plus_plus, plus_suc, same_all}
+use Rattle.text_kit.{specs.Places.place, specs.Reading.{Read, Reading, after, ◌>>=◌, give, placed, step_at, word_at, open_at, close_at, end_at, over_at, Ending, Parenthesis, TheEnd, TheWord, past_ending, sound, ended_or, elements_at, list_at, whole_at}, proofs.Beginnings.{is_same, this_word}, proofs.Alike.{AgreeThrough, Rises, Same, agree_same, past, past_size, past_sum, plus, plus_plus, plus_suc, same_all}}
 
 -- what was read, by how many lexemes
 pub record Took {K X : Type 0} (r : Reading K X) (text : Text) (x : X) (rest : Text) : Type 0 where

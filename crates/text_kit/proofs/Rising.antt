@@ -1,10 +1,8 @@
 -- The lexemes of a file come one after another.
 use Rattle.std.proofs.Common.{◌≡◌, ℕ, zero, suc, ◌+◌, ◌≤◌, ◌==◌, true, false, cond, not, List, [], ◌∷◌, ◌++◌, length, drop, arith, length-drop}
-use Rattle.snd_tokens.specs.declared.token.Token.{Token}
+use Rattle.snd_tokens.{specs.declared.token.Token.Token, specs.Terms.{starts_token, run_length, extent, token_of, begun, tokens_past, tokens_from, Text, text_of, text_from}}
+use Rattle.text_kit.{specs.Places.place, proofs.Alike.Rises}
 use Rattle.snd_tokens.specs.declared.token.TokenKind.TheVariants as kinds
-use Rattle.snd_tokens.specs.Terms.{starts_token, run_length, extent, token_of, begun, tokens_past, tokens_from, Text, text_of, text_from}
-use Rattle.text_kit.specs.Places.{place}
-use Rattle.text_kit.proofs.Alike.{Rises}
 
 -- the lexemes rise, and the first is at this place or after it
 abbrev pub RisesFrom : ℕ → Text → Type 0

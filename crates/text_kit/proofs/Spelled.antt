@@ -1,11 +1,7 @@
 -- Readings that take exactly the texts whose items spell what they give, where one value may have several spellings.
 use Rattle.std.proofs.Common.{◌≡◌, ℕ, zero, suc, ◌<◌, List, [], ◌∷◌, ◌++◌, Option, None, Some, Result, Ok, Err, refl, sym, ap, subst, ◌∙◌, arith, append-nil, append_assoc}
 use Rattle.snd_tokens.specs.Terms.{Text, WordAt, OpenAt, CloseAt, EndAt, size}
-use Rattle.text_kit.specs.Items.{ComeAfter, AreSpelled, Item, Verbatim, Opening, Closing, Begins}
-use Rattle.text_kit.specs.Places.{place}
-use Rattle.text_kit.specs.Reading.{Read, Reading, after, ◌>>=◌, give, placed, word_at, Ending, Parenthesis, past_ending, sound, ended_or, list_at}
-use Rattle.text_kit.proofs.Beginnings.{AnyText, IsLeftBy, Starts, StartsBefore, begins_both, begins_parts, ending_items, ending_takes, ending_again, no_ending, sound_ok, starts_less}
-use Rattle.text_kit.proofs.Online.{at_ending, before_ending, elements, more, ok_parts, placed_ok}
+use Rattle.text_kit.{specs.Items.{ComeAfter, AreSpelled, Item, Verbatim, Opening, Closing, Begins}, specs.Places.place, specs.Reading.{Read, Reading, after, ◌>>=◌, give, placed, word_at, Ending, Parenthesis, past_ending, sound, ended_or, list_at}, proofs.Beginnings.{AnyText, IsLeftBy, Starts, StartsBefore, begins_both, begins_parts, ending_items, ending_takes, ending_again, no_ending, sound_ok, starts_less}, proofs.Online.{at_ending, before_ending, elements, more, ok_parts, placed_ok}}
 
 -- what is read from a text is spelled by items at its beginning, and what such items spell is read
 pub record Spelled {K X : Type 0} (r : Reading K X) (Of : X → List Item → Type 0) (IsLeft : Text → Type 0) : Type 0 where

@@ -1,9 +1,7 @@
 -- TakesElement of a list.
 use Rattle.std.proofs.Common.{◌≡◌, ℕ, zero, suc, ◌<◌, List, [], ◌∷◌, ◌++◌, Option, None, Some, Ok, Err, refl, ap, ◌∙◌, arith}
 use Rattle.snd_tokens.specs.Terms.{Text, size}
-use Rattle.text_kit.specs.Places.{place}
-use Rattle.text_kit.specs.Reading.{Read, Reading, after, give, mapped, Ending, Parenthesis, past_ending, placed, sound, ended_or, list_at, no_fault, each_at}
-use Rattle.text_kit.proofs.Online.{TakesSome, before_ending, elements, more}
+use Rattle.text_kit.{specs.Places.place, specs.Reading.{Read, Reading, after, give, mapped, Ending, Parenthesis, past_ending, placed, sound, ended_or, list_at, no_fault, each_at}, proofs.Online.{TakesSome, before_ending, elements, more}}
 
 module _ {K X : Type 0} (ending : Ending) (fault : List X → Option K) (one : List X → Reading K X) (some : (sofar : List X) → TakesSome (one sofar)) where
   abbrev E : ℕ → List X → Reading K (List X)

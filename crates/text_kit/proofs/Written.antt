@@ -1,13 +1,9 @@
 -- A text that was written begins with its items.
 use Rattle.std.proofs.Common.{◌≡◌, ℕ, ◌+◌, ◌-◌, ◌≤◌, ◌<◌, ◌==◌, ◌||◌, Bool, true, false, not, List, [], ◌∷◌, ◌++◌, length, get_or, take, drop, refl, sym, ap, subst, ◌∙◌, arith, length-drop, length-append, drop-cons, add-one, append_assoc, decimal, drop-drop}
-use Rattle.net_core.proofs.Library.{AllByRecursion, list_all, and_parts}
+use Rattle.net_core.{proofs.Library.{AllByRecursion, list_all, and_parts}, specs.Terms.{is_plain, is_space, is_word_byte}}
+use Rattle.snd_tokens.{specs.Terms.{run_length, starts_token, token_of, token_bytes, tokens_from, Text, WordAt, OpenAt, CloseAt, EndAt, text_of, text_from}, proofs.Scan.{tokens_from-close, tokens_from-end, tokens_from-open, tokens_from-space, tokens_from-word}}
+use Rattle.text_kit.{specs.Items.{Item, Verbatim, Whole, Money, Opening, Closing, SpellsItem, Begins}, specs.Written.{IsWritable, byte_after, money_word, word_of, written}, proofs.Numerals.{decimal_plain, decimal_writes, drop_first, money_again, money_plain, take_first, whole_again}}
 use Rattle.snd_tokens.specs.declared.token.TokenKind.TheVariants as kinds
-use Rattle.net_core.specs.Terms.{is_plain, is_space, is_word_byte}
-use Rattle.snd_tokens.specs.Terms.{run_length, starts_token, token_of, token_bytes, tokens_from, Text, WordAt, OpenAt, CloseAt, EndAt, text_of, text_from}
-use Rattle.snd_tokens.proofs.Scan.{tokens_from-close, tokens_from-end, tokens_from-open, tokens_from-space, tokens_from-word}
-use Rattle.text_kit.specs.Items.{Item, Verbatim, Whole, Money, Opening, Closing, SpellsItem, Begins}
-use Rattle.text_kit.specs.Written.{IsWritable, byte_after, money_word, word_of, written}
-use Rattle.text_kit.proofs.Numerals.{decimal_plain, decimal_writes, drop_first, money_again, money_plain, take_first, whole_again}
 
 -- a byte at a place, and the bytes after it
 pub record From (whole : List ℕ) (at b : ℕ) (bytes : List ℕ) : Type 0 where

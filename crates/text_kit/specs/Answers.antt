@@ -1,10 +1,7 @@
 -- what functions answer of a reading
 use Rattle.std.specs.Prelude.{◌≡◌, ℕ, Bool, true, false, Option, None, Some, Result, Ok, Err}
 use Rattle.snd_tokens.specs.Terms.{Text, WordAt, OpenAt, CloseAt, EndAt}
-use Rattle.text_kit.specs.Places.{place}
-use Rattle.text_kit.specs.Reading.{Read, Ending, Parenthesis, TheEnd, past_ending}
-use Rattle.text_kit.specs.declared.refusal.Refusal.{Refusal}
-use Rattle.text_kit.specs.declared.refusal.Refusal.TheVariants.{Bad, NoMemory}
+use Rattle.text_kit.{specs.Places.place, specs.Reading.{Read, Ending, Parenthesis, TheEnd, past_ending}, specs.declared.refusal.Refusal.Refusal, specs.declared.refusal.Refusal.TheVariants.{Bad, NoMemory}}
 
 -- what a refusal says of a reading: that this is its first fault; running out of memory says nothing
 abbrev pub Fails : {K Y : Type 0} → Refusal K → Read K Y → Type 0

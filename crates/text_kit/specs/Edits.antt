@@ -1,8 +1,6 @@
 -- edits of demands as items of a text, and items between parentheses
 use Rattle.std.specs.Prelude.{ℕ, ◌≤◌, ◌<◌, ◌^◌, List, [], ◌∷◌, ◌++◌, length, codes}
-use Rattle.net_core.specs.declared.journal.Edit.{Edit}
-use Rattle.net_core.specs.declared.journal.Edit.TheVariants.{Set, Add, Drop}
-use Rattle.net_core.specs.declared.places.Places.{Places}
+use Rattle.net_core.{specs.declared.journal.Edit.Edit, specs.declared.journal.Edit.TheVariants.{Set, Add, Drop}, specs.declared.places.Places.Places}
 use Rattle.text_kit.specs.Items.{Item, Verbatim, Money, Opening, Closing}
 
 -- items between parentheses

@@ -2,11 +2,7 @@
 use Rattle.std.specs.Prelude.{◌≡◌, ℕ, if◌then◌else◌, List, take, Err}
 use Rattle.net_core.specs.Terms.{are_same}
 use Rattle.snd_tokens.specs.Terms.{HasHeader, first_line, second_line, trimmed, Text, text_from}
-use Rattle.text_kit.specs.Items.{Item, IsMadeOf}
-use Rattle.text_kit.specs.Places.{EndsBefore}
-use Rattle.text_kit.specs.Reading.{Read, Reading}
-use Rattle.text_kit.specs.declared.refusal.Refusal.{Refusal}
-use Rattle.text_kit.specs.declared.refusal.Refusal.TheVariants.{Bad, NoMemory}
+use Rattle.text_kit.{specs.Items.{Item, IsMadeOf}, specs.Places.EndsBefore, specs.Reading.{Read, Reading}, specs.declared.refusal.Refusal.Refusal, specs.declared.refusal.Refusal.TheVariants.{Bad, NoMemory}}
 
 -- the text after the first line
 abbrev pub body : List ℕ → Text

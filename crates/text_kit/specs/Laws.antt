@@ -1,10 +1,7 @@
 -- what writing and reading keep
-use Rattle.std.specs.Prelude.{◌≡◌, ℕ, List, ◌∷◌, ◌++◌}
-use Rattle.std.specs.List.{AllByRecursion}
+use Rattle.std.{specs.Prelude.{◌≡◌, ℕ, List, ◌∷◌, ◌++◌}, specs.List.AllByRecursion}
 use Rattle.snd_tokens.specs.Terms.{first_line, trimmed}
-use Rattle.text_kit.specs.Files.{IsFileOf}
-use Rattle.text_kit.specs.Items.{Item}
-use Rattle.text_kit.specs.Written.{IsWritable, written}
+use Rattle.text_kit.{specs.Files.IsFileOf, specs.Items.Item, specs.Written.{IsWritable, written}}
 
 -- one line without blanks at its end
 pub record IsHeaderLine (line : List ℕ) : Type 0 where

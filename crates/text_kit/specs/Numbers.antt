@@ -1,7 +1,6 @@
 -- words that are numbers
 use Rattle.std.specs.Prelude.{ℕ, List, Result, Ok, Err, codes}
-use Rattle.snd_tokens.specs.declared.amounts.NumberFault.{NumberFault}
-use Rattle.snd_tokens.specs.declared.amounts.NumberFault.TheVariants.{NotANumber, TooFine, TooLarge}
+use Rattle.snd_tokens.{specs.declared.amounts.NumberFault.NumberFault, specs.declared.amounts.NumberFault.TheVariants.{NotANumber, TooFine, TooLarge}}
 
 -- a number, or its fault as one of a format's kinds
 abbrev pub number_or : {K : Type 0} → (NumberFault → K) → Result ℕ NumberFault → Result ℕ K

@@ -1,8 +1,6 @@
 -- the text of items, as it is written
-use Rattle.std.specs.Prelude.{◌≡◌, ℕ, ◌+◌, ◌/◌, ◌%◌, ◌<◌, ◌≤◌, ◌^◌, zero, suc, true, List, [], ◌∷◌, ◌++◌, length, decimal}
-use Rattle.std.specs.List.{AllByRecursion}
-use Rattle.net_core.specs.declared.places.Places.{Places}
-use Rattle.net_core.specs.Terms.{IsName, is_plain, digits_after_point}
+use Rattle.std.{specs.Prelude.{◌≡◌, ℕ, ◌+◌, ◌/◌, ◌%◌, ◌<◌, ◌≤◌, ◌^◌, zero, suc, true, List, [], ◌∷◌, ◌++◌, length, decimal}, specs.List.AllByRecursion}
+use Rattle.net_core.{specs.declared.places.Places.Places, specs.Terms.{IsName, is_plain, digits_after_point}}
 use Rattle.text_kit.specs.Items.{Item, Verbatim, Whole, Money, Opening, Closing}
 
 -- the last digit of a number

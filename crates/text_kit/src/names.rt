@@ -1,9 +1,7 @@
 ghost use Rattle.std.specs.Prelude.{◌≡◌, ◌≤◌, false, nat_lt, length, None, IfOk, IsTrue};
 ghost use Rattle.snd_tokens.specs.Terms.{EndAt};
 ghost use Rattle.net_core.specs.Terms.{is_plain};
-ghost use Rattle.text_kit.specs.Answers.{ReadsAs};
-ghost use Rattle.text_kit.specs.Names.{long_name_fault, new_name_fault};
-ghost use Rattle.text_kit.specs.Reading.{placed, sound};
+ghost use Rattle.text_kit.{specs.Answers.ReadsAs, specs.Names.{long_name_fault, new_name_fault}, specs.Reading.{placed, sound}};
 
 use crate::refusal::{Refusal, bad};
 use net_core::{Name, NameFault, NoMemory};

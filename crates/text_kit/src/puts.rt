@@ -1,8 +1,6 @@
 ghost use Rattle.std.specs.Prelude.{◌<◌, ◌^◌, ◌∷◌, [], OnOk};
 ghost use Rattle.net_core.specs.Terms.{IsName};
-ghost use Rattle.text_kit.specs.Edits.{ends_items};
-ghost use Rattle.text_kit.specs.Items.{Item, Verbatim, Whole, Money, Opening, Closing};
-ghost use Rattle.text_kit.specs.Written.{AddsItems, money_word};
+ghost use Rattle.text_kit.{specs.Edits.ends_items, specs.Items.{Item, Verbatim, Whole, Money, Opening, Closing}, specs.Written.{AddsItems, money_word}};
 
 use crate::write;
 use net_core::{Bytes, Name, NoMemory, Places};

@@ -1,9 +1,7 @@
 ghost use Rattle.std.specs.Prelude.{◌≡◌, ◌≤◌, true, false, length, IfOk, IfErr, IsTrue};
 ghost use Rattle.net_core.specs.Terms.{are_same, is_plain};
 ghost use Rattle.snd_tokens.specs.Terms.{first_line, trimmed, EndAt, WordAt, left};
-ghost use Rattle.text_kit.specs.Answers.{Closes, Fails, ReadsAs, IsAtEnd, LacksWord};
-ghost use Rattle.text_kit.specs.Files.{body};
-ghost use Rattle.text_kit.specs.Reading.{close_at, end_at, expected, open_at, over_at, placed, word_at};
+ghost use Rattle.text_kit.{specs.Answers.{Closes, Fails, ReadsAs, IsAtEnd, LacksWord}, specs.Files.body, specs.Reading.{close_at, end_at, expected, open_at, over_at, placed, word_at}};
 
 use crate::refusal::{Refusal, bad};
 use snd_tokens::{Cursor, Next};

@@ -1,7 +1,6 @@
 ghost use Rattle.std.specs.Prelude.{◌≡◌, ◌++◌, ◌∷◌, ◌/◌, ◌^◌, [], OnOk, decimal};
 ghost use Rattle.net_core.specs.Terms.{digits_after_point};
-ghost use Rattle.text_kit.specs.Items.{Item, Verbatim, Whole, Money, Opening, Closing};
-ghost use Rattle.text_kit.specs.Written.{last_digit, last_digits, money_word, written};
+ghost use Rattle.text_kit.{specs.Items.{Item, Verbatim, Whole, Money, Opening, Closing}, specs.Written.{last_digit, last_digits, money_word, written}};
 
 use itoa::Buffer;
 use net_core::{Bytes, NoMemory, Places};

@@ -1,8 +1,7 @@
 -- columns, one more after another
 use Rattle.std.proofs.Common.{◌≡◌, ℕ, zero, suc, ◌+◌, List, [], ◌∷◌, ◌++◌, None, Some, ◌⊎◌, inl, inr, length, length-append, slice_get, refl, sym, ap, subst, arith, ⊎_elim}
 use Rattle.net_core.proofs.Library.{slice_get_within}
-use Rattle.text_table.specs.Cells.{AreWidened, IsWidened}
-use Rattle.text_table.specs.declared.column.Column.{Column}
+use Rattle.text_table.{specs.Cells.{AreWidened, IsWidened}, specs.declared.column.Column.Column}
 
 -- what is at a place of a list with one item more
 pushed : {X : Type 0} (xs : List X) (x : X) (k : ℕ) (y : X) → slice_get (xs ++ x ∷ []) k ≡ Some y → (slice_get xs k ≡ Some y) ⊎ ((k ≡ length xs) × (x ≡ y))

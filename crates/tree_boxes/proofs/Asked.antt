@@ -3,12 +3,8 @@ use Rattle.std.proofs.Common.{◌≡◌, ◌∙◌, ℕ, ◌+◌, ◌^◌, ◌<�
 use Rattle.net_core.proofs.Library.{∥∥₁_elim, props}
 use Rattle.module_choice.proofs.Carrying.{get_cases}
 use Rattle.plan_terms.specs.Terms.{AreCounts, AreDemands, Case, IsNetwork, Joins, Link, Routing, capacities, graph_in, total_cost}
-use Rattle.plan_swaps.specs.Terms.{AreRoutingsWithin, IsRoutingWithin}
-use Rattle.plan_swaps.proofs.Lemmas.{shape_at_most, total_at_most}
-use Rattle.tree_boxes.specs.Finds.{AreCheaperCounts}
-use Rattle.tree_boxes.specs.inner.Lowering.{HaveRoomFor}
-use Rattle.tree_boxes.proofs.Loads.{within_lowered}
-use Rattle.tree_boxes.proofs.Lowering.{room_at_most, room_limits}
+use Rattle.plan_swaps.{specs.Terms.{AreRoutingsWithin, IsRoutingWithin}, proofs.Lemmas.{shape_at_most, total_at_most}}
+use Rattle.tree_boxes.{specs.Finds.AreCheaperCounts, specs.inner.Lowering.HaveRoomFor, proofs.Loads.within_lowered, proofs.Lowering.{room_at_most, room_limits}}
 
 -- what is pre-installed is little
 pub fixed_low : (nodes : List (List ℕ)) (links : List Link) → ∥ IsNetwork nodes links ∥₁ → All (λ l. l.fixed < 2 ^ 40) links

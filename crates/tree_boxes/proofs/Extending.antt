@@ -1,31 +1,15 @@
 -- what is known of a search and its tree stays where cuts are put after
-use Rattle.std.proofs.Common.{◌≡◌, ℕ, ◌+◌, ◌^◌, ◌≤◌, false, List, [], ◌∷◌, ◌++◌, All, Some, append-nil, length, length-append, map, slice_get, take, refl, ap, subst, sym, ◌∙◌, arith, append_assoc}
-use Rattle.std.proofs.lemmas.List.{take-append-le}
-use Rattle.std.specs.List.{AllZip}
+use Rattle.std.{proofs.Common.{◌≡◌, ℕ, ◌+◌, ◌^◌, ◌≤◌, false, List, [], ◌∷◌, ◌++◌, All, Some, append-nil, length, length-append, map, slice_get, take, refl, ap, subst, sym, ◌∙◌, arith, append_assoc}, proofs.lemmas.List.take-append-le, specs.List.AllZip}
 use Rattle.net_core.proofs.Library.{All-weaker, get_front}
 use Rattle.plan_terms.specs.Terms.{Case, CutLine, Link}
 use Rattle.plan_report.specs.Terms.{CertLine, Plan}
-use Rattle.line_check.specs.Terms.{names_by, Multiplier}
-use Rattle.tree_check.specs.Terms.{Tested, Inequality, TreeBox}
-use Rattle.line_check.proofs.NamesOn.{tested_front}
-use Rattle.tree_check.specs.declared.boxes.Span.{Span}
-use Rattle.tree_check.specs.declared.proof.BoxCert.{BoxCert}
-use Rattle.tree_check.proofs.Naming.{holds_map, value_map}
+use Rattle.line_check.{specs.Terms.{names_by, Multiplier}, proofs.NamesOn.tested_front}
+use Rattle.tree_check.{specs.Terms.{Tested, Inequality, TreeBox}, specs.declared.boxes.Span.Span, specs.declared.proof.BoxCert.BoxCert, proofs.Naming.{holds_map, value_map}}
 use Rattle.plan_swaps.specs.Terms.{IsTestOf as IsAbleTestOf}
-use Rattle.proof_order.specs.Orders.{cuts_among}
-use Rattle.proof_order.specs.declared.entry.Entry.{Entry}
+use Rattle.proof_order.{specs.Orders.cuts_among, specs.declared.entry.Entry.Entry}
+use Rattle.tree_boxes.{specs.declared.aim.Aim.Aim, specs.declared.known.Known.Known, specs.declared.certs.Valued.Valued, specs.declared.search.Search.Search, specs.declared.twigs.OpenBox.OpenBox, specs.declared.twigs.Twig.Twig, specs.Searches.{Extends, HasLearned, IsAim, IsKnown, IsSearch, IsOwnCert, handed_in, most_entries}, specs.Finds.{IsOpenBox, IsSearchBox, IsTwigOf, IsValued}, proofs.Knowing.known_same, proofs.OwnValues.IsOwnLine}
 use Rattle.proof_order.specs.declared.entry.Entry.TheVariants as entry
-use Rattle.tree_boxes.specs.declared.aim.Aim.{Aim}
-use Rattle.tree_boxes.specs.declared.known.Known.{Known}
-use Rattle.tree_boxes.specs.declared.certs.Valued.{Valued}
-use Rattle.tree_boxes.specs.declared.search.Search.{Search}
-use Rattle.tree_boxes.specs.declared.twigs.OpenBox.{OpenBox}
-use Rattle.tree_boxes.specs.declared.twigs.Twig.{Twig}
 use Rattle.tree_boxes.specs.declared.twigs.Twig.TheVariants as twig
-use Rattle.tree_boxes.specs.Searches.{Extends, HasLearned, IsAim, IsKnown, IsSearch, IsOwnCert, handed_in, most_entries}
-use Rattle.tree_boxes.specs.Finds.{IsOpenBox, IsSearchBox, IsTwigOf, IsValued}
-use Rattle.tree_boxes.proofs.Knowing.{known_same}
-use Rattle.tree_boxes.proofs.OwnValues.{IsOwnLine}
 
 -- ---- items after items
 

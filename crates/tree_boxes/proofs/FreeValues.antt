@@ -1,15 +1,11 @@
 -- the certificate of no lines has a value where no least count is large
-use Rattle.std.proofs.Common.{◌≡◌, ◌≢◌, ℕ, zero, suc, ◌+◌, ◌-◌, ◌*◌, ◌%◌, ◌^◌, ◌≤◌, ◌<◌, Bool, true, false, if◌then◌else◌, List, [], ◌∷◌, All, ⊎_elim, get_or, length, map, refl, ap, arith, slice_index, subst, unwrap_or, mul-le-mul_left, mul-le-mul_right}
-use Rattle.std.specs.Int.{div_ceil}
+use Rattle.std.{proofs.Common.{◌≡◌, ◌≢◌, ℕ, zero, suc, ◌+◌, ◌-◌, ◌*◌, ◌%◌, ◌^◌, ◌≤◌, ◌<◌, Bool, true, false, if◌then◌else◌, List, [], ◌∷◌, All, ⊎_elim, get_or, length, map, refl, ap, arith, slice_index, subst, unwrap_or, mul-le-mul_left, mul-le-mul_right}, specs.Int.div_ceil}
 use Rattle.net_core.proofs.Library.{All-nil, IsGcd, IsGcd-from_mod, IsGcd-from_zero, cases_eq, recursion_from_All, mod_below, AllByRecursion}
 use Rattle.module_prices.proofs.Divisors.{rounded_up}
-use Rattle.plan_terms.proofs.Bounds.{bound_free, bound_rounded, bound_unique, divisor_both, divisor_none, divisor_one}
-use Rattle.plan_terms.specs.Terms.{IsBound, IsGreatestDivisor, IsModule, Link, Module, charges, sum_below}
-use Rattle.tree_check.specs.Terms.{any_count, span_at, HasBoxValue, IsBoxCertificate, all_gains, all_losses, certain_setup, certain_setups, module_charge, module_costs, module_gain, module_loss, value_gains, value_losses, TreeBox, Inequality}
+use Rattle.plan_terms.{proofs.Bounds.{bound_free, bound_rounded, bound_unique, divisor_both, divisor_none, divisor_one}, specs.Terms.{IsBound, IsGreatestDivisor, IsModule, Link, Module, charges, sum_below}}
+use Rattle.tree_check.{specs.Terms.{any_count, span_at, HasBoxValue, IsBoxCertificate, all_gains, all_losses, certain_setup, certain_setups, module_charge, module_costs, module_gain, module_loss, value_gains, value_losses, TreeBox, Inequality}, specs.declared.boxes.Span.Span}
 use Rattle.line_check.specs.Terms.{WeightedLine, entry, module_number, over_modules}
-use Rattle.tree_check.specs.declared.boxes.Span.{Span}
-use Rattle.tree_boxes.specs.Causes.{HasFreeValue}
-use Rattle.tree_boxes.specs.Finds.{AreLow}
+use Rattle.tree_boxes.{specs.Causes.HasFreeValue, specs.Finds.AreLow}
 
 -- ---- each value has a bound
 

@@ -1,21 +1,12 @@
 -- cuts and lines that are known, with their tests
-use Rattle.std.proofs.Common.{◌≡◌, ◌∙◌, ℕ, ◌+◌, ◌≤◌, ◌<◌, ◌^◌, zero, suc, true, false, inl, List, [], ◌∷◌, ◌++◌, All, Some, length, map, slice_get, refl, ap, subst, sym, arith}
-use Rattle.std.proofs.lemmas.List.{append_assoc, length-map, length_push, map_push}
+use Rattle.std.{proofs.Common.{◌≡◌, ◌∙◌, ℕ, ◌+◌, ◌≤◌, ◌<◌, ◌^◌, zero, suc, true, false, inl, List, [], ◌∷◌, ◌++◌, All, Some, length, map, slice_get, refl, ap, subst, sym, arith}, proofs.lemmas.List.{append_assoc, length-map, length_push, map_push}}
 use Rattle.net_core.proofs.Library.{All-map, All-push, get_or_from_slice_get, slice_get_within}
 use Rattle.plan_terms.specs.Terms.{Case, CutLine, IsCut, Link}
-use Rattle.line_check.specs.Terms.{line_of_cut, Source, sources_of, AreTested, IsTestedAs, names_by}
-use Rattle.line_check.proofs.NamesOn.{cut_names}
-use Rattle.line_check.proofs.TestedMore.{tested_more}
-use Rattle.tree_check.specs.Terms.{HasBoxValue, TreeBox, EmptiesBox, HasValueIn, names_in, Tested}
-use Rattle.tree_check.specs.declared.proof.BoxCert.{BoxCert}
-use Rattle.tree_check.specs.declared.tests.Tests.{Tests}
-use Rattle.tree_boxes.specs.declared.aim.Aim.{Aim}
-use Rattle.tree_boxes.specs.declared.known.Known.{Known}
-use Rattle.proof_order.specs.Orders.{cuts_among, is_cut_entry, lines_among, source_of}
-use Rattle.proof_order.specs.declared.entry.Entry.{Entry}
+use Rattle.line_check.{specs.Terms.{line_of_cut, Source, sources_of, AreTested, IsTestedAs, names_by}, proofs.NamesOn.cut_names, proofs.TestedMore.tested_more}
+use Rattle.tree_check.{specs.Terms.{HasBoxValue, TreeBox, EmptiesBox, HasValueIn, names_in, Tested}, specs.declared.proof.BoxCert.BoxCert, specs.declared.tests.Tests.Tests}
+use Rattle.proof_order.{specs.Orders.{cuts_among, is_cut_entry, lines_among, source_of}, specs.declared.entry.Entry.Entry, proofs.NamesKept.source_at}
+use Rattle.tree_boxes.{specs.declared.aim.Aim.Aim, specs.declared.known.Known.Known, specs.Searches.{IsKnown, IsSoundEntry, aimed}}
 use Rattle.proof_order.specs.declared.entry.Entry.TheVariants as entry
-use Rattle.proof_order.proofs.NamesKept.{source_at}
-use Rattle.tree_boxes.specs.Searches.{IsKnown, IsSoundEntry, aimed}
 
 -- ---- entries
 

@@ -1,12 +1,9 @@
 -- the certificate of no lines is worth what the least counts of a box cost
 use Rattle.std.proofs.Common.{◌≡◌, ◌≢◌, ℕ, ◌+◌, ◌-◌, ◌*◌, ◌≤◌, Bool, if◌then◌else◌, ◌||◌, List, [], ◌∷◌, ⊎_elim, get_or, length, map, zip, refl, ap, arith, slice_index, subst, ◌∙◌, nat_lt, unwrap_or}
 use Rattle.net_core.proofs.Library.{cases_eq, mul-div_cancel', recursion_from_All, sum_by-cons, ◌∣◌, below-first, below-none, below-same}
-use Rattle.plan_terms.proofs.Duality.{cost_divided}
-use Rattle.plan_terms.specs.Terms.{AreCounts, Link, Module, charges, installs, link_cost, modules_cost, sum_below, total_cost}
-use Rattle.tree_check.specs.Terms.{any_count, least_counts, span_at, all_gains, all_losses, certain_setup, certain_setups, installs_always, module_charge, module_costs, module_gain, module_loss, TreeBox}
-use Rattle.line_check.specs.Inequalities.{entry, module_number, module_price, over_modules}
-use Rattle.tree_check.specs.declared.boxes.Span.{Span}
-use Rattle.line_check.proofs.OverModules.{over-first, over-same}
+use Rattle.plan_terms.{proofs.Duality.cost_divided, specs.Terms.{AreCounts, Link, Module, charges, installs, link_cost, modules_cost, sum_below, total_cost}}
+use Rattle.tree_check.{specs.Terms.{any_count, least_counts, span_at, all_gains, all_losses, certain_setup, certain_setups, installs_always, module_charge, module_costs, module_gain, module_loss, TreeBox}, specs.declared.boxes.Span.Span}
+use Rattle.line_check.{specs.Inequalities.{entry, module_number, module_price, over_modules}, proofs.OverModules.{over-first, over-same}}
 use Rattle.tree_boxes.specs.Causes.{HasFreeValue}
 
 -- what the least counts of a link's modules cost

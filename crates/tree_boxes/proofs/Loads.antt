@@ -1,11 +1,9 @@
 -- routings within lowered counts
 use Rattle.std.proofs.Common.{◌≡◌, ℕ, zero, suc, ◌+◌, ◌*◌, ◌^◌, ◌≤◌, ◌<◌, ⊎_elim, List, [], ◌∷◌, Some, length, map, slice_get, slice_index, sum_by, refl, ap, subst, arith, mul-le-mul_right}
 use Rattle.net_core.proofs.Library.{recursion_from_All, slice_get_within, sum_by-cons, AllByRecursion, below-first, below-same, sums-equal}
-use Rattle.plan_terms.specs.Terms.{AreCounts, Carries, Demand, Flow, IsFlow, Link, Routing, capacities, load, sent, sum_below, total_need}
-use Rattle.plan_terms.proofs.Metric.{all_carried, all_weaker}
+use Rattle.plan_terms.{specs.Terms.{AreCounts, Carries, Demand, Flow, IsFlow, Link, Routing, capacities, load, sent, sum_below, total_need}, proofs.Metric.{all_carried, all_weaker}}
 use Rattle.module_choice.proofs.Carrying.{load_all}
-use Rattle.tree_boxes.specs.inner.Lowering.{HaveRoomFor}
-use Rattle.tree_boxes.proofs.Lowering.{room_at}
+use Rattle.tree_boxes.{specs.inner.Lowering.HaveRoomFor, proofs.Lowering.room_at}
 
 -- what all needs sum to, over a denominator
 needs_summed : (den : ℕ) (demands : List Demand) → sum_below (length demands) (λ k. slice_index (map (λ d. d.need) demands) k * den) ≡ total_need demands * den

@@ -5,27 +5,13 @@ use Rattle.module_choice.proofs.Carrying.{network_links}
 use Rattle.plan_swaps.specs.Terms.{IsWideSomewhere, whole_caps}
 use Rattle.plan_terms.specs.Terms.{AreCounts, AreDemands, Case, CutLine, Evidence, IsCut, IsNetwork, Link, Violates, capacities, total_cost}
 use Rattle.plan_types.specs.declared.plan.Plan.{Plan}
-use Rattle.tree_check.specs.Terms.{IsFixedBox, least_counts, HasBoxValue, TreeBox, EmptiesBox, Tested}
+use Rattle.tree_check.{specs.Terms.{IsFixedBox, least_counts, HasBoxValue, TreeBox, EmptiesBox, Tested}, specs.declared.boxes.Span.Span, specs.declared.proof.Node.TheVariants.Empty}
 use Rattle.line_check.specs.Terms.{line_of_cut, names_by}
-use Rattle.tree_check.specs.declared.boxes.Span.{Span}
-use Rattle.tree_check.specs.declared.proof.Node.TheVariants.{Empty}
-use Rattle.tree_boxes.specs.Causes.{HasFreeValue, IsUnsettled}
-use Rattle.tree_boxes.specs.declared.certs.Valued.{Valued}
-use Rattle.tree_boxes.specs.declared.found.Cheaper.{Cheaper}
+use Rattle.proof_order.specs.declared.entry.Entry.{Entry}
+use Rattle.tree_boxes.{specs.Causes.{HasFreeValue, IsUnsettled}, specs.declared.certs.Valued.Valued, specs.declared.found.Cheaper.Cheaper, specs.declared.search.Search.Search, specs.declared.known.Known.Known, specs.Finds.{AreCheaperCounts, IsFoundAt, IsSearchBox, IsValued}, specs.Searches.{IsKnown, IsSearch, handed_in}, proofs.Extending.low_box, proofs.FreeValues.free_value, proofs.LeastCosts.free_reaches, proofs.Knowing.{entry_at, place_names}, proofs.ViolatedCuts.violated_empties, proofs.WideForms.wide_form}
 use Rattle.tree_boxes.specs.declared.found.Found.TheVariants as found
 use Rattle.tree_boxes.specs.declared.twigs.Twig.TheVariants as twig
-use Rattle.proof_order.specs.declared.entry.Entry.{Entry}
 use Rattle.proof_order.specs.declared.entry.Entry.TheVariants as entry
-use Rattle.tree_boxes.specs.declared.search.Search.{Search}
-use Rattle.tree_boxes.specs.declared.known.Known.{Known}
-use Rattle.tree_boxes.specs.Finds.{AreCheaperCounts, IsFoundAt, IsSearchBox, IsValued}
-use Rattle.tree_boxes.specs.Searches.{IsKnown, IsSearch, handed_in}
-use Rattle.tree_boxes.proofs.Extending.{low_box}
-use Rattle.tree_boxes.proofs.FreeValues.{free_value}
-use Rattle.tree_boxes.proofs.LeastCosts.{free_reaches}
-use Rattle.tree_boxes.proofs.Knowing.{entry_at, place_names}
-use Rattle.tree_boxes.proofs.ViolatedCuts.{violated_empties}
-use Rattle.tree_boxes.proofs.WideForms.{wide_form}
 
 -- ---- settled boxes
 

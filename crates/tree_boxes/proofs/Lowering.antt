@@ -1,7 +1,5 @@
 -- counts that are lowered, and what they have room for
-use Rattle.std.proofs.Common.{◌≡◌, ℕ, zero, suc, ◌+◌, ◌-◌, ◌*◌, ◌^◌, ◌≤◌, ◌<◌, ◌⊎◌, inl, inr, ⊎_elim, List, [], ◌∷◌, ◌++◌, All, get_or, length, slice_index, zip, refl, ap, sym, subst, arith}
-use Rattle.std.proofs.lemmas.Slice.Zip.{all_zipped_more}
-use Rattle.std.specs.List.{AllZip}
+use Rattle.std.{proofs.Common.{◌≡◌, ℕ, zero, suc, ◌+◌, ◌-◌, ◌*◌, ◌^◌, ◌≤◌, ◌<◌, ◌⊎◌, inl, inr, ⊎_elim, List, [], ◌∷◌, ◌++◌, All, get_or, length, slice_index, zip, refl, ap, sym, subst, arith}, proofs.lemmas.Slice.Zip.all_zipped_more, specs.List.AllZip}
 use Rattle.net_core.proofs.Library.{cases_lt, All-cons, All-head, All-nil, All-push, All-tail, sum_by-cons, get_or_append_left, get_or_default, get_or_push}
 use Rattle.module_choice.proofs.Pairs.{counts_long}
 use Rattle.plan_terms.specs.Terms.{AreCounts, AreWithinLimits, IsModule, Link, Module, capacities, modules_capacity}

@@ -1,19 +1,12 @@
 -- a plan's certificate, by the indices of its cuts
-use Rattle.std.proofs.Common.{◌≡◌, ℕ, ◌+◌, ◌<◌, false, List, [], ◌∷◌, ◌++◌, Some, get_or, length, map, refl, ap, sym, subst, ◌∙◌, slice_get, take}
-use Rattle.std.proofs.lemmas.List.{take_more}
-use Rattle.std.proofs.lemmas.Slice.Zip.{all_zipped_more}
-use Rattle.std.specs.List.{AllZip}
+use Rattle.std.{proofs.Common.{◌≡◌, ℕ, ◌+◌, ◌<◌, false, List, [], ◌∷◌, ◌++◌, Some, get_or, length, map, refl, ap, sym, subst, ◌∙◌, slice_get, take}, proofs.lemmas.List.take_more, proofs.lemmas.Slice.Zip.all_zipped_more, specs.List.AllZip}
 use Rattle.plan_terms.specs.Terms.{Case, CutLine}
 use Rattle.plan_report.specs.Terms.{CertLine, Plan}
 use Rattle.line_check.specs.Terms.{AreNamedBy, line_of_cut, names_by, Multiplier}
-use Rattle.tree_check.specs.Terms.{HasBoxValue, IsBoxValue, TreeBox}
-use Rattle.tree_check.specs.declared.proof.BoxCert.{BoxCert}
+use Rattle.tree_check.{specs.Terms.{HasBoxValue, IsBoxValue, TreeBox}, specs.declared.proof.BoxCert.BoxCert}
 use Rattle.proof_order.specs.declared.entry.Entry.{Entry}
+use Rattle.tree_boxes.{specs.Causes.{HasPlanValue, lines_of_plan}, specs.declared.known.Known.Known, specs.Searches.{IsKnown, IsOwnCert}, proofs.Knowing.{entry_at, place_names}}
 use Rattle.proof_order.specs.declared.entry.Entry.TheVariants as entry
-use Rattle.tree_boxes.specs.Causes.{HasPlanValue, lines_of_plan}
-use Rattle.tree_boxes.specs.declared.known.Known.{Known}
-use Rattle.tree_boxes.specs.Searches.{IsKnown, IsOwnCert}
-use Rattle.tree_boxes.proofs.Knowing.{entry_at, place_names}
 
 -- an index with its numerator is a line of the plan's certificate
 abbrev pub IsOwnLine : List Entry → Multiplier → CertLine → Type 0

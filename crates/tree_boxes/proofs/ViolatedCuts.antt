@@ -3,11 +3,8 @@ use Rattle.std.proofs.Common.{◌≡◌, ℕ, zero, suc, ◌*◌, ◌<◌, List,
 use Rattle.net_core.proofs.Library.{length-map, recursion_from_All, AllByRecursion}
 use Rattle.plan_swaps.specs.Terms.{whole_caps}
 use Rattle.plan_terms.specs.Terms.{AreCounts, CutLine, Link, Violates, capacities}
-use Rattle.tree_check.specs.Terms.{IsFixedBox, IsFixedSpan, any_count, least_counts, span_at, IsEmptiedBy, most_along, TreeBox}
-use Rattle.line_check.specs.Inequalities.{coefficients_of, entry, line_of_cut, module_number, over_modules}
-use Rattle.tree_check.specs.declared.boxes.Span.{Span}
-use Rattle.line_check.proofs.CutLines.{capacities_along}
-use Rattle.line_check.proofs.OverModules.{over-same}
+use Rattle.tree_check.{specs.Terms.{IsFixedBox, IsFixedSpan, any_count, least_counts, span_at, IsEmptiedBy, most_along, TreeBox}, specs.declared.boxes.Span.Span}
+use Rattle.line_check.{specs.Inequalities.{coefficients_of, entry, line_of_cut, module_number, over_modules}, proofs.CutLines.capacities_along, proofs.OverModules.over-same}
 
 -- the span of a module has one count, which is that of the least counts
 record IsOneCount (s : Span) (n : ℕ) : Type 0 where

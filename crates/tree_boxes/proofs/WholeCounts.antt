@@ -1,7 +1,5 @@
 -- counts of a whole point: one for each module
-use Rattle.std.proofs.Common.{◌≡◌, ℕ, ◌+◌, ◌<◌, List, [], ◌∷◌, ◌++◌, get_or, length, take, ap, subst, sym, ◌∙◌}
-use Rattle.std.proofs.lemmas.List.{take_more}
-use Rattle.std.proofs.lemmas.Slice.Zip.{all_zipped_more}
+use Rattle.std.{proofs.Common.{◌≡◌, ℕ, ◌+◌, ◌<◌, List, [], ◌∷◌, ◌++◌, get_or, length, take, ap, subst, sym, ◌∙◌}, proofs.lemmas.List.take_more, proofs.lemmas.Slice.Zip.all_zipped_more}
 use Rattle.plan_terms.specs.Terms.{AreCounts, Link}
 
 -- the counts of a link more

@@ -1,14 +1,12 @@
 -- evidence at the capacities of counts is in form: it names columns and rows of its program alone
 use Rattle.std.proofs.Common.{◌≡◌, ℕ, ◌*◌, ◌^◌, ◌≤◌, ◌<◌, List, [], ◌∷◌, All, ⊎_elim, length, zip, ap, subst, sym, arith, slice_get, Some}
 use Rattle.net_core.proofs.Library.{All-from_recursion, cases_lt, get_or_from_slice_get, get_or_past, recursion_from_All, slice_get_within, sum_by-cons, mul-le, AllByRecursion}
-use Rattle.plan_swaps.specs.Terms.{IsWideSomewhere, whole_caps}
-use Rattle.plan_swaps.proofs.Lemmas.{path_found}
+use Rattle.plan_swaps.{specs.Terms.{IsWideSomewhere, whole_caps}, proofs.Lemmas.path_found}
 use Rattle.flow_router.specs.Answers.{IsEvidenceHere}
 use Rattle.module_choice.proofs.Pairs.{capacities_long}
 use Rattle.plan_report.specs.Terms.{AreCapsInForm, IsKindInForm, IsRouteColumnInForm, IsRouteEvidenceInForm, known_to}
 use Rattle.plan_terms.specs.Terms.{AreCounts, AreDemands, Caps, Case, Common, Demand, DemandSlack, Evidence, Graph, IsDemand, IsLink, IsModule, Length, Link, LinkSlack, Master, Module, Number, Product, Route, RouteColumn, Row, StateId, Sum, Value, WideKind, capacities, graph_in, modules_capacity}
-use Rattle.route_law.proofs.Lemmas.{beside_each}
-use Rattle.route_law.specs.Terms.{HasWideLength, HoldsOfRoute, IsCarrying, IsRouteColumn, IsRouteEvidence, route_bound, route_rows, route_slack}
+use Rattle.route_law.{proofs.Lemmas.beside_each, specs.Terms.{HasWideLength, HoldsOfRoute, IsCarrying, IsRouteColumn, IsRouteEvidence, route_bound, route_rows, route_slack}}
 use Rattle.simplex_law.specs.Terms.{AreNames, ColumnOf, IsFeasible, IsSlack}
 use Rattle.tree_check.specs.Proofs.{IsEvidenceAt}
 

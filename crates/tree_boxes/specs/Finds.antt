@@ -4,16 +4,9 @@ use Rattle.plan_terms.specs.Terms.{AreCounts, AreWithinLimits, Case, CutLine, Ev
 use Rattle.plan_types.specs.declared.plan.Plan.{Plan}
 use Rattle.plan_swaps.specs.Terms.{AreRoutingsWithin, IsWideSomewhere, whole_caps}
 use Rattle.line_check.specs.Terms.{entry, names_by}
-use Rattle.tree_check.specs.Terms.{IsFixedBox, least_counts, TreeBox, HasBoxValue, module_costs, HoldsNode, IsEvidenceAt, Tested}
-use Rattle.tree_check.specs.declared.proof.Node.{Node}
-use Rattle.tree_check.specs.declared.proof.Node.TheVariants.{Split, Closed, Empty, Spent, Stuck}
-use Rattle.tree_boxes.specs.Causes.{HasPlanValue, IsUnsettled}
-use Rattle.tree_boxes.specs.declared.certs.Valued.{Valued}
-use Rattle.tree_boxes.specs.declared.found.Cheaper.{Cheaper}
-use Rattle.tree_boxes.specs.declared.found.Found.{Found}
+use Rattle.tree_check.{specs.Terms.{IsFixedBox, least_counts, TreeBox, HasBoxValue, module_costs, HoldsNode, IsEvidenceAt, Tested}, specs.declared.proof.Node.Node, specs.declared.proof.Node.TheVariants.{Split, Closed, Empty, Spent, Stuck}}
+use Rattle.tree_boxes.{specs.Causes.{HasPlanValue, IsUnsettled}, specs.declared.certs.Valued.Valued, specs.declared.found.Cheaper.Cheaper, specs.declared.found.Found.Found, specs.declared.twigs.OpenBox.OpenBox, specs.declared.twigs.Twig.Twig}
 use Rattle.tree_boxes.specs.declared.found.Found.TheVariants as found
-use Rattle.tree_boxes.specs.declared.twigs.OpenBox.{OpenBox}
-use Rattle.tree_boxes.specs.declared.twigs.Twig.{Twig}
 use Rattle.tree_boxes.specs.declared.twigs.Twig.TheVariants as twig
 
 -- ---- places of trees

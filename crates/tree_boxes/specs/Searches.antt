@@ -1,19 +1,13 @@
 -- what a search for a branch tree knows
-use Rattle.std.specs.Prelude.{◌≡◌, ℕ, ◌^◌, ◌≤◌, ◌<◌, ◌++◌, List, [], Some, All, false, length, map, max, slice_get, take}
-use Rattle.std.specs.List.{AllZip}
+use Rattle.std.{specs.Prelude.{◌≡◌, ℕ, ◌^◌, ◌≤◌, ◌<◌, ◌++◌, List, [], Some, All, false, length, map, max, slice_get, take}, specs.List.AllZip}
 use Rattle.plan_terms.specs.Terms.{Case, CutLine, IsCut, IsSurvivable, case_of}
 use Rattle.plan_types.specs.declared.plan.Plan.{Plan}
 use Rattle.plan_swaps.specs.Terms.{IsTestOf as IsAbleTestOf, IsRoutedPlan}
 use Rattle.line_check.specs.Testing.{AreTested}
-use Rattle.tree_check.specs.Trees.{TreeBox}
-use Rattle.tree_check.specs.declared.proof.BoxCert.{BoxCert}
-use Rattle.proof_order.specs.Orders.{cuts_among, lines_among, source_of}
-use Rattle.proof_order.specs.declared.entry.Entry.{Entry}
+use Rattle.tree_check.{specs.Trees.TreeBox, specs.declared.proof.BoxCert.BoxCert}
+use Rattle.proof_order.{specs.Orders.{cuts_among, lines_among, source_of}, specs.declared.entry.Entry.Entry}
+use Rattle.tree_boxes.{specs.Causes.IsUnsettled, specs.declared.aim.Aim.Aim, specs.declared.search.Search.Search, specs.declared.known.Known.Known}
 use Rattle.proof_order.specs.declared.entry.Entry.TheVariants as entry
-use Rattle.tree_boxes.specs.Causes.{IsUnsettled}
-use Rattle.tree_boxes.specs.declared.aim.Aim.{Aim}
-use Rattle.tree_boxes.specs.declared.search.Search.{Search}
-use Rattle.tree_boxes.specs.declared.known.Known.{Known}
 
 -- a cut of the case, or a line
 abbrev pub IsSoundEntry : Case → Entry → Type 0

@@ -1,8 +1,7 @@
 ghost use Rattle.std.specs.Prelude.{IfOk, OnOk};
 ghost use Rattle.plan_terms.specs.Terms.{AreCounts, AreWithinLimits, IsSurvivable};
 ghost use Rattle.plan_swaps.specs.Terms.{IsTestOf};
-ghost use Rattle.tree_boxes.specs.inner.Asking.{IsAnswerTo};
-ghost use Rattle.tree_boxes.specs.Searches.{aimed};
+ghost use Rattle.tree_boxes.{specs.inner.Asking.IsAnswerTo, specs.Searches.aimed};
 
 use crate::aim::Aim;
 use crate::found::Cheaper;

@@ -1,9 +1,7 @@
 ghost use Rattle.std.specs.Prelude.{◌≡◌, ◌≤◌, ◌^◌, ℕ, [], IfOk, false};
 ghost use Rattle.line_check.specs.Testing.{names_by};
 ghost use Rattle.tree_check.specs.BoxValues.{HasBoxValue};
-ghost use Rattle.tree_boxes.specs.Causes.{HasFreeValue};
-ghost use Rattle.tree_boxes.specs.Searches.{IsAim, IsKnown, aimed};
-ghost use Rattle.tree_boxes.specs.Finds.{IsSearchBox, IsValued};
+ghost use Rattle.tree_boxes.{specs.Causes.HasFreeValue, specs.Searches.{IsAim, IsKnown, aimed}, specs.Finds.{IsSearchBox, IsValued}};
 
 use crate::aim::Aim;
 use crate::known::Known;

@@ -1,11 +1,7 @@
 ghost use Rattle.std.specs.Prelude.{◌≡◌, ◌+◌, ◌≤◌, ◌<◌, ◌^◌, IfOk, OnOk, length};
 ghost use Rattle.plan_terms.specs.Terms.{AreCounts};
 ghost use Rattle.tree_check.specs.Boxes.{IsFixedBox, least_counts};
-ghost use Rattle.tree_boxes.specs.Searches.{HasLearned, IsAim, IsSearch, aimed, handed_in, most_entries};
-ghost use Rattle.tree_boxes.specs.Finds.{IsFoundAt, IsSearchBox, IsValued};
-ghost use Rattle.tree_boxes.specs.inner.Rounds.{IsRoundTo};
-ghost use Rattle.tree_boxes.specs.Searches.{IsUnsettledIn};
-ghost use Rattle.tree_boxes.specs.inner.Asking.{IsTriedTo};
+ghost use Rattle.tree_boxes.{specs.Searches.{HasLearned, IsAim, IsSearch, aimed, handed_in, most_entries, IsUnsettledIn}, specs.Finds.{IsFoundAt, IsSearchBox, IsValued}, specs.inner.Rounds.IsRoundTo, specs.inner.Asking.IsTriedTo};
 
 use crate::aim::Aim;
 use crate::asks::{ask, ask_within};

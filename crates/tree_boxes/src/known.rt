@@ -1,5 +1,4 @@
-ghost use Rattle.std.specs.Prelude.{◌≡◌, ◌↔◌, ◌+◌, ◌++◌, ◌<◌, ◌^◌, ◌≤◌, [], ◌∷◌, ℕ, false, true, length, map, slice_get, take};
-ghost use Rattle.std.specs.Prelude.{All, Contains, IfOk, IfSome, IsTrue, MatchOption, None, OnOk, Some};
+ghost use Rattle.std.specs.Prelude.{◌≡◌, ◌↔◌, ◌+◌, ◌++◌, ◌<◌, ◌^◌, ◌≤◌, [], ◌∷◌, ℕ, false, true, length, map, slice_get, take, All, Contains, IfOk, IfSome, IsTrue, MatchOption, None, OnOk, Some};
 ghost use Rattle.plan_terms.specs.Terms.{IsCut, case_of};
 ghost use Rattle.line_maker.specs.Terms.{IsSolutionOf};
 ghost use Rattle.line_check.specs.Testing.{names_by};

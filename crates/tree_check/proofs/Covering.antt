@@ -1,11 +1,6 @@
 -- the leaves of a tree cover all counts
 use Rattle.std.proofs.Common.{◌≡◌, ℕ, suc, List, [], ◌∷◌, ◌++◌, Some, ◌⊎◌, inl, inr, ⊎_elim, take, slice_get, refl}
-use Rattle.tree_check.specs.Boxes.{AreInBox, whole_box}
-use Rattle.tree_check.specs.Laws.{IsSplitIfAny, LeavesCover}
-use Rattle.tree_check.specs.Trees.{TreeBox, boxes_left, sides_of}
-use Rattle.tree_check.specs.declared.proof.Node.{Node}
-use Rattle.tree_check.specs.declared.proof.Node.TheVariants.{Split, Closed, Empty, Spent, Stuck}
-use Rattle.tree_check.proofs.InBoxes.{in_whole_box, on_a_side}
+use Rattle.tree_check.{specs.Boxes.{AreInBox, whole_box}, specs.Laws.{IsSplitIfAny, LeavesCover}, specs.Trees.{TreeBox, boxes_left, sides_of}, specs.declared.proof.Node.Node, specs.declared.proof.Node.TheVariants.{Split, Closed, Empty, Spent, Stuck}, proofs.InBoxes.{in_whole_box, on_a_side}}
 
 -- some box of a list has the counts
 abbrev InSome : List (List ℕ) → List TreeBox → Type 0

@@ -1,11 +1,8 @@
 -- no counts of an emptied box meet the line that empties it
 use Rattle.std.proofs.Common.{◌≡◌, ◌≢◌, ℕ, ◌*◌, ◌≤◌, Option, None, Some, IfSome, IsSome, unwrap_or, ⊎_elim, arith, mul-le-mul_left}
 use Rattle.net_core.proofs.Library.{cases_eq}
-use Rattle.tree_check.specs.Boxes.{span_at}
-use Rattle.tree_check.specs.Laws.{EmptiedHasNone}
-use Rattle.line_check.specs.Inequalities.{entry}
-use Rattle.tree_check.proofs.InBoxes.{count_in_span}
-use Rattle.line_check.proofs.OverModules.{over-le}
+use Rattle.line_check.{specs.Inequalities.entry, proofs.OverModules.over-le}
+use Rattle.tree_check.{specs.Boxes.span_at, specs.Laws.EmptiedHasNone, proofs.InBoxes.count_in_span}
 
 -- a count is at most the greatest one
 pub at_most : (most : Option ℕ) (n : ℕ) → IsSome most → IfSome most (λ t. n ≤ t) → n ≤ unwrap_or most 0

@@ -1,10 +1,8 @@
 -- route evidence at the capacities of counts
-use Rattle.std.proofs.Common.{◌≡◌, ℕ, ◌<◌, ◌^◌, Bool, false, IsTrue, ◌↔◌, List, All, length, ap, subst, sym, ◌∙◌, arith}
-use Rattle.std.proofs.lemmas.Bool.{both_ways}
+use Rattle.std.{proofs.Common.{◌≡◌, ℕ, ◌<◌, ◌^◌, Bool, false, IsTrue, ◌↔◌, List, All, length, ap, subst, sym, ◌∙◌, arith}, proofs.lemmas.Bool.both_ways}
 use Rattle.module_choice.proofs.Pairs.{capacities_long}
 use Rattle.plan_terms.specs.Terms.{AreCounts, Caps, Case, Evidence, Route, RouteColumn, StateId, WideKind, capacities}
-use Rattle.tree_check.specs.Proofs.{IsEvidenceAt}
-use Rattle.tree_check.specs.inner.Evidences.{IsProgramInForm}
+use Rattle.tree_check.{specs.Proofs.IsEvidenceAt, specs.inner.Evidences.IsProgramInForm}
 
 module _ (p : Case) (counts : List (List ℕ)) (shape : AreCounts p.links counts) (state : StateId) (caps : Caps) (basis : List RouteColumn) (kind : WideKind RouteColumn) where
   pub evidence_from : (caps.scale ≡ 1) × (caps.nums ≡ capacities p.links counts) × All (λ n. n < 2 ^ 126) caps.nums → IsProgramInForm p state basis kind

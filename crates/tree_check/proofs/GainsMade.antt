@@ -3,9 +3,7 @@ use Rattle.std.proofs.Common.{◌≡◌, ℕ, ◌+◌, ◌<◌, ◌≤◌, ◌^�
 use Rattle.net_core.proofs.Library.{AllByRecursion, cases_lt, recursion_from_All}
 use Rattle.plan_terms.specs.Terms.{IsModule, Link, sum_below}
 use Rattle.line_check.specs.Inequalities.{module_number}
-use Rattle.tree_check.specs.declared.gains.Gains.{Gains}
-use Rattle.tree_check.specs.declared.weighing.Weighing.{Weighing}
-use Rattle.tree_check.specs.inner.Weighing.{AddsModules, AreGainsOf, IsBoundedIn, gain_in, loss_in}
+use Rattle.tree_check.{specs.declared.gains.Gains.Gains, specs.declared.weighing.Weighing.Weighing, specs.inner.Weighing.{AddsModules, AreGainsOf, IsBoundedIn, gain_in, loss_in}}
 
 -- the sum below the next number
 pub below_next : (n : ℕ) (f : ℕ → ℕ) → sum_below (n + 1) f ≡ sum_below n f + f n

@@ -1,12 +1,9 @@
 -- the counts of a box, module by module
-use Rattle.std.proofs.Common.{◌≡◌, ℕ, zero, suc, ◌≤◌, ◌<◌, ◌+◌, List, [], ◌∷◌, ◌⊎◌, inl, inr, ⊎_elim, length, get_or, replicate, slice_index, refl, ap, arith, set}
-use Rattle.std.specs.List.{AllZip}
+use Rattle.std.{proofs.Common.{◌≡◌, ℕ, zero, suc, ◌≤◌, ◌<◌, ◌+◌, List, [], ◌∷◌, ◌⊎◌, inl, inr, ⊎_elim, length, get_or, replicate, slice_index, refl, ap, arith, set}, specs.List.AllZip}
 use Rattle.net_core.proofs.Library.{cases_lt}
 use Rattle.plan_terms.specs.Terms.{AreCounts, Link}
-use Rattle.tree_check.specs.Boxes.{AreInBox, IsInSpan, IsSplitOf, any_count, beyond, lower_side, span_at, spans_of, up_to, upper_side, whole_box}
 use Rattle.line_check.specs.Inequalities.{entry, module_number}
-use Rattle.tree_check.specs.Trees.{TreeBox}
-use Rattle.tree_check.specs.declared.boxes.Span.{Span}
+use Rattle.tree_check.{specs.Boxes.{AreInBox, IsInSpan, IsSplitOf, any_count, beyond, lower_side, span_at, spans_of, up_to, upper_side, whole_box}, specs.Trees.TreeBox, specs.declared.boxes.Span.Span}
 
 -- a count of a list of spans is in its span
 span_holds : (spans : List Span) (cs : List ℕ) (m : ℕ) → AllZip IsInSpan spans cs → m < length spans → IsInSpan (get_or spans m any_count) (slice_index cs m)

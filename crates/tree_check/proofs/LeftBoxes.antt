@@ -2,10 +2,7 @@
 use Rattle.std.proofs.Common.{◌≡◌, ℕ, zero, suc, ◌+◌, List, [], ◌∷◌, ◌++◌, Some, length, replicate, take, slice_get, add-one, arith, set, length-set}
 use Rattle.net_core.proofs.Library.{length-map, length-replicate}
 use Rattle.plan_terms.specs.Terms.{AreCounts, Link}
-use Rattle.tree_check.specs.Boxes.{any_count, least_counts, spans_of, whole_box}
-use Rattle.tree_check.specs.Trees.{TreeBox, boxes_left, sides_of}
-use Rattle.tree_check.specs.declared.boxes.Span.{Span}
-use Rattle.tree_check.specs.declared.proof.Node.{Node}
+use Rattle.tree_check.{specs.Boxes.{any_count, least_counts, spans_of, whole_box}, specs.Trees.{TreeBox, boxes_left, sides_of}, specs.declared.boxes.Span.Span, specs.declared.proof.Node.Node}
 
 left_suc : (boxes : List TreeBox) (tree : List Node) (i : ℕ) (node : Node) (box : TreeBox) (later : List TreeBox) → slice_get tree i ≡ Some node
     → boxes_left boxes (take i tree) ≡ box ∷ later → boxes_left boxes (take (suc i) tree) ≡ sides_of box node ++ later

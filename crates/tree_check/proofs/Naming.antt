@@ -1,19 +1,9 @@
 -- lines that were tested, and the lines that indices name
 use Rattle.std.proofs.Common.{◌≡◌, ℕ, ◌-◌, false, List, [], ◌∷◌, All, refl, ap, subst, sym, ◌∙◌}
 use Rattle.net_core.proofs.Library.{All-from_recursion, recursion_from_All, AllByRecursion}
-use Rattle.line_check.specs.Terms.{Multiplier, AreNamedBy, WeightedLine, IsSoundAt, names_by, test_at, weighed}
-use Rattle.plan_terms.proofs.Lemmas.{bound_unique}
-use Rattle.plan_terms.specs.Terms.{Case, Link}
-use Rattle.line_check.specs.declared.inequality.Inequality.{Inequality}
-use Rattle.line_check.specs.declared.tested_lines.Tested.{Tested}
-use Rattle.line_check.proofs.DividedTold.{same_weighted}
-use Rattle.line_check.proofs.TestedMore.{named_under}
-use Rattle.tree_check.specs.BoxValues.{HasBoxValue, IsBoxValue, value_gains, value_losses}
-use Rattle.tree_check.specs.Proofs.{HasOpenValue, HoldsNode}
-use Rattle.tree_check.specs.Trees.{TreeBox}
-use Rattle.tree_check.specs.declared.proof.BoxCert.{BoxCert}
-use Rattle.tree_check.specs.declared.proof.Node.{Node}
-use Rattle.tree_check.specs.declared.proof.Node.TheVariants.{Split, Closed, Empty, Spent, Stuck}
+use Rattle.line_check.{specs.Terms.{Multiplier, AreNamedBy, WeightedLine, IsSoundAt, names_by, test_at, weighed}, specs.declared.inequality.Inequality.Inequality, specs.declared.tested_lines.Tested.Tested, proofs.DividedTold.same_weighted, proofs.TestedMore.named_under}
+use Rattle.plan_terms.{proofs.Lemmas.bound_unique, specs.Terms.{Case, Link}}
+use Rattle.tree_check.{specs.BoxValues.{HasBoxValue, IsBoxValue, value_gains, value_losses}, specs.Proofs.{HasOpenValue, HoldsNode}, specs.Trees.TreeBox, specs.declared.proof.BoxCert.BoxCert, specs.declared.proof.Node.Node, specs.declared.proof.Node.TheVariants.{Split, Closed, Empty, Spent, Stuck}}
 
 module _ (tested : List Tested) where
   -- the index of a line that holds names it

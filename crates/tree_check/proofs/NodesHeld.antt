@@ -1,20 +1,8 @@
 -- nodes that hold, and what they are
 use Rattle.std.proofs.Common.{◌≡◌, ℕ, ◌≤◌, Bool, IsTrue, ◌↔◌, List, Option, None, Some, IfSome, IsNone, MatchOption, All, refl, subst, sym, ◌∙◌, arith}
 use Rattle.plan_terms.specs.Terms.{Evidence, Link, case_of}
-use Rattle.tree_check.specs.BoxValues.{IsBoxValue, IsEmptiedBy}
-use Rattle.tree_check.specs.Boxes.{IsFixedBox, least_counts}
-use Rattle.tree_check.specs.Proofs.{ClosesBox, EmptiesBox, IsEvidenceAt}
-use Rattle.tree_check.specs.Trees.{TreeBox}
-use Rattle.line_check.specs.declared.inequality.Inequality.{Inequality}
-use Rattle.tree_check.specs.declared.nodes.Held.{Held}
-use Rattle.tree_check.specs.declared.nodes.Held.TheVariants.{Settled, Open}
-use Rattle.tree_check.specs.declared.proof.BoxCert.{BoxCert}
-use Rattle.tree_check.specs.declared.proof.Node.TheVariants.{Spent, Stuck}
-use Rattle.tree_check.specs.declared.tests.Tests.{Tests}
-use Rattle.tree_check.specs.Testing.{HasValueIn, names_in}
-use Rattle.line_check.specs.Testing.{IsSoundAt, test_at, weighed}
-use Rattle.tree_check.specs.inner.Walking.{IsHeldIn}
-use Rattle.tree_check.proofs.Naming.{named_is_sound, sound_are_named, sound_names, value_of_sound, value_once}
+use Rattle.line_check.{specs.declared.inequality.Inequality.Inequality, specs.Testing.{IsSoundAt, test_at, weighed}}
+use Rattle.tree_check.{specs.BoxValues.{IsBoxValue, IsEmptiedBy}, specs.Boxes.{IsFixedBox, least_counts}, specs.Proofs.{ClosesBox, EmptiesBox, IsEvidenceAt}, specs.Trees.TreeBox, specs.declared.nodes.Held.Held, specs.declared.nodes.Held.TheVariants.{Settled, Open}, specs.declared.proof.BoxCert.BoxCert, specs.declared.proof.Node.TheVariants.{Spent, Stuck}, specs.declared.tests.Tests.Tests, specs.Testing.{HasValueIn, names_in}, specs.inner.Walking.IsHeldIn, proofs.Naming.{named_is_sound, sound_are_named, sound_names, value_of_sound, value_once}}
 
 module _ (t : Tests) (box : TreeBox) where
   -- a certificate has the value that its tested lines have

@@ -1,18 +1,9 @@
 -- no counts of a box that meet the lines of a certificate cost less than its value
-use Rattle.std.proofs.Common.{◌≡◌, ℕ, zero, suc, ◌+◌, ◌-◌, ◌*◌, ◌≤◌, ◌<◌, Bool, true, false, if◌then◌else◌, ◌||◌, List, [], ◌∷◌, Option, IfSome, IsSome, unwrap_or, ⊎_elim, length, map, zip, nat_lt, slice_index, refl, ap, ◌∙◌, arith, mul-le-mul_left}
-use Rattle.std.specs.List.{AllZip, AllByRecursion, list_any}
+use Rattle.std.{proofs.Common.{◌≡◌, ℕ, zero, suc, ◌+◌, ◌-◌, ◌*◌, ◌≤◌, ◌<◌, Bool, true, false, if◌then◌else◌, ◌||◌, List, [], ◌∷◌, Option, IfSome, IsSome, unwrap_or, ⊎_elim, length, map, zip, nat_lt, slice_index, refl, ap, ◌∙◌, arith, mul-le-mul_left}, specs.List.{AllZip, AllByRecursion, list_any}}
 use Rattle.net_core.proofs.Library.{cases_lt, nat_tests, recursion_from_All, sum_by-cons, below-first}
-use Rattle.plan_terms.specs.Terms.{AreCounts, Link, Module, installs, link_cost, modules_cost, sum_below, total_cost}
-use Rattle.plan_terms.proofs.Duality.{bound_met}
-use Rattle.tree_check.specs.Boxes.{AreInBox, IsInSpan, span_at}
-use Rattle.tree_check.specs.BoxValues.{IsBoxCertificate, all_gains, all_losses, asked_right, certain_setup, certain_setups, given_free, module_charge, module_costs, module_gain, module_loss}
-use Rattle.tree_check.specs.Laws.{BoxValueHolds}
-use Rattle.line_check.specs.Inequalities.{MeetsLine, WeightedLine, entry, module_price, over_modules}
-use Rattle.tree_check.specs.Trees.{TreeBox}
-use Rattle.tree_check.specs.declared.boxes.Span.{Span}
-use Rattle.tree_check.proofs.InBoxes.{count_in_span}
-use Rattle.tree_check.proofs.EmptiedBoxes.{at_most}
-use Rattle.line_check.proofs.OverModules.{over-first, over-le, over-plus, over-same, over-times}
+use Rattle.plan_terms.{specs.Terms.{AreCounts, Link, Module, installs, link_cost, modules_cost, sum_below, total_cost}, proofs.Duality.bound_met}
+use Rattle.line_check.{specs.Inequalities.{MeetsLine, WeightedLine, entry, module_price, over_modules}, proofs.OverModules.{over-first, over-le, over-plus, over-same, over-times}}
+use Rattle.tree_check.{specs.Boxes.{AreInBox, IsInSpan, span_at}, specs.BoxValues.{IsBoxCertificate, all_gains, all_losses, asked_right, certain_setup, certain_setups, given_free, module_charge, module_costs, module_gain, module_loss}, specs.Laws.BoxValueHolds, specs.Trees.TreeBox, specs.declared.boxes.Span.Span, proofs.InBoxes.count_in_span, proofs.EmptiedBoxes.at_most}
 
 -- ---- what lines ask for is given, or has a price
 

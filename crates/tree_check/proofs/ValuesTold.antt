@@ -1,13 +1,9 @@
 -- the value of lines for a box, by the gains of its modules
 use Rattle.std.proofs.Common.{◌≡◌, ℕ, ◌+◌, ◌*◌, ◌-◌, ◌<◌, ◌≤◌, ◌^◌, List, [], ◌∷◌, Option, None, Some, MatchOption, All, length, subst, sym, arith}
 use Rattle.net_core.proofs.Library.{All-from_recursion, All-map, recursion_from_All, AllByRecursion}
-use Rattle.line_check.specs.Terms.{Multiplier, WeightedLine, test_at, weighed}
+use Rattle.line_check.{specs.Terms.{Multiplier, WeightedLine, test_at, weighed}, specs.declared.tested_lines.Tested.Tested}
 use Rattle.plan_terms.specs.Terms.{IsBound}
-use Rattle.line_check.specs.declared.tested_lines.Tested.{Tested}
-use Rattle.tree_check.specs.BoxValues.{AreNear, all_gains, all_losses, asked_right, certain_setups, given_free, value_gains, value_losses}
-use Rattle.tree_check.specs.declared.gains.Gains.{Gains}
-use Rattle.tree_check.specs.declared.weighing.Weighing.{Weighing}
-use Rattle.tree_check.specs.inner.Weighing.{AreGainsOf, IsValueIn, total_of}
+use Rattle.tree_check.{specs.BoxValues.{AreNear, all_gains, all_losses, asked_right, certain_setups, given_free, value_gains, value_losses}, specs.declared.gains.Gains.Gains, specs.declared.weighing.Weighing.Weighing, specs.inner.Weighing.{AreGainsOf, IsValueIn, total_of}}
 
 -- narrow numerators stay so
 nums_weighed : (w : Weighing) → All (λ m. m.num < 2 ^ 62) w.lines.now → All (λ t. t.num < 2 ^ 62) (weighed w.tested.now w.lines.now)

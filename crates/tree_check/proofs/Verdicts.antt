@@ -2,22 +2,8 @@
 use Rattle.std.proofs.Common.{◌≡◌, ℕ, ◌≤◌, List, [], ◌∷◌, ◌⊎◌, inl, inr, ⊎_elim, subst, arith}
 use Rattle.net_core.proofs.Library.{All-from_recursion, slice_get_within, AllByRecursion}
 use Rattle.plan_terms.specs.Terms.{Case, IsAble, total_cost}
-use Rattle.line_check.specs.Terms.{Multiplier, AreNamedBy, MeetsLine, WeightedLine, sources_of}
-use Rattle.tree_check.specs.Boxes.{AreInBox}
-use Rattle.tree_check.specs.BoxValues.{HasBoxValue}
-use Rattle.tree_check.specs.Laws.{CheapestHolds, IsSplitIfAny, OpenLeavesHold}
-use Rattle.line_check.specs.declared.inequality.Inequality.{Inequality}
-use Rattle.tree_check.specs.Proofs.{HoldsNode, IsAcceptedProof, IsOpenAt, VerdictFollows, names_in_proof}
-use Rattle.tree_check.specs.Trees.{IsNodeOf, TreeBox, sides_of}
-use Rattle.tree_check.specs.declared.proof.BoxCert.{BoxCert}
-use Rattle.tree_check.specs.declared.proof.Node.{Node}
-use Rattle.tree_check.specs.declared.proof.Node.TheVariants.{Split, Closed, Empty, Spent, Stuck}
-use Rattle.tree_check.specs.declared.proof.Proof.{Proof}
-use Rattle.tree_check.specs.declared.proof.Verdict.TheVariants.{Cheapest, Above}
-use Rattle.tree_check.proofs.Covering.{leaves_cover}
-use Rattle.line_check.proofs.LinesMet.{lines_are_met}
-use Rattle.tree_check.proofs.EmptiedBoxes.{emptied_has_none}
-use Rattle.tree_check.proofs.Values.{box_value_holds}
+use Rattle.line_check.{specs.Terms.{Multiplier, AreNamedBy, MeetsLine, WeightedLine, sources_of}, specs.declared.inequality.Inequality.Inequality, proofs.LinesMet.lines_are_met}
+use Rattle.tree_check.{specs.Boxes.AreInBox, specs.BoxValues.HasBoxValue, specs.Laws.{CheapestHolds, IsSplitIfAny, OpenLeavesHold}, specs.Proofs.{HoldsNode, IsAcceptedProof, IsOpenAt, VerdictFollows, names_in_proof}, specs.Trees.{IsNodeOf, TreeBox, sides_of}, specs.declared.proof.BoxCert.BoxCert, specs.declared.proof.Node.Node, specs.declared.proof.Node.TheVariants.{Split, Closed, Empty, Spent, Stuck}, specs.declared.proof.Proof.Proof, specs.declared.proof.Verdict.TheVariants.{Cheapest, Above}, proofs.Covering.leaves_cover, proofs.EmptiedBoxes.emptied_has_none, proofs.Values.box_value_holds}
 
 module _ (p : Case) (proof : Proof) (counts : List (List ℕ)) (able : IsAble p counts) where
   named_met : (i : ℕ) (line : Inequality) → names_in_proof p proof i line → MeetsLine p.links line counts

@@ -1,27 +1,9 @@
 -- a walk, node by node, and what it ends with
 use Rattle.std.proofs.Common.{◌≡◌, ℕ, ◌+◌, ◌<◌, ◌≤◌, true, false, List, [], ◌∷◌, Option, None, Some, inl, inr, ⊎_elim, length, min, slice_get, take, refl, ap, subst, sym, ◌∙◌, arith, take_all}
 use Rattle.net_core.proofs.Library.{All-append, All-cons, All-nil, All-tail, cases_lt, false_from_ne_true, nil_from_length, slice_get_within}
-use Rattle.line_check.specs.Terms.{IsLeastPlace, sources_of, AreTested, names_by}
+use Rattle.line_check.{specs.Terms.{IsLeastPlace, sources_of, AreTested, names_by}, specs.declared.inequality.Inequality.Inequality, specs.declared.tested_lines.Tested.Tested}
 use Rattle.plan_terms.specs.Terms.{AreCounts, Case, Link, case_of}
-use Rattle.tree_check.specs.Boxes.{beyond, least_counts, lower_side, span_at, up_to, upper_side, whole_box}
-use Rattle.line_check.specs.declared.inequality.Inequality.{Inequality}
-use Rattle.line_check.specs.declared.tested_lines.Tested.{Tested}
-use Rattle.tree_check.specs.Proofs.{FailsAtNode, HasOpenValue, HoldsAtNode, HoldsNode, IsAcceptedProof, IsLeastValue, IsOpenAt, IsUnfounded, VerdictFollows, names_in_proof}
-use Rattle.tree_check.specs.Trees.{IsNodeOf, IsWhole, TreeBox, boxes_left, sides_of}
-use Rattle.tree_check.specs.declared.nodes.Held.{Held}
-use Rattle.tree_check.specs.declared.nodes.Held.TheVariants.{Settled, Open}
-use Rattle.tree_check.specs.BoxValues.{HasBoxValue}
-use Rattle.tree_check.specs.declared.proof.BoxCert.{BoxCert}
-use Rattle.tree_check.specs.declared.proof.Node.{Node}
-use Rattle.tree_check.specs.declared.proof.Node.TheVariants.{Split, Closed, Empty, Spent, Stuck}
-use Rattle.tree_check.specs.declared.proof.Proof.{Proof}
-use Rattle.tree_check.specs.declared.proof.Verdict.TheVariants.{Cheapest}
-use Rattle.tree_check.specs.declared.tests.Tests.{Tests}
-use Rattle.tree_check.specs.declared.walk.Found.{Found}
-use Rattle.tree_check.specs.Testing.{AreTestsOf, names_in}
-use Rattle.tree_check.specs.inner.Walking.{CannotTake, HasWalked, HaveShape, IsFoundOf, IsHeldAs, TakesBox, TakesIfAny, with_held}
-use Rattle.tree_check.proofs.LeftBoxes.{left_more, shape_set, whole_shape}
-use Rattle.tree_check.proofs.Naming.{holds_map, open_map, value_map, value_once}
+use Rattle.tree_check.{specs.Boxes.{beyond, least_counts, lower_side, span_at, up_to, upper_side, whole_box}, specs.Proofs.{FailsAtNode, HasOpenValue, HoldsAtNode, HoldsNode, IsAcceptedProof, IsLeastValue, IsOpenAt, IsUnfounded, VerdictFollows, names_in_proof}, specs.Trees.{IsNodeOf, IsWhole, TreeBox, boxes_left, sides_of}, specs.declared.nodes.Held.Held, specs.declared.nodes.Held.TheVariants.{Settled, Open}, specs.BoxValues.HasBoxValue, specs.declared.proof.BoxCert.BoxCert, specs.declared.proof.Node.Node, specs.declared.proof.Node.TheVariants.{Split, Closed, Empty, Spent, Stuck}, specs.declared.proof.Proof.Proof, specs.declared.proof.Verdict.TheVariants.Cheapest, specs.declared.tests.Tests.Tests, specs.declared.walk.Found.Found, specs.Testing.{AreTestsOf, names_in}, specs.inner.Walking.{CannotTake, HasWalked, HaveShape, IsFoundOf, IsHeldAs, TakesBox, TakesIfAny, with_held}, proofs.LeftBoxes.{left_more, shape_set, whole_shape}, proofs.Naming.{holds_map, open_map, value_map, value_once}}
 
 -- ---- what is left has a span for each module
 

@@ -1,8 +1,6 @@
 -- sums over the lines of a certificate, line by line
 use Rattle.std.proofs.Common.{◌≡◌, ℕ, ◌+◌, ◌*◌, ◌<◌, List, get_or, length, take}
-use Rattle.line_check.specs.Terms.{Multiplier, test_at, weighed}
-use Rattle.line_check.specs.declared.tested_lines.Tested.{Tested}
-use Rattle.line_check.proofs.WeighedSums.{line_more}
+use Rattle.line_check.{specs.Terms.{Multiplier, test_at, weighed}, specs.declared.tested_lines.Tested.Tested, proofs.WeighedSums.line_more}
 use Rattle.tree_check.specs.BoxValues.{asked_right, given_free}
 
 pub asked_more : (tested : List Tested) (ms : List Multiplier) (i : ℕ) (d : Multiplier) → i < length ms

@@ -1,12 +1,8 @@
 -- what lines show about the counts of a box: a least cost, or that there are none
-use Rattle.std.specs.Prelude.{◌≢◌, ℕ, ◌+◌, ◌-◌, ◌*◌, ◌^◌, ◌≤◌, ◌<◌, List, All, Bool, IsSome, if◌then◌else◌, length, map, nat_lt, slice_index, sum_by, unwrap_or}
-use Rattle.std.specs.List.{list_any}
+use Rattle.std.{specs.Prelude.{◌≢◌, ℕ, ◌+◌, ◌-◌, ◌*◌, ◌^◌, ◌≤◌, ◌<◌, List, All, Bool, IsSome, if◌then◌else◌, length, map, nat_lt, slice_index, sum_by, unwrap_or}, specs.List.list_any}
 use Rattle.plan_terms.specs.Terms.{IsBound, Link, sum_below}
-use Rattle.tree_check.specs.Boxes.{span_at, spans_of}
-use Rattle.line_check.specs.Terms.{AreNamedBy, WeightedLine, entry, module_number, module_price, over_modules}
-use Rattle.line_check.specs.declared.inequality.Inequality.{Inequality}
-use Rattle.tree_check.specs.declared.boxes.Span.{Span}
-use Rattle.tree_check.specs.declared.proof.BoxCert.{BoxCert}
+use Rattle.line_check.{specs.Terms.{AreNamedBy, WeightedLine, entry, module_number, module_price, over_modules}, specs.declared.inequality.Inequality.Inequality}
+use Rattle.tree_check.{specs.Boxes.{span_at, spans_of}, specs.declared.boxes.Span.Span, specs.declared.proof.BoxCert.BoxCert}
 
 -- ---- sums of a certificate
 

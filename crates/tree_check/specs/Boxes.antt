@@ -1,6 +1,5 @@
 -- boxes: for each module a least count and perhaps a greatest one, and all counts between
-use Rattle.std.specs.Prelude.{◌≡◌, ℕ, ◌+◌, ◌≤◌, ◌<◌, List, [], None, Some, IfSome, All, length, map, replicate, slice_index_or, slice_set}
-use Rattle.std.specs.List.{AllZip}
+use Rattle.std.{specs.Prelude.{◌≡◌, ℕ, ◌+◌, ◌≤◌, ◌<◌, List, [], None, Some, IfSome, All, length, map, replicate, slice_index_or, slice_set}, specs.List.AllZip}
 use Rattle.plan_terms.specs.Terms.{Link}
 use Rattle.tree_check.specs.declared.boxes.Span.{Span}
 

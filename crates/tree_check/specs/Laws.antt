@@ -1,16 +1,8 @@
 -- what branch trees, lines and box values are good for
 use Rattle.std.specs.Prelude.{◌≡◌, ℕ, ◌≤◌, List, [], All}
 use Rattle.plan_terms.specs.Terms.{AreCounts, Case, IsAble, Link, total_cost}
-use Rattle.tree_check.specs.Boxes.{AreInBox, IsSplitOf}
-use Rattle.tree_check.specs.BoxValues.{IsBoxValue, IsEmptiedBy}
-use Rattle.line_check.specs.Terms.{MeetsLine, WeightedLine}
-use Rattle.line_check.specs.declared.inequality.Inequality.{Inequality}
-use Rattle.tree_check.specs.Proofs.{IsAcceptedProof}
-use Rattle.tree_check.specs.Trees.{IsNodeOf, IsWhole, TreeBox, sides_of}
-use Rattle.tree_check.specs.declared.proof.Node.{Node}
-use Rattle.tree_check.specs.declared.proof.Node.TheVariants.{Split}
-use Rattle.tree_check.specs.declared.proof.Proof.{Proof}
-use Rattle.tree_check.specs.declared.proof.Verdict.TheVariants.{Cheapest, Above}
+use Rattle.line_check.{specs.Terms.{MeetsLine, WeightedLine}, specs.declared.inequality.Inequality.Inequality}
+use Rattle.tree_check.{specs.Boxes.{AreInBox, IsSplitOf}, specs.BoxValues.{IsBoxValue, IsEmptiedBy}, specs.Proofs.IsAcceptedProof, specs.Trees.{IsNodeOf, IsWhole, TreeBox, sides_of}, specs.declared.proof.Node.Node, specs.declared.proof.Node.TheVariants.Split, specs.declared.proof.Proof.Proof, specs.declared.proof.Verdict.TheVariants.{Cheapest, Above}}
 
 -- a split is one of its box
 abbrev pub IsSplitIfAny : TreeBox → Node → Type 0

@@ -2,19 +2,8 @@
 use Rattle.std.specs.Prelude.{◌≡◌, ℕ, ◌+◌, ◌≤◌, ◌<◌, ◌⊎◌, ⊤, List, length}
 use Rattle.plan_terms.specs.Terms.{Case, Evidence, Route, Master, Link, capacities}
 use Rattle.plan_report.specs.Terms.{IsRouteEvidenceInForm, known_to}
-use Rattle.line_check.specs.Terms.{IsLeastPlace, NamesLine, sources_of}
-use Rattle.tree_check.specs.Boxes.{IsFixedBox, IsSplitOf, least_counts}
-use Rattle.tree_check.specs.BoxValues.{HasBoxValue, IsEmptiedBy}
-use Rattle.line_check.specs.declared.inequality.Inequality.{Inequality}
-use Rattle.tree_check.specs.Trees.{IsNodeOf, IsWhole, TreeBox}
-use Rattle.tree_check.specs.declared.proof.BoxCert.{BoxCert}
-use Rattle.tree_check.specs.declared.proof.Node.{Node}
-use Rattle.tree_check.specs.declared.proof.Node.TheVariants.{Split, Closed, Empty, Spent, Stuck}
-use Rattle.tree_check.specs.declared.proof.Proof.{Proof}
-use Rattle.tree_check.specs.declared.proof.TreeAnswer.{TreeAnswer}
-use Rattle.tree_check.specs.declared.proof.TreeAnswer.TheVariants.{Accepted, Rejected, NoMemory}
-use Rattle.tree_check.specs.declared.proof.Verdict.{Verdict}
-use Rattle.tree_check.specs.declared.proof.Verdict.TheVariants.{Cheapest, Above}
+use Rattle.line_check.{specs.Terms.{IsLeastPlace, NamesLine, sources_of}, specs.declared.inequality.Inequality.Inequality}
+use Rattle.tree_check.{specs.Boxes.{IsFixedBox, IsSplitOf, least_counts}, specs.BoxValues.{HasBoxValue, IsEmptiedBy}, specs.Trees.{IsNodeOf, IsWhole, TreeBox}, specs.declared.proof.BoxCert.BoxCert, specs.declared.proof.Node.Node, specs.declared.proof.Node.TheVariants.{Split, Closed, Empty, Spent, Stuck}, specs.declared.proof.Proof.Proof, specs.declared.proof.TreeAnswer.TreeAnswer, specs.declared.proof.TreeAnswer.TheVariants.{Accepted, Rejected, NoMemory}, specs.declared.proof.Verdict.Verdict, specs.declared.proof.Verdict.TheVariants.{Cheapest, Above}}
 
 -- ---- nodes
 

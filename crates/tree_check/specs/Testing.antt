@@ -1,13 +1,8 @@
 -- lines that were tested, and what certificates and lines are to a box by these tests
 use Rattle.std.specs.Prelude.{ℕ, false}
 use Rattle.plan_terms.specs.Terms.{case_of}
-use Rattle.line_check.specs.Terms.{sources_of, AreTested, names_by}
-use Rattle.line_check.specs.declared.inequality.Inequality.{Inequality}
-use Rattle.tree_check.specs.BoxValues.{HasBoxValue}
-use Rattle.tree_check.specs.Trees.{TreeBox}
-use Rattle.tree_check.specs.declared.proof.BoxCert.{BoxCert}
-use Rattle.tree_check.specs.declared.proof.Proof.{Proof}
-use Rattle.tree_check.specs.declared.tests.Tests.{Tests}
+use Rattle.line_check.{specs.Terms.{sources_of, AreTested, names_by}, specs.declared.inequality.Inequality.Inequality}
+use Rattle.tree_check.{specs.BoxValues.HasBoxValue, specs.Trees.TreeBox, specs.declared.proof.BoxCert.BoxCert, specs.declared.proof.Proof.Proof, specs.declared.tests.Tests.Tests}
 
 -- the lines that indices name, by these tests
 abbrev pub names_in : Tests → ℕ → Inequality → Type 0

@@ -1,10 +1,7 @@
 -- branch trees in preorder: which box each node has
 use Rattle.std.specs.Prelude.{◌≡◌, ℕ, List, [], ◌∷◌, ◌++◌, Some, slice_get, take}
 use Rattle.plan_terms.specs.Terms.{Link}
-use Rattle.tree_check.specs.Boxes.{lower_side, upper_side, whole_box}
-use Rattle.tree_check.specs.declared.boxes.Span.{Span}
-use Rattle.tree_check.specs.declared.proof.Node.{Node}
-use Rattle.tree_check.specs.declared.proof.Node.TheVariants.{Split}
+use Rattle.tree_check.{specs.Boxes.{lower_side, upper_side, whole_box}, specs.declared.boxes.Span.Span, specs.declared.proof.Node.Node, specs.declared.proof.Node.TheVariants.Split}
 
 -- a box, as a list of spans for each link
 abbrev pub TreeBox : Type 0

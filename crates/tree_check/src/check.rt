@@ -1,7 +1,6 @@
 ghost use Rattle.std.specs.Prelude.{◌≡◌, ℕ, List, ◌+◌, ◌≤◌, ◌<◌, ◌^◌, IfErr, OnOk, length};
 ghost use Rattle.plan_terms.specs.Terms.{AreDemands, IsAble, case, case_of, total_cost};
-ghost use Rattle.tree_check.specs.Proofs.{AnswersProof, IsAcceptedProof};
-ghost use Rattle.tree_check.specs.inner.Walking.{StopsWalk};
+ghost use Rattle.tree_check.{specs.Proofs.{AnswersProof, IsAcceptedProof}, specs.inner.Walking.StopsWalk};
 
 use crate::proof::{Proof, TreeAnswer, Verdict};
 use crate::stop::Stop;

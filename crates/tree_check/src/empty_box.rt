@@ -1,8 +1,7 @@
 ghost use Rattle.std.specs.Prelude.{ℕ, ◌<◌, ◌↔◌, IsTrue, length};
 ghost use Rattle.plan_terms.specs.Terms.{sum_below};
-ghost use Rattle.tree_check.specs.BoxValues.{IsEmptiedBy, most_along};
 ghost use Rattle.line_check.specs.Inequalities.{module_number};
-ghost use Rattle.tree_check.specs.inner.Emptying.{HasMost, IsMostOf, most_at};
+ghost use Rattle.tree_check.{specs.BoxValues.{IsEmptiedBy, most_along}, specs.inner.Emptying.{HasMost, IsMostOf, most_at}};
 
 use crate::boxes::{Span, span_at};
 use crate::gains::module_number;

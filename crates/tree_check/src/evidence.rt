@@ -1,8 +1,7 @@
 ghost use Rattle.std.specs.Prelude.{◌≡◌, ◌+◌, ◌<◌, ◌≤◌, ◌^◌, ◌↔◌, All, IfOk, IsTrue, length};
 ghost use Rattle.plan_terms.specs.Terms.{AreCounts, case_of};
 ghost use Rattle.plan_report.specs.Terms.{IsKindInForm, IsPathInForm, IsRouteColumnInForm};
-ghost use Rattle.tree_check.specs.Proofs.{IsEvidenceAt};
-ghost use Rattle.tree_check.specs.inner.Evidences.{IsBasisInForm, IsProgramInForm};
+ghost use Rattle.tree_check.{specs.Proofs.IsEvidenceAt, specs.inner.Evidences.{IsBasisInForm, IsProgramInForm}};
 
 use module_choice::capacities;
 use net_core::{

@@ -1,8 +1,7 @@
 ghost use Rattle.std.specs.Prelude.{◌≡◌, ℕ, ◌+◌, ◌*◌, ◌<◌, ◌≤◌, ◌^◌, All, IsTrue, IsFalse, MatchOption, length, map, slice_index};
 ghost use Rattle.plan_terms.specs.Terms.{IsModule};
-ghost use Rattle.tree_check.specs.BoxValues.{module_costs};
 ghost use Rattle.line_check.specs.Inequalities.{entry, module_number};
-ghost use Rattle.tree_check.specs.inner.Weighing.{AddsModules, AreGainsOf, IsBoundedIn, IsGainOf, gain_in, loss_in};
+ghost use Rattle.tree_check.{specs.BoxValues.module_costs, specs.inner.Weighing.{AddsModules, AreGainsOf, IsBoundedIn, IsGainOf, gain_in, loss_in}};
 
 use crate::boxes::{Span, span_at};
 use crate::total::Total;

@@ -1,9 +1,6 @@
 ghost use Rattle.std.specs.Prelude.{◌≡◌, ◌↔◌, ℕ, false, true, IfOk, IsTrue, MatchOption};
 ghost use Rattle.plan_terms.specs.Terms.{AreCounts, case_of};
-ghost use Rattle.tree_check.specs.Boxes.{IsFixedBox, least_counts};
-ghost use Rattle.tree_check.specs.Proofs.{ClosesBox, EmptiesBox, IsEvidenceAt};
-ghost use Rattle.tree_check.specs.Testing.{HasValueIn, names_in};
-ghost use Rattle.tree_check.specs.inner.Walking.{IsHeldIn};
+ghost use Rattle.tree_check.{specs.Boxes.{IsFixedBox, least_counts}, specs.Proofs.{ClosesBox, EmptiesBox, IsEvidenceAt}, specs.Testing.{HasValueIn, names_in}, specs.inner.Walking.IsHeldIn};
 
 use crate::boxes::{Boxed, is_split};
 use crate::empty_box::is_emptied;

@@ -1,6 +1,6 @@
 ghost use Rattle.std.specs.Prelude.{◌≡◌, ◌-◌, ◌*◌, ◌<◌, ◌^◌, ◌↔◌, All, IsTrue, length, min};
-ghost use Rattle.tree_check.specs.BoxValues.{asked_right, given_free};
 ghost use Rattle.line_check.specs.Testing.{weighed};
+ghost use Rattle.tree_check.specs.BoxValues.{asked_right, given_free};
 
 use line_check::{Multiplier, Tested, line_in, times};
 

@@ -1,6 +1,5 @@
 ghost use Rattle.std.specs.Prelude.{◌≡◌, ◌+◌, ◌<◌, ◌≤◌, ◌^◌, ◌↔◌, ◌⊎◌, IsTrue, MatchOption};
-ghost use Rattle.tree_check.specs.BoxValues.{AreNear};
-ghost use Rattle.tree_check.specs.inner.Totals.{of_parts};
+ghost use Rattle.tree_check.{specs.BoxValues.AreNear, specs.inner.Totals.of_parts};
 
 /// A sum of numbers, as `high * 2^64 + low`. It may be more than 128 bits hold.
 #[derive(Clone, Copy)]

@@ -1,8 +1,7 @@
 ghost use Rattle.std.specs.Prelude.{◌≡◌, ℕ, ◌+◌, ◌*◌, ◌-◌, ◌<◌, ◌≤◌, ◌^◌, All, IfSome, IsNone, IsTrue, MatchOption, length};
 ghost use Rattle.plan_terms.specs.Terms.{IsBound, IsModule};
-ghost use Rattle.tree_check.specs.BoxValues.{AreNear, IsBoxValue, certain_setup, certain_setups, installs_always};
 ghost use Rattle.line_check.specs.Testing.{IsSoundAt, weighed};
-ghost use Rattle.tree_check.specs.inner.Weighing.{AreGainsOf, IsValueIn, total_of};
+ghost use Rattle.tree_check.{specs.BoxValues.{AreNear, IsBoxValue, certain_setup, certain_setups, installs_always}, specs.inner.Weighing.{AreGainsOf, IsValueIn, total_of}};
 
 use crate::boxes::Span;
 use crate::gains::{Gains, WIDE, all_gains};

@@ -1,12 +1,6 @@
 ghost use Rattle.std.specs.Prelude.{◌≡◌, ◌+◌, ◌<◌, ◌^◌, ◌↔◌, ◌++◌, [], ◌∷◌, IfErr, IfOk, IsTrue, OnOk, length};
 ghost use Rattle.plan_terms.specs.Terms.{Case, case_of};
-ghost use Rattle.tree_check.specs.Boxes.{IsSplitOf, lower_side, upper_side, whole_box};
-ghost use Rattle.tree_check.specs.Laws.{IsSplitIfAny};
-ghost use Rattle.tree_check.specs.Proofs.{IsAcceptedProof, VerdictFollows};
-ghost use Rattle.tree_check.specs.Trees.{sides_of};
-ghost use Rattle.tree_check.specs.declared.proof.Proof.{Proof as TreeProof};
-ghost use Rattle.tree_check.specs.Testing.{AreTestsOf};
-ghost use Rattle.tree_check.specs.inner.Walking.{HasWalked, HaveShape, IsFoundOf, StopsWalk, TakesIfAny, with_held};
+ghost use Rattle.tree_check.{specs.Boxes.{IsSplitOf, lower_side, upper_side, whole_box}, specs.Laws.IsSplitIfAny, specs.Proofs.{IsAcceptedProof, VerdictFollows}, specs.Trees.sides_of, specs.declared.proof.Proof.{Proof as TreeProof}, specs.Testing.AreTestsOf, specs.inner.Walking.{HasWalked, HaveShape, IsFoundOf, StopsWalk, TakesIfAny, with_held}};
 
 use crate::boxes::{Boxed, lower_side, upper_side, whole_box};
 use crate::nodes::{Held, held_node};

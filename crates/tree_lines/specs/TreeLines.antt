@@ -1,18 +1,11 @@
 -- the comment lines of a branch tree: its cuts and further lines, its nodes in preorder, and its verdict
-use Rattle.std.specs.Prelude.{ℕ, List, [], ◌∷◌, ◌++◌, All, codes, flat_map, length, map, zip}
-use Rattle.std.specs.List.{range_with_len}
+use Rattle.std.{specs.Prelude.{ℕ, List, [], ◌∷◌, ◌++◌, All, codes, flat_map, length, map, zip}, specs.List.range_with_len}
 use Rattle.plan_terms.specs.Terms.{CutLine, Demand, Link, Places}
 use Rattle.plan_report.specs.Terms.{evidence_items, link_name}
 use Rattle.text_kit.specs.Terms.{Item, Money, Verbatim, Whole}
 use Rattle.report_comments.specs.ReportComments.{IsOfRouting}
 use Rattle.master_bound.specs.declared.answer.Multiplier.{Multiplier}
-use Rattle.tree_check.specs.Terms.{Line, Divided, Table, TableKind, Plain, Failing}
-use Rattle.tree_check.specs.declared.proof.BoxCert.{BoxCert}
-use Rattle.tree_check.specs.declared.proof.Node.{Node}
-use Rattle.tree_check.specs.declared.proof.Node.TheVariants.{Split, Closed, Empty, Spent, Stuck}
-use Rattle.tree_check.specs.declared.proof.Proof.{Proof}
-use Rattle.tree_check.specs.declared.proof.Verdict.{Verdict}
-use Rattle.tree_check.specs.declared.proof.Verdict.TheVariants.{Cheapest, Above}
+use Rattle.tree_check.{specs.Terms.{Line, Divided, Table, TableKind, Plain, Failing}, specs.declared.proof.BoxCert.BoxCert, specs.declared.proof.Node.Node, specs.declared.proof.Node.TheVariants.{Split, Closed, Empty, Spent, Stuck}, specs.declared.proof.Proof.Proof, specs.declared.proof.Verdict.Verdict, specs.declared.proof.Verdict.TheVariants.{Cheapest, Above}}
 
 -- a cut with its index: its state, its right side, and a length for each link
 abbrev pub box_cut_items : ℕ × CutLine → List Item

@@ -1,5 +1,4 @@
-ghost use Rattle.std.specs.Prelude.{◌∷◌, [], OnOk, length, map, zip};
-ghost use Rattle.std.specs.List.{range_with_len};
+ghost use Rattle.std.{specs.Prelude.{◌∷◌, [], OnOk, length, map, zip}, specs.List.range_with_len};
 ghost use Rattle.comment_lines.specs.Comments.{AddsLines, AddsSpaced};
 ghost use Rattle.tree_lines.specs.TreeLines.{box_cut_items};
 

@@ -1,5 +1,4 @@
-ghost use Rattle.std.specs.Prelude.{◌∷◌, [], OnOk, length, map, zip};
-ghost use Rattle.std.specs.List.{range_with_len};
+ghost use Rattle.std.{specs.Prelude.{◌∷◌, [], OnOk, length, map, zip}, specs.List.range_with_len};
 ghost use Rattle.text_kit.specs.Terms.{Verbatim};
 ghost use Rattle.comment_lines.specs.Comments.{AddsLines, AddsSpaced};
 ghost use Rattle.tree_lines.specs.TreeLines.{line_items, multiplier_items, table_word};

@@ -3,18 +3,9 @@ use Rattle.std.proofs.Common.{◌≡◌, ◌≢◌, ℕ, ◌≤◌, List, length
 use Rattle.net_core.proofs.Library.{∥∥₁_elim, cases_lt}
 use Rattle.plan_terms.specs.Terms.{Demand, IsNetwork, Link}
 use Rattle.plan_report.specs.Terms.{KnownNames}
-use Rattle.text_kit.specs.Terms.{AnswersAs}
-use Rattle.text_kit.specs.declared.refusal.Refusal.{Refusal}
-use Rattle.text_kit.specs.declared.refusal.Refusal.TheVariants.{Bad, NoMemory}
+use Rattle.text_kit.{specs.Terms.AnswersAs, specs.declared.refusal.Refusal.Refusal, specs.declared.refusal.Refusal.TheVariants.{Bad, NoMemory}}
 use Rattle.report_words.specs.declared.fault.ReportKind.{ReportKind}
-use Rattle.tree_reader.specs.declared.tree.ReadTree.{ReadTree}
-use Rattle.tree_reader.specs.FirstFaults.{IsNoEarlyTreeFault}
-use Rattle.tree_reader.specs.ReadingTrees.{Gives, TreeRead, no_lines, tree_at}
-use Rattle.tree_reader.specs.Trees.{SpellsTree}
-use Rattle.tree_reader.proofs.FirstFaults.{fault_same}
-use Rattle.tree_reader.proofs.LinesOnline.{tree_line_online}
-use Rattle.tree_reader.proofs.Places.{all_same}
-use Rattle.tree_reader.proofs.TreeLaws.{tree_again, tree_found, tree_only}
+use Rattle.tree_reader.{specs.declared.tree.ReadTree.ReadTree, specs.FirstFaults.IsNoEarlyTreeFault, specs.ReadingTrees.{Gives, TreeRead, no_lines, tree_at}, specs.Trees.SpellsTree, proofs.FirstFaults.fault_same, proofs.LinesOnline.tree_line_online, proofs.Places.all_same, proofs.TreeLaws.{tree_again, tree_found, tree_only}}
 
 links_differ : (nodes : List (List ℕ)) (links : List Link) → ∥ IsNetwork nodes links ∥₁ → AllPairs (λ x y. x.name ≢ y.name) links
 links_differ nodes links net = λ i j d lt within same. ∥∥₁_elim net (λ x y. absurd x) (λ (n : IsNetwork nodes links). n.different_links i j d lt within same)

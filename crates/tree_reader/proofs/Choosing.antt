@@ -1,17 +1,9 @@
 -- Readings of a whole line that its first word chooses take exactly what one of their branches takes after its word.
 use Rattle.std.proofs.Common.{◌≡◌, ◌⊎◌, inl, inr, ℕ, Bool, true, false, cond, List, [], ◌∷◌, Ok, Err, refl, sym, ap, subst, ◌∙◌}
-use Rattle.net_core.specs.Terms.{are_same}
-use Rattle.net_core.proofs.Checks.{same_is}
+use Rattle.net_core.{specs.Terms.are_same, proofs.Checks.same_is}
 use Rattle.snd_tokens.specs.Terms.{Text, WordAt, OpenAt, CloseAt, EndAt}
-use Rattle.text_kit.specs.Terms.{Item, Verbatim, Opening, Closing, Begins, Reading}
-use Rattle.text_kit.proofs.Beginnings.{IsEnd}
-use Rattle.text_kit.proofs.Lemmas.{is_same, lawful_as, Spelled}
-use Rattle.text_kit.proofs.Spelled.{Lawful}
-use Rattle.report_words.specs.declared.fault.ReportKind.{ReportKind}
-use Rattle.report_words.specs.declared.fault.ReportKind.TheVariants.{Token}
-use Rattle.report_words.specs.ReportChoices.{Branches, branch_at, branch_of}
-use Rattle.report_words.proofs.BranchLaws.{has_word}
-use Rattle.report_words.proofs.Making.{Made, MadeOf}
+use Rattle.text_kit.{specs.Terms.{Item, Verbatim, Opening, Closing, Begins, Reading}, proofs.Beginnings.IsEnd, proofs.Lemmas.{is_same, lawful_as, Spelled}, proofs.Spelled.Lawful}
+use Rattle.report_words.{specs.declared.fault.ReportKind.ReportKind, specs.declared.fault.ReportKind.TheVariants.Token, specs.ReportChoices.{Branches, branch_at, branch_of}, proofs.BranchLaws.has_word, proofs.Making.{Made, MadeOf}}
 
 no_word : {X : Type 0} (bs : Branches X) (at : ℕ) (w : List ℕ) (t : Text) → has_word w bs ≡ false → branch_of true bs at w t ≡ Err (at, Token)
 no_word [] at w t none = refl

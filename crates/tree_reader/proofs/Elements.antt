@@ -1,8 +1,7 @@
 -- Each element of a list of numbers takes a word at least.
 use Rattle.std.proofs.Common.{◌^◌, refl}
 use Rattle.text_kit.proofs.Lemmas.{IsOnline, TakesSome, online_give, online_then, online_word, takes_some}
-use Rattle.report_words.specs.declared.fault.ReportKind.TheVariants.{Token, Ended}
-use Rattle.report_words.specs.Terms.{number_at}
+use Rattle.report_words.{specs.declared.fault.ReportKind.TheVariants.{Token, Ended}, specs.Terms.number_at}
 use Rattle.tree_reader.specs.ReadingLines.{term_at}
 
 pub weight_some : TakesSome (number_at 0 (2 ^ 32))

@@ -3,14 +3,9 @@ use Rattle.std.proofs.Common.{◌≡◌, List, Ok, Err, refl, sym, ap, ◌∙◌
 use Rattle.plan_terms.specs.Terms.{Demand, Evidence}
 use Rattle.plan_report.specs.Terms.{IsEvidenceInForm, KnownNames, evidence_items, Wide, Loose}
 use Rattle.snd_tokens.specs.Terms.{Text, WordAt}
-use Rattle.text_kit.specs.Terms.{Read, after, give}
-use Rattle.text_kit.proofs.Beginnings.{AnyText}
-use Rattle.text_kit.proofs.Lemmas.{ok_parts}
-use Rattle.text_kit.proofs.Spelled.{Lawful}
-use Rattle.report_words.specs.declared.fault.ReportKind.{ReportKind}
-use Rattle.report_words.proofs.Lemmas.{AreApart}
-use Rattle.report_parts.specs.ReadingQuality.{evidence_at, quality_at, too_wide_at}
-use Rattle.report_parts.proofs.Lemmas.{quality_law, AreLinksApart}
+use Rattle.text_kit.{specs.Terms.{Read, after, give}, proofs.Beginnings.AnyText, proofs.Lemmas.ok_parts, proofs.Spelled.Lawful}
+use Rattle.report_words.{specs.declared.fault.ReportKind.ReportKind, proofs.Lemmas.AreApart}
+use Rattle.report_parts.{specs.ReadingQuality.{evidence_at, quality_at, too_wide_at}, proofs.Lemmas.{quality_law, AreLinksApart}}
 
 wide_only : (q : Read ReportKind Evidence) (e : Evidence) (rest : Text) → after q (λ x. give {K = ReportKind} (Loose (Wide x))) ≡ Ok (Loose (Wide e), rest) → q ≡ Ok (e, rest)
 wide_only (Ok x) e rest h =

@@ -4,18 +4,10 @@ use Rattle.net_core.proofs.Library.{cases_lt}
 use Rattle.plan_terms.specs.Terms.{Demand}
 use Rattle.plan_report.specs.Terms.{KnownNames}
 use Rattle.snd_tokens.specs.Terms.{Text, WordAt, OpenAt, CloseAt, EndAt, run_length}
-use Rattle.text_kit.specs.Terms.{Read, place}
-use Rattle.text_kit.proofs.Lemmas.{Same, IsOnline, take_less}
-use Rattle.report_words.specs.declared.fault.ReportKind.{ReportKind}
-use Rattle.report_words.specs.declared.fault.ReportKind.TheVariants.{Token, Ended, Limit}
+use Rattle.text_kit.{specs.Terms.{Read, place}, proofs.Lemmas.{Same, IsOnline, take_less}}
+use Rattle.report_words.{specs.declared.fault.ReportKind.ReportKind, specs.declared.fault.ReportKind.TheVariants.{Token, Ended, Limit}}
 use Rattle.tree_check.specs.declared.proof.Verdict.{Verdict}
-use Rattle.tree_reader.specs.declared.sofar.Sofar.{Sofar}
-use Rattle.tree_reader.specs.declared.sofar.TreeLine.{TreeLine}
-use Rattle.tree_reader.specs.declared.sofar.TreeLine.TheVariants.{Cut, Further, Branch, Last}
-use Rattle.tree_reader.specs.CommentTexts.{Comments, CommentAt, OtherAt, NoneAt, comments_from}
-use Rattle.tree_reader.specs.ReadingTrees.{TreeRead, after_line, ended_by, lines_at, put_line, tree_line_at}
-use Rattle.tree_reader.proofs.Places.{Line, Else, Done, comment_at, end_same, end_within, line_after, line_end, line_text, next_of, text_same}
-use Rattle.tree_reader.proofs.TokenEnds.{line_same}
+use Rattle.tree_reader.{specs.declared.sofar.Sofar.Sofar, specs.declared.sofar.TreeLine.TreeLine, specs.declared.sofar.TreeLine.TheVariants.{Cut, Further, Branch, Last}, specs.CommentTexts.{Comments, CommentAt, OtherAt, NoneAt, comments_from}, specs.ReadingTrees.{TreeRead, after_line, ended_by, lines_at, put_line, tree_line_at}, proofs.Places.{Line, Else, Done, comment_at, end_same, end_within, line_after, line_end, line_text, next_of, text_same}, proofs.TokenEnds.line_same}
 
 same_place : (t u : Text) → Same 1 t u → place u ≡ place t
 same_place (WordAt p w t) u same = ap place same.1

@@ -1,35 +1,15 @@
 -- The readings of one comment line of a tree take exactly their texts.
 use Rattle.std.proofs.Common.{◌≡◌, inl, inr, ℕ, ◌+◌, ◌^◌, ◌<◌, true, List, [], ◌∷◌, ◌++◌, length, All, Result, Ok, Err, refl, ap, ◌∙◌, arith, append-nil, append_assoc, codes, flat_map}
 use Rattle.plan_terms.specs.Terms.{Demand, Evidence}
-use Rattle.snd_tokens.specs.declared.whole_number.WholeFault.{WholeFault}
-use Rattle.snd_tokens.specs.declared.whole_number.WholeFault.TheVariants.{NotANumber}
-use Rattle.snd_tokens.specs.Terms.{whole_of}
-use Rattle.text_kit.specs.Terms.{Item, TheEnd, TheWord, Verbatim, Whole, no_fault, of_length}
-use Rattle.text_kit.proofs.Beginnings.{AnyText, IsEnd}
-use Rattle.text_kit.proofs.Lemmas.{after_all, all_after, lawful_as, lawful_list}
-use Rattle.text_kit.proofs.Spelled.{Lawful}
+use Rattle.snd_tokens.{specs.declared.whole_number.WholeFault.WholeFault, specs.declared.whole_number.WholeFault.TheVariants.NotANumber, specs.Terms.whole_of}
+use Rattle.text_kit.{specs.Terms.{Item, TheEnd, TheWord, Verbatim, Whole, no_fault, of_length}, proofs.Beginnings.{AnyText, IsEnd}, proofs.Lemmas.{after_all, all_after, lawful_as, lawful_list}, proofs.Spelled.Lawful}
 use Rattle.plan_report.specs.Terms.{KnownNames, evidence_items}
-use Rattle.report_words.specs.declared.fault.ReportKind.TheVariants.{Token, Limit}
-use Rattle.report_words.specs.ReportChoices.{next_number_at}
-use Rattle.report_words.specs.Terms.{has_room, number_at}
-use Rattle.report_words.proofs.Lemmas.{AreApart, branches_law, few_rooms, is_length, law_made, lawful_branch, lawful_no_branch, length_is, link_law, made_give, made_last, made_then, money_law, number_law, rooms_few, this_number_law}
-use Rattle.report_words.proofs.WordLaws.{number_within_law}
-use Rattle.tree_reader.proofs.EvidenceLaw.{evidence_law}
+use Rattle.report_words.{specs.declared.fault.ReportKind.TheVariants.{Token, Limit}, specs.ReportChoices.next_number_at, specs.Terms.{has_room, number_at}, proofs.Lemmas.{AreApart, branches_law, few_rooms, is_length, law_made, lawful_branch, lawful_no_branch, length_is, link_law, made_give, made_last, made_then, money_law, number_law, rooms_few, this_number_law}, proofs.WordLaws.number_within_law}
 use Rattle.report_parts.proofs.RoutingLaws.{AreLinksApart}
 use Rattle.master_bound.specs.declared.answer.Multiplier.{Multiplier}
-use Rattle.tree_check.specs.Terms.{Divided, Table, TableKind, Plain, Failing}
-use Rattle.tree_check.specs.declared.proof.BoxCert.{BoxCert}
-use Rattle.tree_check.specs.declared.proof.Node.TheVariants.{Split, Closed, Empty, Spent, Stuck}
-use Rattle.tree_check.specs.declared.proof.Verdict.TheVariants.{Cheapest, Above}
+use Rattle.tree_check.{specs.Terms.{Divided, Table, TableKind, Plain, Failing}, specs.declared.proof.BoxCert.BoxCert, specs.declared.proof.Node.TheVariants.{Split, Closed, Empty, Spent, Stuck}, specs.declared.proof.Verdict.TheVariants.{Cheapest, Above}}
 use Rattle.tree_lines.specs.TreeLines.{box_certificate_items, box_cut_items, line_items, multiplier_items, node_items, table_word, verdict_items}
-use Rattle.tree_reader.specs.declared.run.Stop.TheVariants.{LineEnd, Wide}
-use Rattle.tree_reader.specs.declared.sofar.TreeLine.{TreeLine}
-use Rattle.tree_reader.specs.declared.sofar.TreeLine.TheVariants.{Cut, Further, Branch, Last}
-use Rattle.tree_reader.specs.ReadingLines.{above_at, box_cut_at, certificate_to, cheapest_at, closed_at, cut_branches, divided_at, empty_at, kind_at, lengths_at, line_branches, node_branches, spent_at, split_at, stuck_at, table_at, term_at, terms_at, weights_at}
-use Rattle.tree_reader.specs.Trees.{IsBoxCertificateInForm, IsBoxCutInForm, IsLineInForm, IsNodeInForm, IsTerm, IsVerdictInForm}
-use Rattle.tree_reader.proofs.Choosing.{Chosen, chosen_as, chosen_more, chosen_none, made_or}
-use Rattle.tree_reader.proofs.LineVariants.{any_from, later_from, line_cases}
-use Rattle.tree_reader.proofs.Making.{law_made_on, made_end, made_final, made_on}
+use Rattle.tree_reader.{proofs.EvidenceLaw.evidence_law, specs.declared.run.Stop.TheVariants.{LineEnd, Wide}, specs.declared.sofar.TreeLine.TreeLine, specs.declared.sofar.TreeLine.TheVariants.{Cut, Further, Branch, Last}, specs.ReadingLines.{above_at, box_cut_at, certificate_to, cheapest_at, closed_at, cut_branches, divided_at, empty_at, kind_at, lengths_at, line_branches, node_branches, spent_at, split_at, stuck_at, table_at, term_at, terms_at, weights_at}, specs.Trees.{IsBoxCertificateInForm, IsBoxCutInForm, IsLineInForm, IsNodeInForm, IsTerm, IsVerdictInForm}, proofs.Choosing.{Chosen, chosen_as, chosen_more, chosen_none, made_or}, proofs.LineVariants.{any_from, later_from, line_cases}, proofs.Making.{law_made_on, made_end, made_final, made_on}}
 
 -- ---- lists of numbers
 

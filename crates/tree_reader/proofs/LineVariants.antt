@@ -2,14 +2,8 @@
 use Rattle.std.proofs.Common.{ℕ, List}
 use Rattle.plan_terms.specs.Terms.{CutLine, Evidence, LinkId}
 use Rattle.master_bound.specs.declared.answer.Multiplier.{Multiplier}
-use Rattle.tree_check.specs.Terms.{Line, Divided, Table, TableKind}
-use Rattle.tree_check.specs.declared.proof.BoxCert.{BoxCert}
-use Rattle.tree_check.specs.declared.proof.Node.{Node}
-use Rattle.tree_check.specs.declared.proof.Node.TheVariants.{Split, Closed, Empty, Spent, Stuck}
-use Rattle.tree_check.specs.declared.proof.Verdict.{Verdict}
-use Rattle.tree_check.specs.declared.proof.Verdict.TheVariants.{Cheapest, Above}
-use Rattle.tree_reader.specs.declared.sofar.TreeLine.{TreeLine}
-use Rattle.tree_reader.specs.declared.sofar.TreeLine.TheVariants.{Cut, Further, Branch, Last}
+use Rattle.tree_check.{specs.Terms.{Line, Divided, Table, TableKind}, specs.declared.proof.BoxCert.BoxCert, specs.declared.proof.Node.Node, specs.declared.proof.Node.TheVariants.{Split, Closed, Empty, Spent, Stuck}, specs.declared.proof.Verdict.Verdict, specs.declared.proof.Verdict.TheVariants.{Cheapest, Above}}
+use Rattle.tree_reader.{specs.declared.sofar.TreeLine.TreeLine, specs.declared.sofar.TreeLine.TheVariants.{Cut, Further, Branch, Last}}
 
 node_cases : (P : Node → Type 0) → ((e : LinkId) (m n : ℕ) → P (Split e m n)) → ((c : BoxCert) → P (Closed c)) → ((cut : ℕ) → P (Empty cut)) → ((c : BoxCert) → P (Spent c)) → ((c : BoxCert) (e : Evidence) → P (Stuck c e)) → (n : Node) → P n
 node_cases P split closed empty spent stuck (Split e m n) = split e m n

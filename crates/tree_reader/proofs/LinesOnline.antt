@@ -2,22 +2,11 @@
 use Rattle.std.proofs.Common.{ℕ, ◌^◌, ◌==◌, Bool, true, false, cond, List, [], ◌∷◌, length, Err, codes}
 use Rattle.plan_terms.specs.Terms.{Demand}
 use Rattle.plan_report.specs.Terms.{KnownNames}
-use Rattle.text_kit.specs.Terms.{TheEnd, give, no_fault, of_length}
-use Rattle.text_kit.proofs.Lemmas.{IsOnline, online_end, online_give, online_list, online_then, online_word}
-use Rattle.report_words.specs.declared.fault.ReportKind.TheVariants.{Token, Ended, Limit}
-use Rattle.report_words.specs.ReportChoices.{next_number_at}
-use Rattle.report_words.specs.Terms.{Branches, branch_at, number_at}
-use Rattle.report_words.proofs.Lemmas.{online_branch}
-use Rattle.report_words.proofs.WordsOnline.{next_number_some}
+use Rattle.text_kit.{specs.Terms.{TheEnd, give, no_fault, of_length}, proofs.Lemmas.{IsOnline, online_end, online_give, online_list, online_then, online_word}}
+use Rattle.report_words.{specs.declared.fault.ReportKind.TheVariants.{Token, Ended, Limit}, specs.ReportChoices.next_number_at, specs.Terms.{Branches, branch_at, number_at}, proofs.Lemmas.online_branch, proofs.WordsOnline.next_number_some}
 use Rattle.report_parts.proofs.PartsOnline.{evidence_online}
 use Rattle.tree_check.specs.Terms.{TableKind, Plain, Failing}
-use Rattle.tree_reader.specs.declared.run.Stop.{Stop}
-use Rattle.tree_reader.specs.declared.run.Stop.TheVariants.{LineEnd, Wide}
-use Rattle.tree_reader.specs.declared.sofar.Sofar.{Sofar}
-use Rattle.tree_reader.specs.ReadingLines.{above_at, box_cut_at, certificate_to, cheapest_at, closed_at, cut_branches, divided_at, empty_at, kind_at, lengths_at, line_branches, node_branches, spent_at, split_at, stuck_at, table_at, term_at, terms_at, weights_at}
-use Rattle.tree_reader.specs.ReadingTrees.{next_index, tree_line_at}
-use Rattle.tree_reader.specs.Runs.{stop_ending}
-use Rattle.tree_reader.proofs.Elements.{term_online, term_some, weight_some}
+use Rattle.tree_reader.{specs.declared.run.Stop.Stop, specs.declared.run.Stop.TheVariants.{LineEnd, Wide}, specs.declared.sofar.Sofar.Sofar, specs.ReadingLines.{above_at, box_cut_at, certificate_to, cheapest_at, closed_at, cut_branches, divided_at, empty_at, kind_at, lengths_at, line_branches, node_branches, spent_at, split_at, stuck_at, table_at, term_at, terms_at, weights_at}, specs.ReadingTrees.{next_index, tree_line_at}, specs.Runs.stop_ending, proofs.Elements.{term_online, term_some, weight_some}}
 
 -- ---- lists of numbers
 

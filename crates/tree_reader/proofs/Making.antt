@@ -1,10 +1,7 @@
 -- Readings whose answer is made of the parts that they read, the last of them up to some end.
 use Rattle.std.proofs.Common.{◌≡◌, List, [], ◌++◌, Ok, Err, refl, sym, ap, subst, ◌∙◌}
 use Rattle.snd_tokens.specs.Terms.{Text}
-use Rattle.text_kit.specs.Terms.{Begins, Item, Read, Reading, after, ◌>>=◌, end_at, give}
-use Rattle.text_kit.proofs.Beginnings.{AnyText, IsEnd}
-use Rattle.text_kit.proofs.Spelled.{Lawful}
-use Rattle.text_kit.proofs.Lemmas.{Spelled, law_spelled, ok_parts, spelled_as, spelled_law, spelled_then, lawful_end}
+use Rattle.text_kit.{specs.Terms.{Begins, Item, Read, Reading, after, ◌>>=◌, end_at, give}, proofs.Beginnings.{AnyText, IsEnd}, proofs.Spelled.Lawful, proofs.Lemmas.{Spelled, law_spelled, ok_parts, spelled_as, spelled_law, spelled_then, lawful_end}}
 use Rattle.report_words.proofs.Making.{Made, MadeOf}
 
 -- nothing further, up to the end of the line

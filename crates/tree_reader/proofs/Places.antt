@@ -1,13 +1,9 @@
 -- What comes next in bytes, and in all bytes that agree with them past it.
-use Rattle.std.proofs.Common.{◌≡◌, ℕ, zero, suc, ◌+◌, ◌-◌, ◌<◌, ◌≤◌, ◌==◌, min, Bool, true, false, cond, not, List, [], ◌∷◌, length, get_or, take, drop, refl, sym, ap, subst, ◌∙◌, arith, length-drop, take_all}
-use Rattle.std.proofs.lemmas.List.{drop-take, get_or-take, length-take}
-use Rattle.net_core.proofs.Library.{prefix_len, prefix_len-le-length}
-use Rattle.net_core.specs.Terms.{is_space}
+use Rattle.std.{proofs.Common.{◌≡◌, ℕ, zero, suc, ◌+◌, ◌-◌, ◌<◌, ◌≤◌, ◌==◌, min, Bool, true, false, cond, not, List, [], ◌∷◌, length, get_or, take, drop, refl, sym, ap, subst, ◌∙◌, arith, length-drop, take_all}, proofs.lemmas.List.{drop-take, get_or-take, length-take}}
+use Rattle.net_core.{proofs.Library.{prefix_len, prefix_len-le-length}, specs.Terms.is_space}
 use Rattle.snd_tokens.specs.Terms.{Text, line_length, text_from}
-use Rattle.text_kit.specs.Places.{place}
-use Rattle.text_kit.proofs.Lemmas.{run_same, take_less, Rises, past, rises_past, file_rises}
-use Rattle.tree_reader.specs.CommentTexts.{Comments, CommentAt, OtherAt, NoneAt, comments_from}
-use Rattle.tree_reader.proofs.Scanning.{comments_end, comments_hash, comments_other, comments_space}
+use Rattle.text_kit.{specs.Places.place, proofs.Lemmas.{run_same, take_less, Rises, past, rises_past, file_rises}}
+use Rattle.tree_reader.{specs.CommentTexts.{Comments, CommentAt, OtherAt, NoneAt, comments_from}, proofs.Scanning.{comments_end, comments_hash, comments_other, comments_space}}
 
 -- ---- lists that agree
 

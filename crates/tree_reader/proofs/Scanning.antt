@@ -1,8 +1,6 @@
 -- what the comments of a text are, byte by byte
-use Rattle.std.proofs.Common.{◌≡◌, ℕ, zero, suc, ◌+◌, ◌<◌, ◌≤◌, ◌==◌, Bool, true, false, cond, List, [], ◌∷◌, length, get_or, take, drop, sym, refl, ap, ◌∙◌, arith, drop-cons, add-one, add-zero, drop-drop, eqb-true}
-use Rattle.std.proofs.Math.Seq.{drop-length}
-use Rattle.net_core.proofs.Library.{prefix_len-le-length, false≢true}
-use Rattle.net_core.specs.Terms.{is_space}
+use Rattle.std.{proofs.Common.{◌≡◌, ℕ, zero, suc, ◌+◌, ◌<◌, ◌≤◌, ◌==◌, Bool, true, false, cond, List, [], ◌∷◌, length, get_or, take, drop, sym, refl, ap, ◌∙◌, arith, drop-cons, add-one, add-zero, drop-drop, eqb-true}, proofs.Math.Seq.drop-length}
+use Rattle.net_core.{proofs.Library.{prefix_len-le-length, false≢true}, specs.Terms.is_space}
 use Rattle.snd_tokens.specs.Terms.{line_length, text_from}
 use Rattle.tree_reader.specs.CommentTexts.{Comments, CommentAt, OtherAt, NoneAt, comment_text, comments_from, comments_past}
 

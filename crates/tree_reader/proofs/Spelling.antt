@@ -1,11 +1,7 @@
 -- what was written of a tree is read
 use Rattle.std.proofs.Common.{List, All, sym, subst, arith}
 use Rattle.text_kit.specs.Terms.{Item}
-use Rattle.tree_reader.specs.Laws.{TreesAreRead}
-use Rattle.tree_reader.specs.Trees.{tree_lines, tree_of}
-use Rattle.tree_reader.proofs.TreeLaws.{lines_are}
-use Rattle.tree_reader.proofs.Writable.{AreWritable, all_written}
-use Rattle.tree_reader.proofs.Written.{lines_read}
+use Rattle.tree_reader.{specs.Laws.TreesAreRead, specs.Trees.{tree_lines, tree_of}, proofs.TreeLaws.lines_are, proofs.Writable.{AreWritable, all_written}, proofs.Written.lines_read}
 
 pub trees_are_read : TreesAreRead
 trees_are_read known demands proof text whole names form lt adds = record {

@@ -6,11 +6,7 @@ use Rattle.snd_tokens.specs.Terms.{Text}
 use Rattle.text_kit.specs.Terms.{Read}
 use Rattle.report_words.specs.declared.fault.ReportKind.{ReportKind}
 use Rattle.tree_check.specs.declared.proof.Verdict.{Verdict}
-use Rattle.tree_reader.specs.declared.sofar.Sofar.{Sofar}
-use Rattle.tree_reader.specs.declared.sofar.TreeLine.{TreeLine}
-use Rattle.tree_reader.specs.declared.sofar.TreeLine.TheVariants.{Cut, Further, Branch, Last}
-use Rattle.tree_reader.specs.CommentTexts.{Comments, CommentAt, comments_from}
-use Rattle.tree_reader.specs.ReadingTrees.{PutsLine, TakesLine, after_line, ended_by, lines_at, put_line, tree_line_at}
+use Rattle.tree_reader.{specs.declared.sofar.Sofar.Sofar, specs.declared.sofar.TreeLine.TreeLine, specs.declared.sofar.TreeLine.TheVariants.{Cut, Further, Branch, Last}, specs.CommentTexts.{Comments, CommentAt, comments_from}, specs.ReadingTrees.{PutsLine, TakesLine, after_line, ended_by, lines_at, put_line, tree_line_at}}
 
 module _ (known : KnownNames) (demands : List Demand) (bytes : List ℕ) (old new : Sofar) (from at : ℕ) where
   put_taken : (x : TreeLine) (v : Option Verdict) → PutsLine old x v new

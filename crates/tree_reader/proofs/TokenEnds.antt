@@ -1,14 +1,10 @@
 -- Lines whose bytes agree past the token at a place begin with the same lexemes.
-use Rattle.std.proofs.Common.{◌≡◌, ℕ, zero, suc, ◌+◌, ◌-◌, ◌<◌, ◌≤◌, ◌==◌, ◌||◌, min, Bool, true, false, cond, not, List, [], ◌∷◌, ◌++◌, length, take, drop, refl, sym, ap, subst, ◌∙◌, arith, ⊎_elim, take-take}
-use Rattle.std.proofs.lemmas.List.{drop-drop, drop-take, length-take}
-use Rattle.net_core.proofs.Library.{cases_lt}
-use Rattle.net_core.specs.Terms.{is_space, is_word_byte}
-use Rattle.snd_tokens.specs.declared.token.Token.{Token}
-use Rattle.snd_tokens.specs.declared.token.TokenKind.TheVariants as kinds
-use Rattle.snd_tokens.specs.Terms.{Text, WordAt, OpenAt, CloseAt, EndAt, begun, extent, run_length, starts_token, text_from, text_of, token_bytes, token_of, tokens_from, tokens_past}
-use Rattle.text_kit.specs.Places.{EndsBefore, place}
-use Rattle.text_kit.proofs.Lemmas.{files_agree, Same, agree_same, past}
+use Rattle.std.{proofs.Common.{◌≡◌, ℕ, zero, suc, ◌+◌, ◌-◌, ◌<◌, ◌≤◌, ◌==◌, ◌||◌, min, Bool, true, false, cond, not, List, [], ◌∷◌, ◌++◌, length, take, drop, refl, sym, ap, subst, ◌∙◌, arith, ⊎_elim, take-take}, proofs.lemmas.List.{drop-drop, drop-take, length-take}}
+use Rattle.net_core.{proofs.Library.cases_lt, specs.Terms.{is_space, is_word_byte}}
+use Rattle.snd_tokens.{specs.declared.token.Token.Token, specs.Terms.{Text, WordAt, OpenAt, CloseAt, EndAt, begun, extent, run_length, starts_token, text_from, text_of, token_bytes, token_of, tokens_from, tokens_past}}
+use Rattle.text_kit.{specs.Places.{EndsBefore, place}, proofs.Lemmas.{files_agree, Same, agree_same, past}}
 use Rattle.tree_reader.proofs.Places.{end_same, line_after, line_end, line_rises, line_text, run_take}
+use Rattle.snd_tokens.specs.declared.token.TokenKind.TheVariants as kinds
 
 end_place : (c p : ℕ) → place (past c (EndAt p)) ≡ p
 end_place zero p = refl

@@ -5,13 +5,9 @@ use Rattle.plan_terms.specs.Terms.{Demand, Places}
 use Rattle.plan_report.specs.Terms.{KnownNames}
 use Rattle.snd_tokens.specs.Terms.{Text, WordAt, OpenAt, CloseAt, EndAt}
 use Rattle.text_kit.specs.Terms.{Item, Money, Opening, Closing, Verbatim, IsMadeOf}
-use Rattle.tree_check.specs.declared.proof.Verdict.{Verdict}
-use Rattle.tree_check.specs.declared.proof.Verdict.TheVariants.{Cheapest, Above}
+use Rattle.tree_check.{specs.declared.proof.Verdict.Verdict, specs.declared.proof.Verdict.TheVariants.{Cheapest, Above}}
 use Rattle.tree_lines.specs.TreeLines.{box_cut_items, line_items, node_items, verdict_items}
-use Rattle.tree_reader.specs.CommentTexts.{AreCommentsOf, Comments, CommentAt, OtherAt, NoneAt, comments_from}
-use Rattle.tree_reader.specs.TreeWords.{begins_tree_line, has_tree_line, is_tree_word}
-use Rattle.tree_reader.specs.Trees.{SpellsTree}
-use Rattle.tree_reader.specs.declared.tree.ReadTree.{ReadTree}
+use Rattle.tree_reader.{specs.CommentTexts.{AreCommentsOf, Comments, CommentAt, OtherAt, NoneAt, comments_from}, specs.TreeWords.{begins_tree_line, has_tree_line, is_tree_word}, specs.Trees.SpellsTree, specs.declared.tree.ReadTree.ReadTree}
 
 or_first : (a b : Bool) → a ≡ true → (a || b) ≡ true
 or_first true b h = refl

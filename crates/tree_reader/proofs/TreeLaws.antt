@@ -4,29 +4,13 @@ use Rattle.net_core.proofs.Library.{All-cons, All-head, All-nil, All-tail, false
 use Rattle.plan_terms.specs.Terms.{CutLine, Demand}
 use Rattle.plan_report.specs.Terms.{KnownNames}
 use Rattle.snd_tokens.specs.Terms.{Text, EndAt}
-use Rattle.text_kit.specs.Terms.{AnswersAs, Begins, Item, Read, IsMadeOf}
-use Rattle.text_kit.specs.declared.refusal.Refusal.{Refusal}
-use Rattle.text_kit.specs.declared.refusal.Refusal.TheVariants.{Bad, NoMemory}
-use Rattle.text_kit.proofs.Beginnings.{IsEnd}
-use Rattle.text_kit.proofs.Lemmas.{lawful_as}
-use Rattle.text_kit.proofs.Spelled.{Lawful}
-use Rattle.report_words.specs.declared.fault.ReportKind.{ReportKind}
-use Rattle.report_words.specs.Terms.{branch_at}
-use Rattle.report_words.proofs.Lemmas.{AreApart}
+use Rattle.text_kit.{specs.Terms.{AnswersAs, Begins, Item, Read, IsMadeOf}, specs.declared.refusal.Refusal.Refusal, specs.declared.refusal.Refusal.TheVariants.{Bad, NoMemory}, proofs.Beginnings.IsEnd, proofs.Lemmas.lawful_as, proofs.Spelled.Lawful}
+use Rattle.report_words.{specs.declared.fault.ReportKind.ReportKind, specs.Terms.branch_at, proofs.Lemmas.AreApart}
 use Rattle.report_parts.proofs.RoutingLaws.{AreLinksApart}
 use Rattle.line_check.specs.declared.line.Line.{Line}
-use Rattle.tree_check.specs.declared.proof.Node.{Node}
-use Rattle.tree_check.specs.declared.proof.Verdict.{Verdict}
+use Rattle.tree_check.{specs.declared.proof.Node.Node, specs.declared.proof.Verdict.Verdict}
 use Rattle.tree_lines.specs.TreeLines.{box_cut_items, line_items, node_items, verdict_items}
-use Rattle.tree_reader.specs.declared.sofar.Sofar.{Sofar}
-use Rattle.tree_reader.specs.declared.sofar.TreeLine.{TreeLine}
-use Rattle.tree_reader.specs.declared.sofar.TreeLine.TheVariants.{Cut, Further, Branch, Last}
-use Rattle.tree_reader.specs.declared.tree.ReadTree.{ReadTree}
-use Rattle.tree_reader.specs.CommentTexts.{AreCommentsOf, Comments, CommentAt, OtherAt, NoneAt, comments_from}
-use Rattle.tree_reader.specs.ReadingLines.{cut_branches, line_branches, node_branches}
-use Rattle.tree_reader.specs.ReadingTrees.{Gives, TreeRead, after_line, ended_by, lines_at, next_index, no_lines, put_line, tree_at, tree_line_at, whole_tree}
-use Rattle.tree_reader.specs.Trees.{IsBoxCutInForm, IsLineInForm, IsNodeInForm, IsVerdictInForm, SpellsTree, tree_lines}
-use Rattle.tree_reader.proofs.LineLaws.{IsToldLine, any_law, later_law, node_law, told_items}
+use Rattle.tree_reader.{specs.declared.sofar.Sofar.Sofar, specs.declared.sofar.TreeLine.TreeLine, specs.declared.sofar.TreeLine.TheVariants.{Cut, Further, Branch, Last}, specs.declared.tree.ReadTree.ReadTree, specs.CommentTexts.{AreCommentsOf, Comments, CommentAt, OtherAt, NoneAt, comments_from}, specs.ReadingLines.{cut_branches, line_branches, node_branches}, specs.ReadingTrees.{Gives, TreeRead, after_line, ended_by, lines_at, next_index, no_lines, put_line, tree_at, tree_line_at, whole_tree}, specs.Trees.{IsBoxCutInForm, IsLineInForm, IsNodeInForm, IsVerdictInForm, SpellsTree, tree_lines}, proofs.LineLaws.{IsToldLine, any_law, later_law, node_law, told_items}}
 
 -- ---- elements with their places
 

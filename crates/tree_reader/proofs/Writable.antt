@@ -1,22 +1,14 @@
 -- The items of a tree in form can be written and read again.
 use Rattle.std.proofs.Common.{◌≡◌, ℕ, ◌+◌, ◌<◌, ◌≤◌, ◌^◌, List, [], ◌∷◌, ◌++◌, length, get_or, All, refl, sym, subst, arith, flat_map, map}
-use Rattle.net_core.proofs.Library.{AllByRecursion, All-cons, All-head, All-nil, All-tail, slice_get-get_or}
-use Rattle.net_core.specs.Terms.{IsName}
+use Rattle.net_core.{proofs.Library.{AllByRecursion, All-cons, All-head, All-nil, All-tail, slice_get-get_or}, specs.Terms.IsName}
 use Rattle.plan_terms.specs.Terms.{CutLine, Demand, Evidence, Link, LinkId, MasterColumn, RouteColumn, WideKind, link_name}
 use Rattle.plan_report.specs.Terms.{IsEvidenceInForm, IsKindInForm, IsMasterColumnInForm, IsRouteColumnInForm, KnownNames, demand_name, evidence_items, master_column_items, numbers_items, route_column_items, wide_items}
 use Rattle.text_kit.specs.Terms.{Item, Verbatim, Whole, Closing, enclosed, IsWritable}
 use Rattle.report_parts.proofs.ColumnVariants.{evidence_cases, master_cases, route_cases, wide_cases}
 use Rattle.master_bound.specs.declared.answer.Multiplier.{Multiplier}
-use Rattle.tree_check.specs.Terms.{Line, Divided, Table, TableKind, Plain, Failing}
-use Rattle.tree_check.specs.declared.proof.BoxCert.{BoxCert}
-use Rattle.tree_check.specs.declared.proof.Node.{Node}
-use Rattle.tree_check.specs.declared.proof.Node.TheVariants.{Split, Closed, Empty, Spent, Stuck}
-use Rattle.tree_check.specs.declared.proof.Verdict.{Verdict}
-use Rattle.tree_check.specs.declared.proof.Verdict.TheVariants.{Cheapest, Above}
+use Rattle.tree_check.{specs.Terms.{Line, Divided, Table, TableKind, Plain, Failing}, specs.declared.proof.BoxCert.BoxCert, specs.declared.proof.Node.Node, specs.declared.proof.Node.TheVariants.{Split, Closed, Empty, Spent, Stuck}, specs.declared.proof.Verdict.Verdict, specs.declared.proof.Verdict.TheVariants.{Cheapest, Above}}
 use Rattle.tree_lines.specs.TreeLines.{box_certificate_items, box_cut_items, line_items, multiplier_items, node_items, table_word, verdict_items}
-use Rattle.tree_reader.specs.declared.tree.ReadTree.{ReadTree}
-use Rattle.tree_reader.specs.Trees.{IsBoxCertificateInForm, IsBoxCutInForm, IsLineInForm, IsNodeInForm, IsTerm, IsTreeInForm, IsVerdictInForm}
-use Rattle.tree_reader.proofs.TreeLaws.{numbered}
+use Rattle.tree_reader.{specs.declared.tree.ReadTree.ReadTree, specs.Trees.{IsBoxCertificateInForm, IsBoxCutInForm, IsLineInForm, IsNodeInForm, IsTerm, IsTreeInForm, IsVerdictInForm}, proofs.TreeLaws.numbered}
 
 abbrev pub AreWritable : List Item → Type 0
 AreWritable is = AllByRecursion IsWritable is

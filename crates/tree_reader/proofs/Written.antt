@@ -1,16 +1,10 @@
 -- Comment lines that were put below a text are comments of their items.
-use Rattle.std.proofs.Common.{◌≡◌, ℕ, ◌+◌, ◌≤◌, ◌==◌, List, [], ◌∷◌, ◌++◌, length, take, drop, refl, sym, ap, subst, ◌∙◌, arith, length-drop, length-append, append_assoc, flat_map, All}
-use Rattle.std.proofs.lemmas.List.{drop-drop, drop-take, length-take}
-use Rattle.std.proofs.Math.Seq.{drop-append_seam}
-use Rattle.net_core.proofs.Library.{AllByRecursion, All-head, All-tail}
-use Rattle.net_core.specs.Terms.{is_space}
+use Rattle.std.{proofs.Common.{◌≡◌, ℕ, ◌+◌, ◌≤◌, ◌==◌, List, [], ◌∷◌, ◌++◌, length, take, drop, refl, sym, ap, subst, ◌∙◌, arith, length-drop, length-append, append_assoc, flat_map, All}, proofs.lemmas.List.{drop-drop, drop-take, length-take}, proofs.Math.Seq.drop-append_seam}
+use Rattle.net_core.{proofs.Library.{AllByRecursion, All-head, All-tail}, specs.Terms.is_space}
 use Rattle.snd_tokens.specs.Terms.{line_length, run_length, Text, EndAt, text_from}
-use Rattle.text_kit.specs.Terms.{Item, Begins, IsMadeOf, IsWritable, word_of}
-use Rattle.text_kit.proofs.Lemmas.{from_is, item_begins, space_passed, text_ends, drop_first, take_first}
-use Rattle.comment_lines.proofs.Passing.{line_long}
-use Rattle.comment_lines.specs.Comments.{AddsLines, IsOneLine, comment_line, spaced_items}
-use Rattle.tree_reader.specs.CommentTexts.{AreCommentsOf, Comments, CommentAt, comments_from}
-use Rattle.tree_reader.proofs.Scanning.{comments_end, comments_hash, comments_space}
+use Rattle.text_kit.{specs.Terms.{Item, Begins, IsMadeOf, IsWritable, word_of}, proofs.Lemmas.{from_is, item_begins, space_passed, text_ends, drop_first, take_first}}
+use Rattle.comment_lines.{proofs.Passing.line_long, specs.Comments.{AddsLines, IsOneLine, comment_line, spaced_items}}
+use Rattle.tree_reader.{specs.CommentTexts.{AreCommentsOf, Comments, CommentAt, comments_from}, proofs.Scanning.{comments_end, comments_hash, comments_space}}
 
 -- items after a space end the word before them
 spaced_stop : (is : List Item) → run_length (spaced_items is) ≡ 0

@@ -3,11 +3,9 @@ use Rattle.std.specs.Prelude.{◌≡◌, ℕ, ◌+◌, ◌<◌, List, drop, take
 use Rattle.plan_terms.specs.Terms.{Demand}
 use Rattle.plan_report.specs.Terms.{KnownNames}
 use Rattle.snd_tokens.specs.Terms.{run_length}
-use Rattle.text_kit.specs.declared.refusal.Refusal.{Refusal}
-use Rattle.text_kit.specs.declared.refusal.Refusal.TheVariants.{Bad, NoMemory}
+use Rattle.text_kit.{specs.declared.refusal.Refusal.Refusal, specs.declared.refusal.Refusal.TheVariants.{Bad, NoMemory}}
 use Rattle.report_words.specs.declared.fault.ReportKind.{ReportKind}
-use Rattle.tree_reader.specs.declared.tree.ReadTree.{ReadTree}
-use Rattle.tree_reader.specs.Trees.{SpellsTree}
+use Rattle.tree_reader.{specs.declared.tree.ReadTree.ReadTree, specs.Trees.SpellsTree}
 
 -- the token at a place, or the one byte there if it begins no token, and the byte after it come before the limit
 pub record PassesToken (at limit : ℕ) (bytes : List ℕ) : Type 0 where

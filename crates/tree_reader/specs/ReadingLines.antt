@@ -3,21 +3,11 @@ use Rattle.std.specs.Prelude.{ℕ, ◌+◌, ◌^◌, List, [], ◌∷◌, length
 use Rattle.plan_terms.specs.Terms.{Demand}
 use Rattle.plan_report.specs.Terms.{KnownNames}
 use Rattle.text_kit.specs.Terms.{Reading, ◌>>=◌, end_at, give, no_fault, of_length}
-use Rattle.report_words.specs.declared.fault.ReportKind.{ReportKind}
-use Rattle.report_words.specs.declared.fault.ReportKind.TheVariants.{Token, Limit}
-use Rattle.report_words.specs.ReportChoices.{next_number_at}
-use Rattle.report_words.specs.Terms.{Branches, branch_at, link_at, money_at, number_at, this_number_at}
+use Rattle.report_words.{specs.declared.fault.ReportKind.ReportKind, specs.declared.fault.ReportKind.TheVariants.{Token, Limit}, specs.ReportChoices.next_number_at, specs.Terms.{Branches, branch_at, link_at, money_at, number_at, this_number_at}}
 use Rattle.report_parts.specs.ReadingQuality.{evidence_at}
 use Rattle.master_bound.specs.declared.answer.Multiplier.{Multiplier}
-use Rattle.tree_check.specs.Terms.{Divided, Table, TableKind, Plain, Failing}
-use Rattle.tree_check.specs.declared.proof.BoxCert.{BoxCert}
-use Rattle.tree_check.specs.declared.proof.Node.TheVariants.{Split, Closed, Empty, Spent, Stuck}
-use Rattle.tree_check.specs.declared.proof.Verdict.TheVariants.{Cheapest, Above}
-use Rattle.tree_reader.specs.declared.run.Stop.{Stop}
-use Rattle.tree_reader.specs.declared.run.Stop.TheVariants.{LineEnd, Wide}
-use Rattle.tree_reader.specs.declared.sofar.TreeLine.{TreeLine}
-use Rattle.tree_reader.specs.declared.sofar.TreeLine.TheVariants.{Cut, Further, Branch, Last}
-use Rattle.tree_reader.specs.Runs.{run_at}
+use Rattle.tree_check.{specs.Terms.{Divided, Table, TableKind, Plain, Failing}, specs.declared.proof.BoxCert.BoxCert, specs.declared.proof.Node.TheVariants.{Split, Closed, Empty, Spent, Stuck}, specs.declared.proof.Verdict.TheVariants.{Cheapest, Above}}
+use Rattle.tree_reader.{specs.declared.run.Stop.Stop, specs.declared.run.Stop.TheVariants.{LineEnd, Wide}, specs.declared.sofar.TreeLine.TreeLine, specs.declared.sofar.TreeLine.TheVariants.{Cut, Further, Branch, Last}, specs.Runs.run_at}
 
 -- ---- lists of numbers
 

@@ -1,21 +1,11 @@
 -- Reading the comment lines of a branch tree one after another.
-use Rattle.std.specs.Prelude.{◌≡◌, ℕ, ◌+◌, ◌==◌, if◌then◌else◌, List, [], ◌∷◌, ◌++◌, Option, None, Some, Result, Ok, Err}
-use Rattle.std.specs.Prelude.{length}
+use Rattle.std.specs.Prelude.{◌≡◌, ℕ, ◌+◌, ◌==◌, if◌then◌else◌, List, [], ◌∷◌, ◌++◌, Option, None, Some, Result, Ok, Err, length}
 use Rattle.plan_terms.specs.Terms.{Demand}
 use Rattle.plan_report.specs.Terms.{KnownNames}
-use Rattle.text_kit.specs.Terms.{Read, Reading, place}
-use Rattle.text_kit.specs.declared.refusal.Refusal.{Refusal}
-use Rattle.text_kit.specs.declared.refusal.Refusal.TheVariants.{Bad, NoMemory}
-use Rattle.report_words.specs.declared.fault.ReportKind.{ReportKind}
-use Rattle.report_words.specs.declared.fault.ReportKind.TheVariants.{Token, Ended, Limit}
-use Rattle.report_words.specs.Terms.{Branches, branch_at}
+use Rattle.text_kit.{specs.Terms.{Read, Reading, place}, specs.declared.refusal.Refusal.Refusal, specs.declared.refusal.Refusal.TheVariants.{Bad, NoMemory}}
+use Rattle.report_words.{specs.declared.fault.ReportKind.ReportKind, specs.declared.fault.ReportKind.TheVariants.{Token, Ended, Limit}, specs.Terms.{Branches, branch_at}}
 use Rattle.tree_check.specs.declared.proof.Verdict.{Verdict}
-use Rattle.tree_reader.specs.declared.sofar.Sofar.{Sofar}
-use Rattle.tree_reader.specs.declared.sofar.TreeLine.{TreeLine}
-use Rattle.tree_reader.specs.declared.sofar.TreeLine.TheVariants.{Cut, Further, Branch, Last}
-use Rattle.tree_reader.specs.declared.tree.ReadTree.{ReadTree}
-use Rattle.tree_reader.specs.CommentTexts.{Comments, CommentAt, OtherAt, NoneAt, comments_from}
-use Rattle.tree_reader.specs.ReadingLines.{cut_branches, line_branches, node_branches}
+use Rattle.tree_reader.{specs.declared.sofar.Sofar.Sofar, specs.declared.sofar.TreeLine.TreeLine, specs.declared.sofar.TreeLine.TheVariants.{Cut, Further, Branch, Last}, specs.declared.tree.ReadTree.ReadTree, specs.CommentTexts.{Comments, CommentAt, OtherAt, NoneAt, comments_from}, specs.ReadingLines.{cut_branches, line_branches, node_branches}}
 
 -- the index of the next cut or further line
 abbrev pub next_index : Sofar → ℕ

@@ -1,8 +1,7 @@
 -- lists of numbers without parentheses, up to the end of a line or to the word `wide`
 use Rattle.std.specs.Prelude.{List, Option, codes}
 use Rattle.text_kit.specs.Terms.{Ending, Reading, TheEnd, TheWord, list_at}
-use Rattle.tree_reader.specs.declared.run.Stop.{Stop}
-use Rattle.tree_reader.specs.declared.run.Stop.TheVariants.{LineEnd, Wide}
+use Rattle.tree_reader.{specs.declared.run.Stop.Stop, specs.declared.run.Stop.TheVariants.{LineEnd, Wide}}
 
 -- what a list ends with
 abbrev pub stop_ending : Stop → Ending

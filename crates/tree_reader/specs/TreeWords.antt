@@ -1,6 +1,5 @@
 -- which comment lines begin as those of a branch tree
-use Rattle.std.specs.Prelude.{◌||◌, Bool, false, ℕ, List, [], ◌∷◌, codes}
-use Rattle.std.specs.List.{list_any}
+use Rattle.std.{specs.Prelude.{◌||◌, Bool, false, ℕ, List, [], ◌∷◌, codes}, specs.List.list_any}
 use Rattle.net_core.specs.Terms.{are_same}
 use Rattle.snd_tokens.specs.Terms.{Text, WordAt}
 use Rattle.tree_reader.specs.CommentTexts.{Comments, CommentAt, OtherAt, NoneAt}

@@ -1,20 +1,12 @@
 -- branch trees as they are read: their comment lines, and which are in form
-use Rattle.std.specs.Prelude.{◌≡◌, ℕ, ◌<◌, ◌≤◌, ◌^◌, List, [], ◌∷◌, ◌++◌, All, length, map, zip}
-use Rattle.std.specs.List.{range_with_len}
+use Rattle.std.{specs.Prelude.{◌≡◌, ℕ, ◌<◌, ◌≤◌, ◌^◌, List, [], ◌∷◌, ◌++◌, All, length, map, zip}, specs.List.range_with_len}
 use Rattle.plan_terms.specs.Terms.{CutLine, Demand}
 use Rattle.plan_report.specs.Terms.{IsEvidenceInForm, KnownNames}
 use Rattle.text_kit.specs.Terms.{Item}
 use Rattle.master_bound.specs.declared.answer.Multiplier.{Multiplier}
-use Rattle.tree_check.specs.Terms.{Line, Divided, Table}
-use Rattle.tree_check.specs.declared.proof.BoxCert.{BoxCert}
-use Rattle.tree_check.specs.declared.proof.Node.{Node}
-use Rattle.tree_check.specs.declared.proof.Node.TheVariants.{Split, Closed, Empty, Spent, Stuck}
-use Rattle.tree_check.specs.declared.proof.Proof.{Proof}
-use Rattle.tree_check.specs.declared.proof.Verdict.{Verdict}
-use Rattle.tree_check.specs.declared.proof.Verdict.TheVariants.{Cheapest, Above}
+use Rattle.tree_check.{specs.Terms.{Line, Divided, Table}, specs.declared.proof.BoxCert.BoxCert, specs.declared.proof.Node.Node, specs.declared.proof.Node.TheVariants.{Split, Closed, Empty, Spent, Stuck}, specs.declared.proof.Proof.Proof, specs.declared.proof.Verdict.Verdict, specs.declared.proof.Verdict.TheVariants.{Cheapest, Above}}
 use Rattle.tree_lines.specs.TreeLines.{box_cut_items, line_items, node_items, verdict_items}
-use Rattle.tree_reader.specs.CommentTexts.{AreCommentsOf, comments_from}
-use Rattle.tree_reader.specs.declared.tree.ReadTree.{ReadTree}
+use Rattle.tree_reader.{specs.CommentTexts.{AreCommentsOf, comments_from}, specs.declared.tree.ReadTree.ReadTree}
 
 -- the tree of a proof, without its plan
 abbrev pub tree_of : Proof → ReadTree

@@ -1,8 +1,7 @@
 ghost use Rattle.std.specs.Prelude.{◌≡◌, ◌+◌, ◌<◌, ◌≤◌, drop, false, length, slice_index};
 ghost use Rattle.net_core.specs.Terms.{is_space};
 ghost use Rattle.snd_tokens.specs.Terms.{line_length};
-ghost use Rattle.tree_reader.specs.CommentTexts.{IsNextLine, comments_from};
-ghost use Rattle.tree_reader.specs.LineEnds.{EndsAfter};
+ghost use Rattle.tree_reader.{specs.CommentTexts.{IsNextLine, comments_from}, specs.LineEnds.EndsAfter};
 
 use net_core::word_bytes::is_space;
 use snd_tokens::Cursor;

@@ -1,8 +1,7 @@
 ghost use Rattle.std.specs.Prelude.{true};
 ghost use Rattle.snd_tokens.specs.Terms.{left};
 ghost use Rattle.text_kit.specs.Terms.{ReadsAs};
-ghost use Rattle.report_words.specs.ReportChoices.{branch_of};
-ghost use Rattle.report_words.specs.Terms.{known_in};
+ghost use Rattle.report_words.{specs.ReportChoices.branch_of, specs.Terms.known_in};
 ghost use Rattle.report_parts.specs.Readers.{reader_demands, reader_names};
 ghost use Rattle.tree_reader.specs.ReadingLines.{above_at, certificate_to, cheapest_at, closed_at, empty_at, node_branches, spent_at, split_at, stuck_at};
 

@@ -3,15 +3,9 @@ ghost use Rattle.plan_terms.specs.Terms.{AreDemands};
 ghost use Rattle.plan_report.specs.Terms.{known_of};
 ghost use Rattle.snd_tokens.specs.Terms.{left};
 ghost use Rattle.text_kit.specs.Terms.{AnswersAs, ReadsAs, place};
-ghost use Rattle.report_words.specs.ReportChoices.{branch_of};
-ghost use Rattle.report_words.specs.Terms.{known_in};
+ghost use Rattle.report_words.{specs.ReportChoices.branch_of, specs.Terms.known_in};
 ghost use Rattle.report_parts.specs.Readers.{reader_demands, reader_names};
-ghost use Rattle.tree_reader.specs.declared.tree.ReadTree.{ReadTree as Tree};
-ghost use Rattle.tree_reader.specs.CommentTexts.{comments_from};
-ghost use Rattle.tree_reader.specs.FirstFaults.{IsNoEarlyTreeFault};
-ghost use Rattle.tree_reader.specs.ReadingLines.{cut_branches, line_branches};
-ghost use Rattle.tree_reader.specs.ReadingTrees.{Gives, PutsLine, TakesLine, ended_by, tree_at, tree_line_at};
-ghost use Rattle.tree_reader.specs.Trees.{SpellsTree};
+ghost use Rattle.tree_reader.{specs.declared.tree.ReadTree.{ReadTree as Tree}, specs.CommentTexts.comments_from, specs.FirstFaults.IsNoEarlyTreeFault, specs.ReadingLines.{cut_branches, line_branches}, specs.ReadingTrees.{Gives, PutsLine, TakesLine, ended_by, tree_at, tree_line_at}, specs.Trees.SpellsTree};
 
 use crate::cuts::{box_cut, divided, table};
 use crate::lines::{NextLine, next_line};

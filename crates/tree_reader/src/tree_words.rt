@@ -2,10 +2,7 @@ ghost use Rattle.std.specs.Prelude.{◌≡◌, ◌≤◌, List, false, length};
 ghost use Rattle.plan_terms.specs.Terms.{Demand};
 ghost use Rattle.plan_report.specs.Terms.{KnownNames};
 ghost use Rattle.snd_tokens.specs.Terms.{left};
-ghost use Rattle.tree_reader.specs.declared.tree.ReadTree.{ReadTree as Tree};
-ghost use Rattle.tree_reader.specs.CommentTexts.{comments_from};
-ghost use Rattle.tree_reader.specs.Trees.{SpellsTree};
-ghost use Rattle.tree_reader.specs.TreeWords.{begins_tree_line, has_tree_line, is_word_of, is_tree_word, line_words, node_words, verdict_words};
+ghost use Rattle.tree_reader.{specs.declared.tree.ReadTree.{ReadTree as Tree}, specs.CommentTexts.comments_from, specs.Trees.SpellsTree, specs.TreeWords.{begins_tree_line, has_tree_line, is_word_of, is_tree_word, line_words, node_words, verdict_words}};
 
 use crate::lines::{NextLine, next_line};
 use crate::nodes::{ABOVE, CHEAPEST, CLOSED, EMPTY, SPENT, SPLIT, STUCK};

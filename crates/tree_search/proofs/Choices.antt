@@ -4,13 +4,8 @@ use Rattle.net_core.proofs.Library.{cases_eq, get_or_from_slice_get, length-map,
 use Rattle.plan_terms.specs.Terms.{AreCounts, IsModule, Link, sum_below}
 use Rattle.tree_check.specs.Terms.{IsFixedSpan, IsSplitOf, any_count, least_counts, span_at, spans_of, module_costs, TreeBox}
 use Rattle.line_check.specs.Inequalities.{entry, module_number, over_modules}
-use Rattle.tree_boxes.specs.Terms.{Span, AreLow, Place}
-use Rattle.tree_search.specs.declared.choice.Choice.{Choice}
-use Rattle.tree_search.specs.inner.Choosing.{HasFreePlace, IsSplittable, IsTriable}
-use Rattle.tree_search.specs.inner.Growing.{IsChoiceOf}
-use Rattle.tree_boxes.proofs.FreeValues.{free_value}
-use Rattle.tree_boxes.proofs.Lemmas.{below_term}
-use Rattle.tree_boxes.proofs.LeastCosts.{free_reaches, total_least}
+use Rattle.tree_boxes.{specs.Terms.{Span, AreLow, Place}, proofs.FreeValues.free_value, proofs.Lemmas.below_term, proofs.LeastCosts.{free_reaches, total_least}}
+use Rattle.tree_search.{specs.declared.choice.Choice.Choice, specs.inner.Choosing.{HasFreePlace, IsSplittable, IsTriable}, specs.inner.Growing.IsChoiceOf}
 
 -- ---- what may be tried is a choice
 

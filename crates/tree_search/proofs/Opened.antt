@@ -1,12 +1,8 @@
 -- the places of a tree in turn: whether one is open, what nodes they become, and what these show
 use Rattle.std.proofs.Common.{◌≡◌, ◌≢◌, ◌∙◌, ℕ, ◌+◌, ◌<◌, ◌⊎◌, ⊎_elim, List, [], ◌∷◌, ◌++◌, None, Some, Option, MatchOption, append_assoc, map, slice_get, refl, sym, ap, subst, arith}
 use Rattle.net_core.proofs.Library.{cases_eq}
-use Rattle.tree_boxes.specs.Terms.{Node, twig_node}
-use Rattle.tree_search.specs.inner.Places.{IsOpenPlace, IsOpenTwig}
-use Rattle.tree_search.specs.inner.Showing.{shown_more, shown_with}
-use Rattle.tree_search.specs.declared.tree.Ranked.{Ranked}
-use Rattle.tree_search.specs.declared.tree.Shown.{Shown}
-use Rattle.tree_boxes.specs.declared.twigs.Twig.{Twig}
+use Rattle.tree_boxes.{specs.Terms.{Node, twig_node}, specs.declared.twigs.Twig.Twig}
+use Rattle.tree_search.{specs.inner.Places.{IsOpenPlace, IsOpenTwig}, specs.inner.Showing.{shown_more, shown_with}, specs.declared.tree.Ranked.Ranked, specs.declared.tree.Shown.Shown}
 use Rattle.tree_boxes.specs.declared.twigs.Twig.TheVariants as twig
 
 -- ---- an open place

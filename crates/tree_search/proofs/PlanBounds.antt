@@ -1,17 +1,11 @@
 -- a plan's certificate over boxes: its value is at least the plan's bound
-use Rattle.std.proofs.Common.{◌≡◌, ◌≢◌, ◌∙◌, ℕ, zero, suc, ◌+◌, ◌-◌, ◌*◌, ◌/◌, ◌%◌, ◌≤◌, ◌<◌, min, ⊎_elim, List, [], ◌∷◌, Some, length, map, slice_get, slice_index, unwrap_or, refl, ap, sym, subst, arith, mul-le-mul_left}
-use Rattle.std.proofs.lemmas.Grind.{div_ceil_times}
+use Rattle.std.{proofs.Common.{◌≡◌, ◌≢◌, ◌∙◌, ℕ, zero, suc, ◌+◌, ◌-◌, ◌*◌, ◌/◌, ◌%◌, ◌≤◌, ◌<◌, min, ⊎_elim, List, [], ◌∷◌, Some, length, map, slice_get, slice_index, unwrap_or, refl, ap, sym, subst, arith, mul-le-mul_left}, proofs.lemmas.Grind.div_ceil_times}
 use Rattle.net_core.proofs.Library.{cases_eq, dvd-mul_right, mul-div_cancel', sum_by-cons, all_at, get_some}
-use Rattle.plan_terms.specs.Terms.{Case, CertificateLine, IsBound, IsGreatestDivisor, Link, Module, asked, charges, fixed_along, given, price, raw_value}
-use Rattle.plan_terms.proofs.Bounds.{bound_free, bound_rounded, quotient_least}
-use Rattle.plan_types.specs.Terms.{IsCertifiedPlan, lines_of_certificate}
-use Rattle.plan_types.specs.declared.certificate.CertLine.{CertLine}
-use Rattle.plan_types.specs.declared.plan.Plan.{Plan}
+use Rattle.plan_terms.{specs.Terms.{Case, CertificateLine, IsBound, IsGreatestDivisor, Link, Module, asked, charges, fixed_along, given, price, raw_value}, proofs.Bounds.{bound_free, bound_rounded, quotient_least}}
+use Rattle.plan_types.{specs.Terms.{IsCertifiedPlan, lines_of_certificate}, specs.declared.certificate.CertLine.CertLine, specs.declared.plan.Plan.Plan}
 use Rattle.tree_check.specs.Terms.{span_at, TreeBox, IsBoxCertificate, all_losses, asked_right, given_free, module_charge, module_costs, value_gains, value_losses}
-use Rattle.line_check.specs.Inequalities.{WeightedLine, coefficients_of, entry, line_of_cut, module_number, module_price}
-use Rattle.line_check.proofs.OverModules.{over-same}
-use Rattle.tree_boxes.proofs.LeastCosts.{over_none}
-use Rattle.tree_boxes.specs.Causes.{HasPlanValue, lines_of_plan}
+use Rattle.line_check.{specs.Inequalities.{WeightedLine, coefficients_of, entry, line_of_cut, module_number, module_price}, proofs.OverModules.over-same}
+use Rattle.tree_boxes.{proofs.LeastCosts.over_none, specs.Causes.{HasPlanValue, lines_of_plan}}
 
 -- ---- bounds
 

@@ -2,31 +2,13 @@
 use Rattle.std.proofs.Common.{◌≡◌, ◌∙◌, ℕ, zero, suc, ◌+◌, ◌*◌, ◌≤◌, ◌<◌, ◌⊎◌, inl, inr, ⊎_elim, ◌↔◌, Bool, true, false, cond, if◌then◌else◌, List, [], ◌∷◌, ◌++◌, Some, All, length, map, slice_get, take, refl, ap, sym, subst, arith}
 use Rattle.net_core.proofs.Library.{cases_Bool, length-map, slice_get_within, sum_by-cons}
 use Rattle.plan_terms.specs.Terms.{Case, CutLine, IsCut}
-use Rattle.plan_types.specs.Terms.{IsCertifiedPlan}
-use Rattle.plan_types.specs.declared.plan.Plan.{Plan}
-use Rattle.tree_boxes.specs.Terms.{IsCheaperPlan, BoxCert, Node, Split, Closed, Empty, Spent, Stuck, Proof, Verdict, is_split, HasPlanValue, IsSettledNode}
-use Rattle.tree_boxes.specs.Terms.{IsTwigOf, twig_node}
-use Rattle.tree_check.specs.Terms.{whole_box, HasBoxValue, HasOpenValue, HoldAllNodes, HoldsNode, IsNodeOf, IsOpenAt, VerdictFollows, IsWhole, TreeBox, boxes_left, sides_of, Inequality, Line, Tested}
-use Rattle.tree_check.specs.declared.proof.Verdict.TheVariants.{Cheapest, Above}
+use Rattle.plan_types.{specs.Terms.IsCertifiedPlan, specs.declared.plan.Plan.Plan}
+use Rattle.tree_boxes.{specs.Terms.{IsCheaperPlan, BoxCert, Node, Split, Closed, Empty, Spent, Stuck, Proof, Verdict, is_split, HasPlanValue, IsSettledNode, IsTwigOf, twig_node, cuts_among, lines_among, moved_certificate, moved_line, moved_node, place_of, source_of, Entry}, proofs.Lemmas.names_are_kept, specs.declared.twigs.OpenBox.OpenBox, specs.declared.twigs.Twig.Twig}
+use Rattle.tree_check.{specs.Terms.{whole_box, HasBoxValue, HasOpenValue, HoldAllNodes, HoldsNode, IsNodeOf, IsOpenAt, VerdictFollows, IsWhole, TreeBox, boxes_left, sides_of, Inequality, Line, Tested}, specs.declared.proof.Verdict.TheVariants.{Cheapest, Above}}
 use Rattle.line_check.specs.Terms.{NamesLine, sources_of, AreTested, names_by}
-use Rattle.tree_boxes.specs.Terms.{cuts_among, lines_among, moved_certificate, moved_line, moved_node, place_of, source_of, Entry}
+use Rattle.tree_search.{specs.FewSplits.{IsCheapNode, split_number}, specs.Proving.{HasNodeCause, IsCertificateOfLeaves, IsProofOf}, specs.inner.Growing.IsGrowing, specs.inner.Places.{AreSettled, AreTwigsOf, twig_sides, twig_splits}, specs.inner.Showing.{all_shown, verdict_of}, specs.declared.tree.Shown.Shown, proofs.CheapSplits.cheap_of, proofs.PlanBounds.plan_value, proofs.Reordered.{holds_moved, moved_sides, moved_split, names_once, value_moved, value_same}, proofs.Rooms.splits_are_few, proofs.Shown.{HasOpenPlace, IsOpenOf, SomeOpen, at_most_each, least_falls, least_reached, open_somewhere}, proofs.TwigNodes.{twig_at, twigs_whole}}
 use Rattle.tree_boxes.specs.Terms.entry
-use Rattle.tree_boxes.proofs.Lemmas.{names_are_kept}
-use Rattle.tree_search.specs.FewSplits.{IsCheapNode, split_number}
-use Rattle.tree_search.specs.Proving.{HasNodeCause, IsCertificateOfLeaves, IsProofOf}
-use Rattle.tree_search.specs.inner.Growing.{IsGrowing}
-use Rattle.tree_search.specs.inner.Places.{AreSettled, AreTwigsOf, twig_sides, twig_splits}
-use Rattle.tree_search.specs.inner.Showing.{all_shown, verdict_of}
-use Rattle.tree_search.specs.declared.tree.Shown.{Shown}
-use Rattle.tree_boxes.specs.declared.twigs.OpenBox.{OpenBox}
-use Rattle.tree_boxes.specs.declared.twigs.Twig.{Twig}
 use Rattle.tree_boxes.specs.declared.twigs.Twig.TheVariants as twig
-use Rattle.tree_search.proofs.CheapSplits.{cheap_of}
-use Rattle.tree_search.proofs.PlanBounds.{plan_value}
-use Rattle.tree_search.proofs.Reordered.{holds_moved, moved_sides, moved_split, names_once, value_moved, value_same}
-use Rattle.tree_search.proofs.Rooms.{splits_are_few}
-use Rattle.tree_search.proofs.Shown.{HasOpenPlace, IsOpenOf, SomeOpen, at_most_each, least_falls, least_reached, open_somewhere}
-use Rattle.tree_search.proofs.TwigNodes.{twig_at, twigs_whole}
 
 -- ---- nodes and places
 

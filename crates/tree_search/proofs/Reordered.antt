@@ -1,13 +1,9 @@
 -- nodes by the indices of a proof, and what these name
 use Rattle.std.proofs.Common.{◌≡◌, ◌∙◌, ℕ, zero, suc, ◌-◌, inl, inr, Bool, true, List, [], ◌∷◌, refl, ap, sym, subst, arith}
-use Rattle.plan_terms.specs.Terms.{Case, Link}
-use Rattle.plan_terms.proofs.Lemmas.{bound_unique}
-use Rattle.line_check.specs.Terms.{AreNamedBy, WeightedLine, IsMadeFrom, IsTableOver, Naming, Source, divided_line, names_among, Multiplier}
-use Rattle.line_check.proofs.DividedTold.{same_weighted}
-use Rattle.line_check.proofs.SameTables.{table_same}
+use Rattle.plan_terms.{specs.Terms.{Case, Link}, proofs.Lemmas.bound_unique}
+use Rattle.line_check.{specs.Terms.{AreNamedBy, WeightedLine, IsMadeFrom, IsTableOver, Naming, Source, divided_line, names_among, Multiplier}, proofs.DividedTold.same_weighted, proofs.SameTables.table_same}
 use Rattle.tree_check.specs.Terms.{HasBoxValue, IsBoxValue, value_gains, value_losses, HoldsNode, TreeBox, sides_of, Inequality, Divided, Table, Plain, Failing}
-use Rattle.tree_boxes.specs.Terms.{BoxCert, Node, Split, Closed, Empty, Spent, Stuck, is_split, moved_certificate, moved_multipliers, moved_node}
-use Rattle.tree_boxes.proofs.Lemmas.{names_below}
+use Rattle.tree_boxes.{specs.Terms.{BoxCert, Node, Split, Closed, Empty, Spent, Stuck, is_split, moved_certificate, moved_multipliers, moved_node}, proofs.Lemmas.names_below}
 
 -- ---- moved nodes
 

@@ -1,26 +1,11 @@
 -- plans that become cheaper on the way
-use Rattle.std.proofs.Common.{◌≡◌, ◌∙◌, ℕ, ◌+◌, ◌*◌, ◌^◌, ◌≤◌, ◌<◌, ⊎_elim, Bool, List, [], ◌∷◌, ◌++◌, All, drop, length, map, take, refl, ap, sym, subst, arith}
-use Rattle.std.proofs.lemmas.List.{length-map, length-take, take-append-drop, take-append-le, take-map, take-take, take_all}
+use Rattle.std.{proofs.Common.{◌≡◌, ◌∙◌, ℕ, ◌+◌, ◌*◌, ◌^◌, ◌≤◌, ◌<◌, ⊎_elim, Bool, List, [], ◌∷◌, ◌++◌, All, drop, length, map, take, refl, ap, sym, subst, arith}, proofs.lemmas.List.{length-map, length-take, take-append-drop, take-append-le, take-map, take-take, take_all}}
 use Rattle.net_core.proofs.Library.{All-cons, All-head, All-nil, All-tail}
 use Rattle.plan_terms.specs.Terms.{Case, CutLine, IsCut, IsSurvivable}
-use Rattle.plan_types.specs.Terms.{IsCertifiedPlan}
-use Rattle.plan_types.specs.declared.plan.Plan.{Plan}
-use Rattle.tree_boxes.specs.Terms.{IsCheaperPlan, BoxCert, Node, Proof, AreCheaperCounts, Extends, HasLearned, IsAim, IsKnown, IsOwnCert, IsSearch}
-use Rattle.tree_boxes.specs.Terms.{IsSoundEntry, aimed, handed_in, most_entries, twig_node, IsRoutedPlan, IsTestOf as IsAbleTestOf}
-use Rattle.tree_boxes.specs.Terms.{cuts_among, moved_line, moved_node, place_of, Entry}
+use Rattle.plan_types.{specs.Terms.IsCertifiedPlan, specs.declared.plan.Plan.Plan}
+use Rattle.tree_boxes.{specs.Terms.{IsCheaperPlan, BoxCert, Node, Proof, AreCheaperCounts, Extends, HasLearned, IsAim, IsKnown, IsOwnCert, IsSearch, IsSoundEntry, aimed, handed_in, most_entries, twig_node, IsRoutedPlan, IsTestOf as IsAbleTestOf, cuts_among, moved_line, moved_node, place_of, Entry}, proofs.Lemmas.{cuts_append, routed_with}, specs.declared.aim.Aim.Aim, specs.declared.search.Search.Search, specs.declared.twigs.Twig.Twig, specs.declared.found.Cheaper.Cheaper, proofs.Extending.{cert_on, handed_same, search_with}, proofs.Knowing.cuts_same}
+use Rattle.tree_search.{specs.Proving.{AreHandedCuts, IsProofOf}, specs.inner.Growing.IsGrownTree, specs.inner.Making.{AreFirstOf, IsProofMade, IsProofWith}, specs.declared.tree.Tree.Tree, proofs.Proved.{is_proof, told_node, told_proof}}
 use Rattle.tree_boxes.specs.Terms.entry
-use Rattle.tree_boxes.proofs.Lemmas.{cuts_append, routed_with}
-use Rattle.tree_search.specs.Proving.{AreHandedCuts, IsProofOf}
-use Rattle.tree_search.specs.inner.Growing.{IsGrownTree}
-use Rattle.tree_search.specs.inner.Making.{AreFirstOf, IsProofMade, IsProofWith}
-use Rattle.tree_boxes.specs.declared.aim.Aim.{Aim}
-use Rattle.tree_boxes.specs.declared.search.Search.{Search}
-use Rattle.tree_search.specs.declared.tree.Tree.{Tree}
-use Rattle.tree_boxes.specs.declared.twigs.Twig.{Twig}
-use Rattle.tree_boxes.specs.declared.found.Cheaper.{Cheaper}
-use Rattle.tree_boxes.proofs.Extending.{cert_on, handed_same, search_with}
-use Rattle.tree_boxes.proofs.Knowing.{cuts_same}
-use Rattle.tree_search.proofs.Proved.{is_proof, told_node, told_proof}
 
 module _ (p : Case) where
   -- a plan is no dearer than itself

@@ -1,6 +1,5 @@
 -- how much room a box leaves for splits
-use Rattle.std.proofs.Common.{◌≡◌, ◌∙◌, ℕ, zero, suc, ◌+◌, ◌-◌, ◌*◌, ◌≤◌, ◌<◌, min, List, [], ◌∷◌, ◌++◌, Option, None, Some, IfSome, All, cond, get_or, length, map, replicate, slice_get, take, refl, ap, sym, subst, arith, set, length-set, add-mul, mul-add}
-use Rattle.std.specs.List.{AllByRecursion, AllZip}
+use Rattle.std.{proofs.Common.{◌≡◌, ◌∙◌, ℕ, zero, suc, ◌+◌, ◌-◌, ◌*◌, ◌≤◌, ◌<◌, min, List, [], ◌∷◌, ◌++◌, Option, None, Some, IfSome, All, cond, get_or, length, map, replicate, slice_get, take, refl, ap, sym, subst, arith, set, length-set, add-mul, mul-add}, specs.List.{AllByRecursion, AllZip}}
 use Rattle.net_core.proofs.Library.{recursion_from_All, length-replicate, sum_by-cons, le-div}
 use Rattle.plan_terms.specs.Terms.{Link, Module}
 use Rattle.tree_check.specs.Terms.{IsSplitOf, any_count, beyond, lower_side, span_at, spans_of, up_to, upper_side, whole_box, module_costs, TreeBox, boxes_left, sides_of}

@@ -1,9 +1,8 @@
 -- what the places of a tree show: the least of the plan's cost and the values of the open leaves
 use Rattle.std.proofs.Common.{◌≡◌, ◌∙◌, ℕ, zero, suc, ◌≤◌, ◌<◌, ◌⊎◌, inl, inr, ⊎_elim, min, true, List, [], ◌∷◌, Some, slice_get, refl, sym, subst, arith}
 use Rattle.net_core.proofs.Library.{cases_lt}
-use Rattle.tree_search.specs.inner.Showing.{shown_more, shown_with}
-use Rattle.tree_search.specs.declared.tree.Shown.{Shown}
 use Rattle.tree_boxes.specs.declared.twigs.Twig.{Twig}
+use Rattle.tree_search.{specs.inner.Showing.{shown_more, shown_with}, specs.declared.tree.Shown.Shown}
 use Rattle.tree_boxes.specs.declared.twigs.Twig.TheVariants as twig
 
 -- an open place has this value

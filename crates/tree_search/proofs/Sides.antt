@@ -1,20 +1,13 @@
 -- the two sides of a split: their boxes, and what is found at them
-use Rattle.std.proofs.Common.{ℕ, zero, suc, ◌∷◌, ◌+◌, ◌^◌, ◌≤◌, ◌<◌, List, [], All, IfSome, Option, None, Some, get_or, length, replicate, set, subst, arith}
-use Rattle.std.proofs.lemmas.List.Elements.{All-map, All-replicate, All-set}
+use Rattle.std.{proofs.Common.{ℕ, zero, suc, ◌∷◌, ◌+◌, ◌^◌, ◌≤◌, ◌<◌, List, [], All, IfSome, Option, None, Some, get_or, length, replicate, set, subst, arith}, proofs.lemmas.List.Elements.{All-map, All-replicate, All-set}}
 use Rattle.net_core.proofs.Library.{All-head, All-tail, length-map, ∥∥₁_elim, props}
 use Rattle.plan_terms.specs.Terms.{AreCounts, Case, CutLine, IsLink, IsNetwork, Link}
 use Rattle.plan_types.specs.declared.plan.Plan.{Plan}
-use Rattle.tree_check.specs.Terms.{IsSplitOf, any_count, beyond, least_counts, lower_side, span_at, spans_of, up_to, upper_side, whole_box, TreeBox}
-use Rattle.tree_boxes.specs.Terms.{Span, AreLow, HaveCounts, IsFoundAt, IsSearchBox, HasLearned, handed_in}
-use Rattle.tree_check.proofs.LeftBoxes.{shape_set, whole_shape}
-use Rattle.tree_search.specs.inner.Growing.{AreSidesOf, IsChoiceOf, sides_with}
-use Rattle.tree_search.specs.declared.choice.Choice.{Choice}
-use Rattle.tree_boxes.specs.declared.search.Search.{Search}
-use Rattle.tree_boxes.specs.declared.found.Found.{Found}
+use Rattle.tree_check.{specs.Terms.{IsSplitOf, any_count, beyond, least_counts, lower_side, span_at, spans_of, up_to, upper_side, whole_box, TreeBox}, proofs.LeftBoxes.{shape_set, whole_shape}}
+use Rattle.tree_boxes.{specs.Terms.{Span, AreLow, HaveCounts, IsFoundAt, IsSearchBox, HasLearned, handed_in}, specs.declared.search.Search.Search, specs.declared.found.Found.Found, specs.declared.twigs.Twig.Twig, proofs.Extending.{handed_same, low_box, twig_on}}
+use Rattle.tree_search.{specs.inner.Growing.{AreSidesOf, IsChoiceOf, sides_with}, specs.declared.choice.Choice.Choice}
 use Rattle.tree_boxes.specs.declared.found.Found.TheVariants as found
 use Rattle.tree_search.specs.declared.growth.Sides.TheVariants as sides
-use Rattle.tree_boxes.specs.declared.twigs.Twig.{Twig}
-use Rattle.tree_boxes.proofs.Extending.{handed_same, low_box, twig_on}
 
 -- a low span in the place of another
 low_set : (n : ℕ) (box : TreeBox) (e m : ℕ) (s : Span) → e < length box → AreLow n box → s.least ≤ 2 ^ 44 + n → AreLow n (set box e (set (spans_of box e) m s))

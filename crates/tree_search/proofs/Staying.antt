@@ -3,12 +3,8 @@ use Rattle.std.proofs.Common.{ℕ, ◌≤◌, List, [], ◌∷◌, arith}
 use Rattle.plan_terms.specs.Terms.{Case, CutLine}
 use Rattle.plan_types.specs.declared.plan.Plan.{Plan}
 use Rattle.tree_check.specs.Terms.{whole_box, TreeBox, Tested}
-use Rattle.tree_boxes.specs.Terms.{Extends, IsTwigOf}
-use Rattle.tree_boxes.specs.declared.twigs.Twig.{Twig}
-use Rattle.tree_boxes.proofs.Extending.{twig_on}
-use Rattle.tree_search.specs.inner.Growing.{IsGrowing}
-use Rattle.tree_search.specs.inner.Places.{AreTwigsOf, twig_sides}
-use Rattle.tree_search.proofs.Placing.{placed_weaker}
+use Rattle.tree_boxes.{specs.Terms.{Extends, IsTwigOf}, specs.declared.twigs.Twig.Twig, proofs.Extending.twig_on}
+use Rattle.tree_search.{specs.inner.Growing.IsGrowing, specs.inner.Places.{AreTwigsOf, twig_sides}, proofs.Placing.placed_weaker}
 
 module _ (p : Case) (plan : Plan) (old new : List Tested) (extends : Extends old new) where
   -- also where there are more splits

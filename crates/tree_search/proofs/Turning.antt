@@ -1,25 +1,14 @@
 -- trees with another place, or with one split more
-use Rattle.std.proofs.Common.{◌≡◌, ℕ, zero, suc, ◌+◌, ◌<◌, cond, MatchOption, None, Option, List, [], ◌∷◌, ◌++◌, Some, Bool, drop, get_or, insert, length, set, slice_get, take, refl, ap, sym, subst, add-one, arith, length-append}
-use Rattle.std.proofs.lemmas.List.{set_split}
+use Rattle.std.{proofs.Common.{◌≡◌, ℕ, zero, suc, ◌+◌, ◌<◌, cond, MatchOption, None, Option, List, [], ◌∷◌, ◌++◌, Some, Bool, drop, get_or, insert, length, set, slice_get, take, refl, ap, sym, subst, add-one, arith, length-append}, proofs.lemmas.List.set_split}
 use Rattle.net_core.proofs.Library.{slice_get_read, slice_get_within, sum_by-append, sum_by-cons}
 use Rattle.plan_terms.specs.Terms.{Case, CutLine}
 use Rattle.plan_types.specs.declared.plan.Plan.{Plan}
 use Rattle.tree_check.specs.Terms.{IsSplitOf, lower_side, upper_side, whole_box, TreeBox, Tested}
-use Rattle.tree_boxes.specs.Terms.{AreCheaperCounts, Split, is_split, IsOpenBox, IsTwigOf, IsLeafTwig, twig_node}
-use Rattle.tree_search.specs.inner.Growing.{AreSidesOf, IsChoiceOf, IsGrowing, IsGrownTo, IsGrownTree, growth_of}
-use Rattle.tree_search.specs.inner.Places.{AreTwigsOf, IsOpenPlace, twig_sides, twig_splits}
-use Rattle.tree_search.specs.declared.choice.Choice.{Choice}
-use Rattle.tree_search.specs.declared.tree.Tree.{Tree}
-use Rattle.tree_boxes.specs.declared.found.Cheaper.{Cheaper}
+use Rattle.tree_boxes.{specs.Terms.{AreCheaperCounts, Split, is_split, IsOpenBox, IsTwigOf, IsLeafTwig, twig_node}, specs.declared.found.Cheaper.Cheaper, specs.declared.twigs.OpenBox.OpenBox, specs.declared.twigs.Twig.Twig, proofs.Extending.extends_none}
+use Rattle.tree_search.{specs.inner.Growing.{AreSidesOf, IsChoiceOf, IsGrowing, IsGrownTo, IsGrownTree, growth_of}, specs.inner.Places.{AreTwigsOf, IsOpenPlace, twig_sides, twig_splits}, specs.declared.choice.Choice.Choice, specs.declared.tree.Tree.Tree, proofs.Staying.twigs_on, proofs.Placing.place_of, proofs.TwigNodes.leaf_sides}
 use Rattle.tree_boxes.specs.declared.found.Found.TheVariants as found
 use Rattle.tree_search.specs.declared.growth.Sides.TheVariants as sides
-use Rattle.tree_boxes.specs.declared.twigs.OpenBox.{OpenBox}
-use Rattle.tree_boxes.specs.declared.twigs.Twig.{Twig}
 use Rattle.tree_boxes.specs.declared.twigs.Twig.TheVariants as twig
-use Rattle.tree_boxes.proofs.Extending.{extends_none}
-use Rattle.tree_search.proofs.Staying.{twigs_on}
-use Rattle.tree_search.proofs.Placing.{place_of}
-use Rattle.tree_search.proofs.TwigNodes.{leaf_sides}
 
 -- ---- lists
 

@@ -1,9 +1,8 @@
 -- trees on the way: their nodes, and what is known of these
 use Rattle.std.proofs.Common.{◌≡◌, ℕ, zero, suc, ◌+◌, List, [], ◌∷◌, ◌++◌, Some, false, map, take, slice_get, refl, subst, sym}
 use Rattle.tree_check.specs.Trees.{TreeBox, boxes_left, sides_of}
-use Rattle.tree_boxes.specs.Terms.{Node, Split, Closed, Empty, Spent, Stuck, is_split}
+use Rattle.tree_boxes.{specs.Terms.{Node, Split, Closed, Empty, Spent, Stuck, is_split}, specs.declared.twigs.Twig.Twig}
 use Rattle.tree_search.specs.inner.Places.{AreTwigsOf, twig_sides}
-use Rattle.tree_boxes.specs.declared.twigs.Twig.{Twig}
 
 -- a node that isn't a split has no sides
 pub leaf_sides : (box : TreeBox) (node : Node) → is_split node ≡ false → sides_of box node ≡ []

@@ -3,9 +3,8 @@ use Rattle.std.specs.Prelude.{◌≡◌, ℕ, ◌+◌, ◌*◌, ◌^◌, ◌≤�
 use Rattle.plan_terms.specs.Terms.{Case, CutLine, IsAble, IsCut, capacities, total_cost}
 use Rattle.plan_types.specs.declared.plan.Plan.{Plan}
 use Rattle.tree_boxes.specs.Terms.{IsWideSomewhere, whole_caps, IsCheaperPlan, BoxCert, Node, Split, Spent, Stuck, Proof, IsUnsettled, lines_of_plan}
-use Rattle.tree_check.specs.Terms.{IsFixedBox, least_counts, IsNodeOf, TreeBox, IsBoxCertificate, module_costs, IsAcceptedProof, IsOpenAt}
+use Rattle.tree_check.{specs.Terms.{IsFixedBox, least_counts, IsNodeOf, TreeBox, IsBoxCertificate, module_costs, IsAcceptedProof, IsOpenAt}, specs.declared.proof.Verdict.TheVariants.{Above, Cheapest}}
 use Rattle.line_check.specs.Inequalities.{entry}
-use Rattle.tree_check.specs.declared.proof.Verdict.TheVariants.{Above, Cheapest}
 use Rattle.tree_search.specs.FewSplits.{AreCharged, split_number, split_room}
 
 -- ---- causes

@@ -1,17 +1,15 @@
-ghost use Rattle.std.specs.Prelude.{◌≡◌, ◌≤◌, ◌<◌, ◌^◌, ◌↔◌, ℕ, All, IfOk, IfSome, IsTrue, MatchOption, map, slice_index};
-ghost use Rattle.std.specs.List.Sorted.{IsPermutation};
+ghost use Rattle.std.{specs.Prelude.{◌≡◌, ◌≤◌, ◌<◌, ◌^◌, ◌↔◌, ℕ, All, IfOk, IfSome, IsTrue, MatchOption, map, slice_index}, specs.List.Sorted.IsPermutation};
 ghost use Rattle.tree_check.specs.Terms.{IsFixedBox, IsFixedSpan, module_costs};
 ghost use Rattle.line_check.specs.Inequalities.{entry};
-ghost use Rattle.tree_search.specs.inner.Choosing.{HasFreePlace, IsCheapChoice, IsFreeSpan, IsSplittable, IsTriable};
 ghost use Rattle.tree_boxes.specs.Terms.{HasFreeValue, AreLow, IsSearchBox, IsKnown, aimed};
-ghost use Rattle.tree_search.specs.inner.Growing.{IsChoiceOf};
+ghost use Rattle.tree_search.{specs.inner.Choosing.{HasFreePlace, IsCheapChoice, IsFreeSpan, IsSplittable, IsTriable}, specs.inner.Growing.IsChoiceOf};
 
+use net_core::{List, Module, NoMemory};
+use std::alloc::Global;
 use tree_boxes::box_program::spans::is_fixed;
 use tree_boxes::box_program::{Amount, Solution};
 use tree_boxes::trim_plan::Place;
 use tree_boxes::{Aim, Known, OpenBox};
-use net_core::{List, Module, NoMemory};
-use std::alloc::Global;
 use tree_check::boxes::{is_split, lower_side, span_at, upper_side};
 use tree_check::{Boxed, Span};
 

@@ -1,16 +1,15 @@
 ghost use Rattle.std.specs.Prelude.{◌≡◌, ◌+◌, ◌*◌, ◌≤◌, ◌<◌, ◌^◌, IfOk, IfSome, MatchOption, None, OnOk, Some, length, slice_set};
 ghost use Rattle.tree_check.specs.Boxes.{lower_side, upper_side, whole_box};
 ghost use Rattle.tree_boxes.specs.Terms.{AreCheaperCounts, IsFoundAt, IsOpenBox, IsSearchBox, HasLearned, IsAim, IsSearch, aimed, handed_in, most_entries};
-ghost use Rattle.tree_search.specs.inner.Growing.{AreSidesOf, IsChoiceOf, IsFirstTree, IsGrowing, IsGrownTo, IsGrownTree, IsTurnTo, growth_of, sides_with};
-ghost use Rattle.tree_search.specs.inner.Places.{IsOpenPlace};
+ghost use Rattle.tree_search.{specs.inner.Growing.{AreSidesOf, IsChoiceOf, IsFirstTree, IsGrowing, IsGrownTo, IsGrownTree, IsTurnTo, growth_of, sides_with}, specs.inner.Places.IsOpenPlace};
 
 use crate::choice::{Choice, choose};
 use crate::tree::{Tree, least_open, open_boxes, set_twig};
-use tree_boxes::trim_plan::Place;
-use tree_boxes::{Aim, Cheaper, Found, OpenBox, Search, Twig, copied, look, make_first_lines};
 use net_core::{Copied, LinkId, NoMemory, discard};
 use outside_io::{Gate, TreeFigures};
 use std::alloc::Global;
+use tree_boxes::trim_plan::Place;
+use tree_boxes::{Aim, Cheaper, Found, OpenBox, Search, Twig, copied, look, make_first_lines};
 use tree_check::boxes::{lower_side, upper_side, whole_box};
 use tree_check::{BoxCert, Node};
 

@@ -1,5 +1,4 @@
-ghost use Rattle.tree_search.specs.FewSplits.{SplitsAreFew};
-ghost use Rattle.tree_search.specs.Proving.{NoneIsSpent};
+ghost use Rattle.tree_search.{specs.FewSplits.SplitsAreFew, specs.Proving.NoneIsSpent};
 
 /// A tree has few splits if each is at a number of modules that cost less than the plan. The call does nothing, and takes no time.
 pub fn splits_are_few()

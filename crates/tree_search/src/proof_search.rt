@@ -2,24 +2,22 @@ ghost use Rattle.std.specs.Prelude.{◌≡◌, [], ◌+◌, ◌*◌, ◌^◌, �
 ghost use Rattle.plan_terms.specs.Terms.{AreDemands, IsSurvivable, case, case_of};
 ghost use Rattle.plan_types.specs.Terms.{IsCertifiedPlan};
 ghost use Rattle.tree_boxes.specs.Terms.{IsRoutedPlan, IsCheaperPlan, AreCheaperCounts, IsKnown, IsOwnCert, IsSearch, IsSoundEntry, IsTestOf, cuts_among, handed_in};
-ghost use Rattle.tree_search.specs.FewSplits.{AreCharged};
-ghost use Rattle.tree_search.specs.Proving.{AreHandedCuts, IsProofOf, ShowsBound, ShowsCheapest};
-ghost use Rattle.tree_search.specs.inner.Making.{AreFirstOf, IsProofMade, IsProofWith};
+ghost use Rattle.tree_search.{specs.FewSplits.AreCharged, specs.Proving.{AreHandedCuts, IsProofOf, ShowsBound, ShowsCheapest}, specs.inner.Making.{AreFirstOf, IsProofMade, IsProofWith}};
 
 use crate::growth::{Growth, grown};
 use crate::own_cert::own_cert;
 use crate::tree::{Tree, finished};
+use net_core::{Copied, CutLine, Instance, List, Network, NoMemory, States, discard};
+use outside_io::Gate;
+use plan_types::Plan;
+use std::alloc::Global;
+use std::mem;
 use tree_boxes::able_counts::AbleTest;
 use tree_boxes::plan_swaps::swap;
 use tree_boxes::proof_order::{Entry, Ordered, in_order};
 use tree_boxes::{
     Aim, Cheaper, Known, MOST_FURTHER, MOST_SET_CUTS, Search, empty_cert, first_items,
 };
-use net_core::{Copied, CutLine, Instance, List, Network, NoMemory, States, discard};
-use outside_io::Gate;
-use plan_types::Plan;
-use std::alloc::Global;
-use std::mem;
 use tree_check::{BoxCert, Proof};
 
 /// The plan with the counts, the cost and the routings of cheaper counts.

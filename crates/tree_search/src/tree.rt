@@ -1,11 +1,10 @@
 ghost use Rattle.std.specs.Prelude.{◌≡◌, ◌+◌, ◌<◌, ◌⊎◌, [], ◌∷◌, true, min, IfOk, MatchOption, None, OnOk, insert, length, map, slice_set};
-ghost use Rattle.tree_search.specs.inner.Places.{AreSettled, IsOpenPlace, IsOpenTwig};
 ghost use Rattle.tree_boxes.specs.Finds.{twig_node};
-ghost use Rattle.tree_search.specs.inner.Showing.{all_shown, shown_with, verdict_of};
+ghost use Rattle.tree_search.{specs.inner.Places.{AreSettled, IsOpenPlace, IsOpenTwig}, specs.inner.Showing.{all_shown, shown_with, verdict_of}};
 
-use tree_boxes::{OpenBox, Twig};
 use net_core::{List, NoMemory};
 use std::alloc::Global;
+use tree_boxes::{OpenBox, Twig};
 use tree_check::{Node, Verdict};
 
 /// A growing tree, with its places in preorder.

@@ -1,8 +1,6 @@
 -- counts of which each is at most the other
-use Rattle.std.proofs.Common.{◌≡◌, ◌∙◌, ℕ, zero, suc, ◌-◌, ◌*◌, ◌^◌, ◌≤◌, ◌<◌, Bool, true, false, if◌then◌else◌, ◌||◌, List, [], ◌∷◌, All, get_or, zip, nat_lt, slice_index, refl, ap, arith, set, mul-le-mul_left}
+use Rattle.std.{proofs.Common.{◌≡◌, ◌∙◌, ℕ, zero, suc, ◌-◌, ◌*◌, ◌^◌, ◌≤◌, ◌<◌, Bool, true, false, if◌then◌else◌, ◌||◌, List, [], ◌∷◌, All, get_or, zip, nat_lt, slice_index, refl, ap, arith, set, mul-le-mul_left}, proofs.lemmas.List.Elements.length_all_zip, specs.List.AllZip}
 use Rattle.net_core.proofs.Library.{nat_tests, All-cons, All-nil, All-head, All-tail, sum_by-cons}
-use Rattle.std.proofs.lemmas.List.Elements.{length_all_zip}
-use Rattle.std.specs.List.{AllZip}
 use Rattle.plan_terms.specs.Terms.{Link, Module, AreCounts, AreWithinLimits, capacities, installs, link_cost, modules_capacity, modules_cost, total_cost}
 use Rattle.trim_plan.specs.Trimmed.{AreAtMost, module_count, one_less}
 

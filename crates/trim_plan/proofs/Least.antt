@@ -2,15 +2,10 @@
 use Rattle.std.proofs.Common.{◌≡◌, ◌∙◌, ℕ, ◌<◌, List, Contains, get_or, length, map, sym, ap, subst}
 use Rattle.net_core.proofs.Library.{get_or-map, length-map, All-contains, get_or_from_slice_get, get_some}
 use Rattle.plan_terms.specs.Terms.{Case, graph_in, IsAble, capacities}
-use Rattle.able_counts.specs.AbleTests.{IsStopAt, whole_caps}
-use Rattle.able_counts.specs.declared.stop.Stop.{Stop}
-use Rattle.able_counts.specs.declared.stop.Stop.TheVariants.{Cut, Wide}
+use Rattle.able_counts.{specs.AbleTests.{IsStopAt, whole_caps}, specs.declared.stop.Stop.Stop, specs.declared.stop.Stop.TheVariants.{Cut, Wide}}
 use Rattle.module_choice.proofs.Pairs.{capacities_long}
 use Rattle.route_law.proofs.Lemmas.{violated_carries_nothing}
-use Rattle.trim_plan.specs.declared.trimmed_plan.Block.{Block}
-use Rattle.trim_plan.specs.Trimmed.{IsBlockAt, one_less}
-use Rattle.trim_plan.specs.Laws.{IsCutStop, TrimmedAreLeast}
-use Rattle.trim_plan.proofs.Lowering.{place_used}
+use Rattle.trim_plan.{specs.declared.trimmed_plan.Block.Block, specs.Trimmed.{IsBlockAt, one_less}, specs.Laws.{IsCutStop, TrimmedAreLeast}, proofs.Lowering.place_used}
 
 -- counts whose capacities violate a cut aren't able
 cut_not_able : (p : Case) (counts : List (List ℕ)) (why : Stop) → IsStopAt p (whole_caps (capacities p.links counts)) why → IsCutStop why → IsAble p counts → ⊥

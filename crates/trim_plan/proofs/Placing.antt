@@ -1,10 +1,7 @@
 -- blocks, one module and one link after another
 use Rattle.std.proofs.Common.{◌≡◌, ◌∙◌, ℕ, ◌+◌, ◌≤◌, ◌<◌, List, [], ◌∷◌, ◌++◌, length, slice_index, take, sym, ap, append_assoc, take_all}
 use Rattle.net_core.proofs.Library.{map-append}
-use Rattle.trim_plan.specs.declared.trimmed_plan.Block.{Block}
-use Rattle.trim_plan.specs.Trimmed.{modules_in_use}
-use Rattle.trim_plan.specs.inner.Sparing.{block_places}
-use Rattle.trim_plan.proofs.Lowering.{module_added, module_skipped}
+use Rattle.trim_plan.{specs.declared.trimmed_plan.Block.Block, specs.Trimmed.modules_in_use, specs.inner.Sparing.block_places, proofs.Lowering.{module_added, module_skipped}}
 
 -- a block after others
 pub place_added : (blocks old : List Block) (b : Block) (e m : ℕ) (counts : List ℕ) → m < length counts → 0 < slice_index counts m → ◌≡◌ {A = ℕ × ℕ} (b.link.0, b.module) (e, m)

@@ -4,11 +4,8 @@ use Rattle.net_core.proofs.Library.{slice_get-get_or, all_at}
 use Rattle.plan_terms.specs.Terms.{Demand, Routing, Case, AreCounts, AreWithinLimits, capacities, total_cost}
 use Rattle.plan_report.specs.Terms.{IsRoutingInForm, Plan}
 use Rattle.route_law.specs.Terms.{IsLowestRouting}
-use Rattle.able_counts.specs.AbleTests.{AreRoutedCounts, AreRoutingsWithin}
-use Rattle.able_counts.specs.declared.able_test.AbleTest.{AbleTest}
-use Rattle.trim_plan.specs.Trimmed.{AreAtMost, IsRoutedPlan, IsTrimmedBy, IsTrimming}
-use Rattle.trim_plan.specs.declared.trimmed_plan.Block.{Block}
-use Rattle.trim_plan.proofs.AtMost.{total_at_most}
+use Rattle.able_counts.{specs.AbleTests.{AreRoutedCounts, AreRoutingsWithin}, specs.declared.able_test.AbleTest.AbleTest}
+use Rattle.trim_plan.{specs.Trimmed.{AreAtMost, IsRoutedPlan, IsTrimmedBy, IsTrimming}, specs.declared.trimmed_plan.Block.Block, proofs.AtMost.total_at_most}
 
 -- the routings of a plan are within the capacities of its counts
 pub plan_routings : (p : Case) (plan : Plan) → plan.demands ≡ p.demands → IsRoutedPlan p plan → AreRoutingsWithin p (capacities p.links plan.counts) plan.routings

@@ -1,8 +1,7 @@
 -- modules with their costs, one after another
 use Rattle.std.proofs.Common.{◌≡◌, ◌∙◌, ℕ, zero, suc, ◌+◌, ◌<◌, List, [], ◌∷◌, ◌++◌, get_or, length, take, sym, ap, arith, append_assoc, append-nil}
 use Rattle.plan_terms.specs.Terms.{Link, Module}
-use Rattle.trim_plan.specs.declared.dearest.Priced.{Priced}
-use Rattle.trim_plan.specs.Dearest.{priced_links, priced_modules}
+use Rattle.trim_plan.{specs.declared.dearest.Priced.Priced, specs.Dearest.{priced_links, priced_modules}}
 
 -- one module more
 pub priced_more : (e m k : ℕ) (modules : List Module) (x : Module) → k < length modules

@@ -1,11 +1,8 @@
 -- routings within fewer and within more modules
-use Rattle.std.proofs.Common.{◌∙◌, ℕ, ◌*◌, ◌≤◌, ⊎_elim, List, slice_index, arith, mul-le-mul_left}
-use Rattle.std.specs.List.{AllZip}
+use Rattle.std.{proofs.Common.{◌∙◌, ℕ, ◌*◌, ◌≤◌, ⊎_elim, List, slice_index, arith, mul-le-mul_left}, specs.List.AllZip}
 use Rattle.plan_terms.specs.Terms.{Routing, Case, capacities}
-use Rattle.able_counts.specs.declared.able_test.AbleTest.{AbleTest}
-use Rattle.able_counts.specs.AbleTests.{AreKeptOrWithin, AreRoutedCounts, AreRoutingsWithin, IsRoutingWithin, IsTestOf}
-use Rattle.trim_plan.specs.Trimmed.{AreAtMost}
-use Rattle.trim_plan.proofs.AtMost.{capacities_at_most, limits_at_most, number_at_most, shape_at_most}
+use Rattle.able_counts.{specs.declared.able_test.AbleTest.AbleTest, specs.AbleTests.{AreKeptOrWithin, AreRoutedCounts, AreRoutingsWithin, IsRoutingWithin, IsTestOf}}
+use Rattle.trim_plan.{specs.Trimmed.AreAtMost, proofs.AtMost.{capacities_at_most, limits_at_most, number_at_most, shape_at_most}}
 
 -- what is within capacities is within greater ones
 routing_more : (p : Case) (s : ℕ) (nums more : List ℕ) (r : Routing) → AllZip ◌≤◌ nums more → IsRoutingWithin p s nums r → IsRoutingWithin p s more r

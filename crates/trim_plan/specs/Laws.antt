@@ -1,10 +1,8 @@
 -- what trimmed counts are good for
 use Rattle.std.specs.Prelude.{ℕ, ◌<◌, List, All}
 use Rattle.plan_terms.specs.Terms.{Case, IsAble}
-use Rattle.able_counts.specs.declared.stop.Stop.{Stop}
-use Rattle.able_counts.specs.declared.stop.Stop.TheVariants.{Cut, Wide}
-use Rattle.trim_plan.specs.declared.trimmed_plan.Block.{Block}
-use Rattle.trim_plan.specs.Trimmed.{IsTrimmedBy, module_count, one_less}
+use Rattle.able_counts.{specs.declared.stop.Stop.Stop, specs.declared.stop.Stop.TheVariants.{Cut, Wide}}
+use Rattle.trim_plan.{specs.declared.trimmed_plan.Block.Block, specs.Trimmed.{IsTrimmedBy, module_count, one_less}}
 
 -- the block is a cut
 abbrev pub IsCutStop : Stop → Type 0

@@ -1,14 +1,11 @@
 -- plans from which no module can be spared, and what keeps each module
-use Rattle.std.specs.Prelude.{◌≡◌, ℕ, zero, suc, ◌+◌, ◌-◌, ◌^◌, ◌≤◌, ◌++◌, List, [], ◌∷◌, All, map, slice_index, slice_index_or, slice_set}
-use Rattle.std.specs.List.{AllZip}
+use Rattle.std.{specs.Prelude.{◌≡◌, ℕ, zero, suc, ◌+◌, ◌-◌, ◌^◌, ◌≤◌, ◌++◌, List, [], ◌∷◌, All, map, slice_index, slice_index_or, slice_set}, specs.List.AllZip}
 use Rattle.plan_terms.specs.Terms.{Case, capacities}
 use Rattle.plan_types.specs.Terms.{IsCarryingPlan, IsCostedPlan}
 use Rattle.plan_report.specs.Terms.{IsPlanInForm, known_to, Plan}
 use Rattle.route_law.specs.Terms.{IsLowestRouting}
 use Rattle.able_counts.specs.AbleTests.{IsStopAt, whole_caps}
-use Rattle.trim_plan.specs.declared.dearest.Priced.{Priced}
-use Rattle.trim_plan.specs.declared.trimmed_plan.Block.{Block}
-use Rattle.trim_plan.specs.declared.trimmed_plan.Trimmed.{Trimmed}
+use Rattle.trim_plan.{specs.declared.dearest.Priced.Priced, specs.declared.trimmed_plan.Block.Block, specs.declared.trimmed_plan.Trimmed.Trimmed}
 
 -- ---- counts
 

@@ -1,8 +1,7 @@
 ghost use Rattle.std.specs.Prelude.{◌≡◌, ◌<◌, ◌++◌, [], All, IfOk, IsTrue, MatchOption, OnOk, false, length, slice_index_or};
 ghost use Rattle.plan_terms.specs.Terms.{case_of, IsSurvivable};
 ghost use Rattle.able_counts.specs.AbleTests.{AreRoutedCounts};
-ghost use Rattle.trim_plan.specs.Trimmed.{AreAtMost, IsTrimmedBy, modules_in_use, IsBlockAt};
-ghost use Rattle.trim_plan.specs.inner.Sparing.{LowersCounts, block_places};
+ghost use Rattle.trim_plan.{specs.Trimmed.{AreAtMost, IsTrimmedBy, modules_in_use, IsBlockAt}, specs.inner.Sparing.{LowersCounts, block_places}};
 
 use crate::lowered_counts::{Place, module_count};
 use crate::spared_modules::take_off;

@@ -1,7 +1,5 @@
-ghost use Rattle.std.specs.Prelude.{◌≡◌, ◌≤◌, ◌++◌, AllPairs, IfOk, OnOk};
-ghost use Rattle.std.specs.List.Sorted.{IsPermutation};
-ghost use Rattle.trim_plan.specs.Dearest.{priced_links, priced_modules};
-ghost use Rattle.trim_plan.specs.Trimmed.{price_rank};
+ghost use Rattle.std.{specs.Prelude.{◌≡◌, ◌≤◌, ◌++◌, AllPairs, IfOk, OnOk}, specs.List.Sorted.IsPermutation};
+ghost use Rattle.trim_plan.{specs.Dearest.{priced_links, priced_modules}, specs.Trimmed.price_rank};
 
 use crate::lowered_counts::Place;
 use net_core::{List, Module, Network, NoMemory};

@@ -3,9 +3,7 @@ use Rattle.std.proofs.Common.{ℕ, List, All}
 use Rattle.net_core.proofs.Library.{All-weaker}
 use Rattle.plan_terms.specs.Terms.{Caps, Case, Evidence, Route, Master, graph_in}
 use Rattle.flow_router.specs.Answers.{IsEvidenceHere}
-use Rattle.trim_plan.specs.Terms.{IsStopAt, Stop, Cut, Wide}
-use Rattle.trim_plan.specs.Trimmed.{IsBlockAt, IsTrimmedBy}
-use Rattle.trim_plan.specs.declared.trimmed_plan.Block.{Block}
+use Rattle.trim_plan.{specs.Terms.{IsStopAt, Stop, Cut, Wide}, specs.Trimmed.{IsBlockAt, IsTrimmedBy}, specs.declared.trimmed_plan.Block.Block}
 use Rattle.report_comments.specs.ReportComments.{IsOfRouting}
 use Rattle.trimmed_report.specs.BlockLines.{IsTold}
 

@@ -2,13 +2,8 @@
 use Rattle.std.proofs.Common.{List, sym, subst}
 use Rattle.plan_terms.specs.Terms.{Demand, Notes, Case}
 use Rattle.plan_report.specs.Terms.{AreRoutingsInForm, known_to, Plan}
-use Rattle.lone_plan.specs.Terms.{IsTranscript, IsSoundDesign, plan_commands, redesigned_plan, whole_report}
-use Rattle.trim_plan.specs.Trimmed.{IsRoutedPlan, IsTrimming}
-use Rattle.trim_plan.specs.declared.trimmed_plan.Trimmed.{Trimmed}
-use Rattle.lone_plan.specs.declared.planned_report.PlannedReport.{PlannedReport}
-use Rattle.lone_plan.proofs.Accepted.{lone_plans_are_accepted}
-use Rattle.lone_plan.proofs.CheaperKept.{cheaper_redesigns_are_plans}
-use Rattle.lone_plan.proofs.PlansOf.{lone_plans_carry}
+use Rattle.lone_plan.{specs.Terms.{IsTranscript, IsSoundDesign, plan_commands, redesigned_plan, whole_report}, specs.declared.planned_report.PlannedReport.PlannedReport, proofs.Accepted.lone_plans_are_accepted, proofs.CheaperKept.cheaper_redesigns_are_plans, proofs.PlansOf.lone_plans_carry}
+use Rattle.trim_plan.{specs.Trimmed.{IsRoutedPlan, IsTrimming}, specs.declared.trimmed_plan.Trimmed.Trimmed}
 use Rattle.trimmed_report.specs.TrimmedReports.{IsTrimmedReport}
 
 module _ (p : Case) (notes : Notes) (r : PlannedReport) (t : IsTranscript p notes plan_commands (whole_report r)) where

@@ -1,10 +1,8 @@
 -- the result of a trimming: the report of a plan from which no module can be spared, or the first separation
 use Rattle.std.specs.Prelude.{List}
 use Rattle.plan_terms.specs.Terms.{Notes, Case}
-use Rattle.lone_plan.specs.Terms.{IsTranscript, IsAcceptable, IsSeparationOf, plan_commands, whole_report}
-use Rattle.trim_plan.specs.declared.trimmed_plan.Block.{Block}
-use Rattle.trim_plan.specs.Trimmed.{IsTrimmedBy}
-use Rattle.lone_plan.specs.declared.planned_report.PlannedReport.{PlannedReport}
+use Rattle.lone_plan.{specs.Terms.{IsTranscript, IsAcceptable, IsSeparationOf, plan_commands, whole_report}, specs.declared.planned_report.PlannedReport.PlannedReport}
+use Rattle.trim_plan.{specs.declared.trimmed_plan.Block.Block, specs.Trimmed.IsTrimmedBy}
 use Rattle.trimmed_report.specs.declared.ending.TrimEnding.{TrimEnding}
 use Rattle.trimmed_report.specs.declared.ending.TrimEnding.TheVariants as ending
 

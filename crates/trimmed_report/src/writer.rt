@@ -3,8 +3,7 @@ ghost use Rattle.plan_terms.specs.Terms.{case_of};
 ghost use Rattle.plan_report.specs.Terms.{known_of, report_text, SpellsReport};
 ghost use Rattle.lone_plan.specs.LonePlans.{whole_report};
 ghost use Rattle.comment_lines.specs.Comments.{AddsLines};
-ghost use Rattle.trimmed_report.specs.BlockLines.{IsTold, block_items, block_lines};
-ghost use Rattle.trimmed_report.specs.TrimmedReports.{IsTrimmedReport};
+ghost use Rattle.trimmed_report.{specs.BlockLines.{IsTold, block_items, block_lines}, specs.TrimmedReports.IsTrimmedReport};
 
 use crate::comments::put_blocks;
 use lone_plan::PlannedReport;

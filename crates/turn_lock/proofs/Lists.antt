@@ -1,9 +1,9 @@
 -- Lists of which one element changes, and sums over them.
 use Rattle.std.proofs.Common.{◌≡◌, ◌≢◌, ℕ, zero, suc, ◌+◌, ◌<◌, ◌≤◌, List, [], ◌∷◌, ◌++◌, length, get_or, sum_by, set, ⊎_elim, refl, sym, ap, subst, arith}
 use Rattle.net_core.proofs.Library.{sum_by-set, sum_by-cons}
+use Rattle.atomic_table.proofs.Lists.{at_set, at_snoc}
 use mathlib.Core.Option.{some, some-injective, some-ne-none}
 use lib.ListN.{get_elem?}
-use Rattle.atomic_table.proofs.Lists.{at_set, at_snoc}
 
 module _ {A : Type 0} where
   pub at_or : (l : List A) (i : ℕ) (a : A) → get_elem? l i ≡ some a → (i < length l) × (get_or l i a ≡ a)

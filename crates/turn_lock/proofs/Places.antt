@@ -1,8 +1,7 @@
 -- Prefixes, ascending places, how often a place is among them, and numbers in a range.
 use Rattle.std.proofs.Common.{◌≡◌, ℕ, zero, suc, ◌+◌, ◌<◌, ◌≤◌, List, [], ◌∷◌, ◌++◌, length, eqb, ltb, leb, true, ◌&&◌, ⊎_elim, refl, sym, ap, ◌∙◌, arith, append_assoc, length-append, append-nil, lt-ltb, le-ltb, le-leb, eq-eqb, ne_eqb, leb-true, ltb-true, ltb-false}
 use Rattle.net_core.proofs.Library.{nil_from_length, sum_by-cons, and_parts, and_from, and_left, and_right, cases_eq, cases_lt, lt-leb, cond_both, range_with_len}
-use Rattle.turn_lock.specs.Histories.{IsPrefix, longer, are_places, with_place, merged}
-use Rattle.turn_lock.specs.inner.Rule.{one_where, one_within, times_at}
+use Rattle.turn_lock.{specs.Histories.{IsPrefix, longer, are_places, with_place, merged}, specs.inner.Rule.{one_where, one_within, times_at}}
 
 -- 1 where the numbers are equal
 pub one_if : (a b : ℕ) → a ≡ b → one_where (eqb a b) ≡ 1

@@ -1,19 +1,10 @@
 -- The steps of a turn keep the rule: draw, look, commit, serve.
 use Rattle.std.proofs.Common.{◌≡◌, ◌≢◌, ℕ, zero, suc, ◌+◌, ◌%◌, ◌^◌, ◌<◌, ◌≤◌, List, [], ◌∷◌, ◌++◌, length, get_or, sum_by, eqb, set, Some, Option, inl, inr, ⊎_elim, refl, sym, ap, subst, ◌∙◌, arith, length-append, map, true}
 use Rattle.net_core.proofs.Library.{set-get_or, sum_by_push, cases_eq, some_same}
+use Rattle.atomic_table.{specs.Table.{State, Me, Step, step, Allows, keeps, takes, gives, stepped, rest, opening}, proofs.Lists.one_turn}
+use Rattle.turn_lock.{specs.declared.rule.View.View, specs.declared.rule.Stage.Stage, specs.declared.rule.Stage.TheVariants.{Idle, Waiting, Holding, Joined}, specs.Histories.{IsPrefix, are_places}, specs.inner.Tests.stage_number, specs.inner.Rule.{one_where, one_within, times_at, tickets_of, ticket_at, turns_of, reach, KnowsStage, Knows, HasSlot, Kept, first_view}, specs.inner.Plays.{Awaits, Draws, Looks, TakesValue, Commits, Serves}, proofs.Lists.{each_set, sum_set, one_below, two_below, sums_le, sums_lt}, proofs.Places.{one_if, within_after, within_few, within_some, within_more, within_less, prefix_same, prefix_le, prefix_more, wider, place_last}}
 use mathlib.Core.Option.{some, none, some-injective, some-ne-none}
 use lib.ListN.{get_elem?}
-use Rattle.atomic_table.specs.Table.{State, Me, Step, step, Allows, keeps, takes, gives, stepped, rest, opening}
-use Rattle.atomic_table.proofs.Lists.{one_turn}
-use Rattle.turn_lock.specs.declared.rule.View.{View}
-use Rattle.turn_lock.specs.declared.rule.Stage.{Stage}
-use Rattle.turn_lock.specs.declared.rule.Stage.TheVariants.{Idle, Waiting, Holding, Joined}
-use Rattle.turn_lock.specs.Histories.{IsPrefix, are_places}
-use Rattle.turn_lock.specs.inner.Tests.{stage_number}
-use Rattle.turn_lock.specs.inner.Rule.{one_where, one_within, times_at, tickets_of, ticket_at, turns_of, reach, KnowsStage, Knows, HasSlot, Kept, first_view}
-use Rattle.turn_lock.specs.inner.Plays.{Awaits, Draws, Looks, TakesValue, Commits, Serves}
-use Rattle.turn_lock.proofs.Lists.{each_set, sum_set, one_below, two_below, sums_le, sums_lt}
-use Rattle.turn_lock.proofs.Places.{one_if, within_after, within_few, within_some, within_more, within_less, prefix_same, prefix_le, prefix_more, wider, place_last}
 
 module _ {I : Type 0} where
   pub idle_from_number : (st : Stage I) → stage_number st ≡ 0 → st ≡ Idle

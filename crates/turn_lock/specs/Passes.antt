@@ -1,10 +1,6 @@
 -- What contracts say of desks, passes and turns.
-use Rattle.std.specs.Prelude.{◌≡◌, ℕ, List, Some, Option, drop, take}
-use Rattle.std.specs.List.{flat_map}
-use Rattle.turn_lock.specs.declared.chronicle.Chronicle.{Ghosts}
-use Rattle.turn_lock.specs.declared.desk.Desk.{Desk}
-use Rattle.turn_lock.specs.declared.desk.Pass.{Pass}
-use Rattle.turn_lock.specs.declared.desk.Turn.{Turn}
+use Rattle.std.{specs.Prelude.{◌≡◌, ℕ, List, Some, Option, drop, take}, specs.List.flat_map}
+use Rattle.turn_lock.{specs.declared.chronicle.Chronicle.Ghosts, specs.declared.desk.Desk.Desk, specs.declared.desk.Pass.Pass, specs.declared.desk.Turn.Turn}
 
 -- what has been seen of a history, and the own items in it, in their order
 pub record Seen (I : Type 0) : Type 0 where

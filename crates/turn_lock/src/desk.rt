@@ -1,9 +1,6 @@
-ghost use Rattle.std.specs.Prelude.{◌≡◌, ◌+◌, ◌/◌, ◌^◌, ◌≤◌, ◌++◌, ◌∷◌, [], Some, IfOk, IfErr, length, true};
-ghost use Rattle.std.specs.List.{range_with_len};
-ghost use Rattle.std.specs.Coded.{Coded-set};
+ghost use Rattle.std.{specs.Prelude.{◌≡◌, ◌+◌, ◌/◌, ◌^◌, ◌≤◌, ◌++◌, ◌∷◌, [], Some, IfOk, IfErr, length, true}, specs.List.range_with_len, specs.Coded.Coded-set};
 ghost use Rattle.atomic_table.specs.Seated.{table_id_coded};
-ghost use Rattle.turn_lock.specs.Histories.{IsPrefix, longer, merged, are_places};
-ghost use Rattle.turn_lock.specs.inner.Tests.{IsDeskTable, has_vacant_slot, stage_number};
+ghost use Rattle.turn_lock.{specs.Histories.{IsPrefix, longer, merged, are_places}, specs.inner.Tests.{IsDeskTable, has_vacant_slot, stage_number}};
 
 use crate::chronicle::Chronicle;
 use crate::rule::{TurnSeat, TurnTable};

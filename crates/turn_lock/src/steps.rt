@@ -1,8 +1,6 @@
 //! The steps at the table, each in a function of its own.
 ghost use Rattle.std.specs.Prelude.{◌≡◌, ◌≤◌, ◌+◌, ◌++◌, ◌∷◌, [], Some, None, length, IfSome, IfNone};
-ghost use Rattle.turn_lock.specs.Histories.{IsPrefix, longer, merged};
-ghost use Rattle.turn_lock.specs.inner.Plays.{Awaits, Got, OwnItemsStand, first_half, second_half};
-ghost use Rattle.turn_lock.specs.inner.Tests.{IsDeskTable, stage_number};
+ghost use Rattle.turn_lock.{specs.Histories.{IsPrefix, longer, merged}, specs.inner.Plays.{Awaits, Got, OwnItemsStand, first_half, second_half}, specs.inner.Tests.{IsDeskTable, stage_number}};
 
 use crate::chronicle::Chronicle;
 use crate::rule::{Commit, Draw, Halves, Look, Merge, Serve, Settle, TurnSeat, TurnTable};

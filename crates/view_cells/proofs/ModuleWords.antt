@@ -1,6 +1,5 @@
 -- words on the first kinds of modules
-use Rattle.std.proofs.Common.{◌≡◌, ℕ, zero, suc, ◌+◌, ◌<◌, List, [], ◌∷◌, ◌++◌, append-nil, append_assoc, ap, arith, get_or, length, min, refl, sym, take, ◌∙◌}
-use Rattle.std.proofs.Common.{add-one}
+use Rattle.std.proofs.Common.{◌≡◌, ℕ, zero, suc, ◌+◌, ◌<◌, List, [], ◌∷◌, ◌++◌, append-nil, append_assoc, ap, arith, get_or, length, min, refl, sym, take, ◌∙◌, add-one}
 use Rattle.plan_terms.specs.Terms.{Module, Places}
 use Rattle.view_cells.specs.ModuleWords.{kind_words, kinds_words}
 

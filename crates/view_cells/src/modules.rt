@@ -1,6 +1,5 @@
 ghost use Rattle.std.specs.Prelude.{◌≡◌, ◌++◌, ◌∷◌, [], OnOk, codes};
-ghost use Rattle.view_cells.specs.Cells.{joined_words};
-ghost use Rattle.view_cells.specs.ModuleWords.{kind_words, kinds_words};
+ghost use Rattle.view_cells.{specs.Cells.joined_words, specs.ModuleWords.{kind_words, kinds_words}};
 
 use crate::cells::{push_cell, push_joined};
 use net_core::{List, Module, NoMemory, Places};

@@ -1,5 +1,4 @@
-ghost use Rattle.std.specs.Prelude.{◌≡◌, ◌≤◌, ◌++◌, All, IfOk, false, length, true};
-ghost use Rattle.std.specs.List.{AllByRecursion};
+ghost use Rattle.std.{specs.Prelude.{◌≡◌, ◌≤◌, ◌++◌, All, IfOk, false, length, true}, specs.List.AllByRecursion};
 ghost use Rattle.text_table.specs.Cells.{AreWidened, table_text};
 ghost use Rattle.view_cells.specs.Tables.{HasRows, IsApart};
 

@@ -1,6 +1,5 @@
 -- flows of one state more
-use Rattle.std.proofs.Common.{◌≡◌, ◌≤◌, ℕ, ◌+◌, List, ◌++◌, add-one, append-nil, append_assoc, ap, length, sym, ◌∙◌}
-use Rattle.std.proofs.lemmas.Option.{slice_get_past}
+use Rattle.std.{proofs.Common.{◌≡◌, ◌≤◌, ℕ, ◌+◌, List, ◌++◌, add-one, append-nil, append_assoc, ap, length, sym, ◌∙◌}, proofs.lemmas.Option.slice_get_past}
 use Rattle.plan_terms.specs.Terms.{Case}
 use Rattle.plan_types.specs.declared.plan.Plan.{Plan}
 use Rattle.view_csv.specs.Sheets.{flows_of_state, flows_of_states}

@@ -3,8 +3,7 @@ ghost use Rattle.flow_rows.specs.Terms.{flow_row};
 ghost use Rattle.plan_report.specs.Terms.{demand_name, known_of, state_name};
 ghost use Rattle.plan_terms.specs.Terms.{case_of};
 ghost use Rattle.text_kit.specs.Terms.{money_word};
-ghost use Rattle.view_csv.specs.Fields.{ends_fields, flow_fields, link_names, node_names, with_plan};
-ghost use Rattle.view_csv.specs.Sheets.{flows_of_state, flows_of_states, flows_of_routing};
+ghost use Rattle.view_csv.{specs.Fields.{ends_fields, flow_fields, link_names, node_names, with_plan}, specs.Sheets.{flows_of_state, flows_of_states, flows_of_routing}};
 
 use crate::names::{push_links, push_nodes};
 use crate::sheet::{PlanNumber, numbered};

@@ -4,8 +4,7 @@ ghost use Rattle.plan_terms.specs.Terms.{case_of};
 ghost use Rattle.plan_view.specs.Terms.{IsSoundPlan};
 ghost use Rattle.text_kit.specs.Terms.{money_word};
 ghost use Rattle.view_cells.specs.Terms.{joined_words, kinds_words};
-ghost use Rattle.view_csv.specs.Fields.{fields_of_link, link_fields, with_plan};
-ghost use Rattle.view_csv.specs.Sheets.{AddsRows, AreLinkFields};
+ghost use Rattle.view_csv.{specs.Fields.{fields_of_link, link_fields, with_plan}, specs.Sheets.{AddsRows, AreLinkFields}};
 
 use crate::sheet::{PlanNumber, numbered};
 use net_core::{Instance, Link, List, Network, NoMemory, Places, States};

@@ -2,8 +2,7 @@ ghost use Rattle.std.specs.Prelude.{◌≡◌, ◌∷◌, [], All, IfOk, OnOk, l
 ghost use Rattle.plan_terms.specs.Terms.{AreDemands, case_of};
 ghost use Rattle.plan_view.specs.Terms.{IsSoundPlan};
 ghost use Rattle.view_text.specs.Terms.{HasSoundPlan, case_of_plan, problem_case, AddsText};
-ghost use Rattle.view_csv.specs.Columns.{sheet_columns};
-ghost use Rattle.view_csv.specs.Sheets.{AddsRows, AreOutcomeRows, IsSheet, ShowsOutcome, ShowsPlan};
+ghost use Rattle.view_csv.{specs.Columns.sheet_columns, specs.Sheets.{AddsRows, AreOutcomeRows, IsSheet, ShowsOutcome, ShowsPlan}};
 
 use crate::flows::put_flows;
 use crate::links::put_links;

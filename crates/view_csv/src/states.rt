@@ -3,8 +3,7 @@ ghost use Rattle.plan_report.specs.Terms.{known_of, state_name};
 ghost use Rattle.plan_terms.specs.Terms.{case_of};
 ghost use Rattle.plan_view.specs.Terms.{IsSoundPlan};
 ghost use Rattle.text_kit.specs.Terms.{money_word};
-ghost use Rattle.view_csv.specs.Fields.{fullest_field, link_names, with_plan, state_fields, tenths_word};
-ghost use Rattle.view_csv.specs.Sheets.{AddsRows, AreStateFields};
+ghost use Rattle.view_csv.{specs.Fields.{fullest_field, link_names, with_plan, state_fields, tenths_word}, specs.Sheets.{AddsRows, AreStateFields}};
 
 use crate::names::push_links;
 use crate::sheet::{PlanNumber, numbered};

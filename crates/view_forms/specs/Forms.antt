@@ -5,10 +5,8 @@ use Rattle.plan_types.specs.declared.report.Outcome.{Outcome}
 use Rattle.view_csv.specs.Terms.{IsSheet}
 use Rattle.view_state.specs.Terms.{IsStateView}
 use Rattle.view_svg.specs.Terms.{IsReportPicture}
-use Rattle.view_text.specs.Terms.{IsReportView}
-use Rattle.view_text.specs.declared.proof.CostProof.{CostProof}
-use Rattle.view_forms.specs.declared.form.ViewForm.{ViewForm}
-use Rattle.view_forms.specs.declared.form.ViewForm.TheVariants.{Picture, State, Tables, Values}
+use Rattle.view_text.{specs.Terms.IsReportView, specs.declared.proof.CostProof.CostProof}
+use Rattle.view_forms.{specs.declared.form.ViewForm.ViewForm, specs.declared.form.ViewForm.TheVariants.{Picture, State, Tables, Values}}
 
 -- a case can be read in this form: the state is one of its own
 abbrev pub IsFormOf : Case → ViewForm → Type 0

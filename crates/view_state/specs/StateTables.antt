@@ -1,6 +1,5 @@
 -- the cells of what links carry in a state, and of the paths that demands take there
-use Rattle.std.specs.Prelude.{ℕ, List, [], ◌∷◌, codes, map, slice_get}
-use Rattle.std.specs.Option.{option_map_or}
+use Rattle.std.{specs.Prelude.{ℕ, List, [], ◌∷◌, codes, map, slice_get}, specs.Option.option_map_or}
 use Rattle.flow_rows.specs.declared.rows.FlowRow.{FlowRow}
 use Rattle.plan_report.specs.Terms.{demand_name, node_name}
 use Rattle.plan_terms.specs.Terms.{Demand, Link, Places}

@@ -1,16 +1,12 @@
 -- what people read of one state of the plans of a report
-use Rattle.std.specs.Prelude.{◌≡◌, ℕ, List, [], ◌∷◌, ◌++◌, codes, decimal, length, map, slice_get}
-use Rattle.std.specs.Option.{option_map_or}
-use Rattle.flow_rows.specs.Terms.{flow_row}
-use Rattle.flow_rows.specs.declared.rows.FlowRow.{FlowRow}
+use Rattle.std.{specs.Prelude.{◌≡◌, ℕ, List, [], ◌∷◌, ◌++◌, codes, decimal, length, map, slice_get}, specs.Option.option_map_or}
+use Rattle.flow_rows.{specs.Terms.flow_row, specs.declared.rows.FlowRow.FlowRow}
 use Rattle.plan_terms.specs.Terms.{Case, Routing, capacities}
 use Rattle.plan_report.specs.Terms.{Plan, Outcome, Planned, Unsurvivable}
-use Rattle.plan_view.specs.Terms.{AreLoadRows, routing_in}
-use Rattle.plan_view.specs.declared.rows.LoadRow.{LoadRow}
+use Rattle.plan_view.{specs.Terms.{AreLoadRows, routing_in}, specs.declared.rows.LoadRow.LoadRow}
 use Rattle.view_cells.specs.Terms.{HasRows}
 use Rattle.view_text.specs.Terms.{case_of_plan}
-use Rattle.view_state.specs.StateHeadings.{state_heading}
-use Rattle.view_state.specs.StateTables.{load_cells, load_heads, path_cells, path_heads}
+use Rattle.view_state.{specs.StateHeadings.state_heading, specs.StateTables.{load_cells, load_heads, path_cells, path_heads}}
 
 -- the text has these rows of a state: what links carry, and paths that demands take
 pub record ShowsStateRows (p : Case) (loads : List LoadRow) (flows : List FlowRow) (text : List ℕ) : Type 0 where

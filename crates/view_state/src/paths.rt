@@ -1,5 +1,4 @@
-ghost use Rattle.std.specs.Prelude.{◌≡◌, ◌≤◌, ◌++◌, ◌∷◌, [], All, IfOk, length, map};
-ghost use Rattle.std.specs.List.{AllByRecursion};
+ghost use Rattle.std.{specs.Prelude.{◌≡◌, ◌≤◌, ◌++◌, ◌∷◌, [], All, IfOk, length, map}, specs.List.AllByRecursion};
 ghost use Rattle.view_cells.specs.Terms.{HasRows, IsApart};
 ghost use Rattle.view_state.specs.StateTables.{path_cells, path_heads};
 

@@ -1,11 +1,9 @@
 -- loads of flows, one link after another
-use Rattle.std.proofs.Common.{◌≡◌, ℕ, ◌+◌, ◌*◌, ◌^◌, ◌≤◌, List, [], ◌∷◌, ◌++◌, if◌then◌else◌, arith, get_or, length, length-append, not, refl, slice_index, subst, sym, ⊎_elim, mul-le-mul}
-use Rattle.std.proofs.lemmas.List.Filters.{sum_by-filter_both}
+use Rattle.std.{proofs.Common.{◌≡◌, ℕ, ◌+◌, ◌*◌, ◌^◌, ◌≤◌, List, [], ◌∷◌, ◌++◌, if◌then◌else◌, arith, get_or, length, length-append, not, refl, slice_index, subst, sym, ⊎_elim, mul-le-mul}, proofs.lemmas.List.Filters.sum_by-filter_both}
 use Rattle.net_core.proofs.Library.{cases_lt, get_or_past, slice_get-get_or, slice_get_within, list_any}
 use Rattle.plan_terms.specs.Terms.{Case, Flow, Routing, capacities, load, names_link}
 use Rattle.plan_types.specs.declared.plan.Plan.{Plan}
-use Rattle.plan_view.proofs.RowLists.{pushed}
-use Rattle.plan_view.specs.Terms.{IsCeiling, IsSoundPlan, den_in, goes_as, load_in}
+use Rattle.plan_view.{proofs.RowLists.pushed, specs.Terms.{IsCeiling, IsSoundPlan, den_in, goes_as, load_in}}
 use Rattle.view_svg.specs.Changes.{AreRoundedLoads, changed_flows}
 
 pub loads_none : (flows : List Flow) (den : ℕ) → AreRoundedLoads flows den 0 []

@@ -1,6 +1,5 @@
 -- the first plan of sound outcomes
-use Rattle.std.proofs.Common.{◌≡◌, suc, List, [], ◌∷◌, Option, Some, ap, arith, length, subst, All}
-use Rattle.std.specs.Option.{option_map_or}
+use Rattle.std.{proofs.Common.{◌≡◌, suc, List, [], ◌∷◌, Option, Some, ap, arith, length, subst, All}, specs.Option.option_map_or}
 use Rattle.plan_terms.specs.Terms.{AreDemands, Case}
 use Rattle.plan_report.specs.Terms.{Plan, Outcome, Planned, Unsurvivable}
 use Rattle.plan_view.specs.Terms.{IsSoundPlan}

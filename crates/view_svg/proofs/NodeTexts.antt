@@ -1,6 +1,5 @@
 -- the names of the first nodes
-use Rattle.std.proofs.Common.{◌≡◌, ℕ, zero, suc, ◌+◌, ◌<◌, List, [], ◌∷◌, ◌++◌, append-nil, append_assoc, ap, arith, get_or, length, min, refl, sym, take, ◌∙◌}
-use Rattle.std.proofs.Common.{add-one}
+use Rattle.std.proofs.Common.{◌≡◌, ℕ, zero, suc, ◌+◌, ◌<◌, List, [], ◌∷◌, ◌++◌, append-nil, append_assoc, ap, arith, get_or, length, min, refl, sym, take, ◌∙◌, add-one}
 use Rattle.picture_layout.specs.declared.layout.Spot.{Spot}
 use Rattle.view_svg.specs.Pictures.{drawn_name, drawn_names}
 

@@ -1,6 +1,5 @@
 -- what goes along other paths in a state than without failures
-use Rattle.std.specs.Prelude.{◌≡◌, ℕ, not, List, Some, filter, length, slice_get}
-use Rattle.std.specs.List.{list_any}
+use Rattle.std.{specs.Prelude.{◌≡◌, ℕ, not, List, Some, filter, length, slice_get}, specs.List.list_any}
 use Rattle.plan_terms.specs.Terms.{Flow, load}
 use Rattle.plan_view.specs.Terms.{IsCeiling, goes_as}
 

@@ -1,6 +1,5 @@
 -- names in markup (Extensible Markup Language 1.0, W3C, section 2.4)
-use Rattle.std.specs.Prelude.{ℕ, ◌||◌, List, [], ◌∷◌, codes, cond, flat_map, nat_eq, nat_lt}
-use Rattle.std.specs.Str.Lossy.{utf8_lossy}
+use Rattle.std.{specs.Prelude.{ℕ, ◌||◌, List, [], ◌∷◌, codes, cond, flat_map, nat_eq, nat_lt}, specs.Str.Lossy.utf8_lossy}
 
 -- a byte as markup writes it; a control character is a question mark
 abbrev pub escaped_byte : ℕ → List ℕ

@@ -1,18 +1,12 @@
 -- the picture of a plan, as scalable vector graphics (SVG 1.1, W3C)
-use Rattle.std.specs.Prelude.{◌≡◌, ℕ, Bool, true, false, not, List, [], ◌∷◌, ◌++◌, codes, cond, decimal, flat_map, length, nat_eq, nat_lt, slice_get, slice_index}
-use Rattle.std.specs.List.{list_any}
-use Rattle.std.specs.Option.{option_map_or}
+use Rattle.std.{specs.Prelude.{◌≡◌, ℕ, Bool, true, false, not, List, [], ◌∷◌, ◌++◌, codes, cond, decimal, flat_map, length, nat_eq, nat_lt, slice_get, slice_index}, specs.List.list_any, specs.Option.option_map_or}
 use Rattle.plan_terms.specs.Terms.{Case, Link, LinkId}
 use Rattle.text_kit.specs.Terms.{money_word}
 use Rattle.plan_report.specs.Terms.{KnownNames, known_to, state_name, Plan}
-use Rattle.plan_view.specs.Terms.{AreLinkRows, den_in, failed_links, routing_in}
-use Rattle.plan_view.specs.declared.rows.LinkRow.{LinkRow}
+use Rattle.plan_view.{specs.Terms.{AreLinkRows, den_in, failed_links, routing_in}, specs.declared.rows.LinkRow.LinkRow}
 use Rattle.view_cells.specs.Terms.{joined_words, kinds_words}
-use Rattle.picture_layout.specs.declared.layout.Layout.{Layout}
-use Rattle.picture_layout.specs.declared.layout.Spot.{Spot}
-use Rattle.picture_layout.specs.declared.layout.Stroke.{Stroke}
-use Rattle.view_svg.specs.Changes.{AreRoundedLoads, changed_flows}
-use Rattle.view_svg.specs.Markup.{escaped}
+use Rattle.picture_layout.{specs.declared.layout.Layout.Layout, specs.declared.layout.Spot.Spot, specs.declared.layout.Stroke.Stroke}
+use Rattle.view_svg.{specs.Changes.{AreRoundedLoads, changed_flows}, specs.Markup.escaped}
 
 -- ---- links
 

@@ -1,10 +1,8 @@
-ghost use Rattle.std.specs.Prelude.{◌≡◌, ◌++◌, OnOk, codes, flat_map, nat_lt};
-ghost use Rattle.std.specs.List.{list_any};
+ghost use Rattle.std.{specs.Prelude.{◌≡◌, ◌++◌, OnOk, codes, flat_map, nat_lt}, specs.List.list_any};
 ghost use Rattle.plan_report.specs.Terms.{known_of, state_name};
 ghost use Rattle.text_kit.specs.Terms.{money_word};
 ghost use Rattle.view_cells.specs.Terms.{joined_words, kinds_words};
-ghost use Rattle.view_svg.specs.Markup.{escaped};
-ghost use Rattle.view_svg.specs.Pictures.{change_words, drawn_in_state, drawn_link, drawn_row, is_out, link_class, link_curve, link_mark, link_words, use_class};
+ghost use Rattle.view_svg.{specs.Markup.escaped, specs.Pictures.{change_words, drawn_in_state, drawn_link, drawn_row, is_out, link_class, link_curve, link_mark, link_words, use_class}};
 
 use crate::escape::put_escaped;
 use crate::paths::change_of;

@@ -3,8 +3,7 @@ ghost use Rattle.plan_terms.specs.Terms.{case_of};
 ghost use Rattle.plan_report.specs.Terms.{known_of, state_name};
 ghost use Rattle.plan_view.specs.Terms.{IsSoundPlan, den_in, failed_links, load_in, routing_in};
 ghost use Rattle.view_cells.specs.Terms.{AddsText};
-ghost use Rattle.view_svg.specs.Changes.{AreRoundedLoads, changed_flows};
-ghost use Rattle.view_svg.specs.Pictures.{IsPicture, beginning, drawn_changes, drawn_in_state, drawn_nodes, picture_text};
+ghost use Rattle.view_svg.{specs.Changes.{AreRoundedLoads, changed_flows}, specs.Pictures.{IsPicture, beginning, drawn_changes, drawn_in_state, drawn_nodes, picture_text}};
 
 use crate::changes::changes_of;
 use crate::legend::{put_beginning, put_ending};

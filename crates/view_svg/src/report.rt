@@ -2,8 +2,7 @@ ghost use Rattle.std.specs.Prelude.{◌≡◌, All, MatchOption, None, OnOk, Som
 ghost use Rattle.plan_terms.specs.Terms.{AreDemands};
 ghost use Rattle.plan_view.specs.Terms.{IsSoundPlan};
 ghost use Rattle.view_text.specs.Terms.{AddsText, HasSoundPlan, case_of_plan, problem_case};
-ghost use Rattle.view_svg.specs.Pictures.{IsPicture};
-ghost use Rattle.view_svg.specs.ReportPictures.{IsReportPicture, first_plan};
+ghost use Rattle.view_svg.{specs.Pictures.IsPicture, specs.ReportPictures.{IsReportPicture, first_plan}};
 
 use crate::picture::put_picture;
 use net_core::{Bytes, Instance, NoMemory, Problem};

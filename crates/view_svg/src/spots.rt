@@ -1,5 +1,4 @@
-ghost use Rattle.std.specs.Prelude.{◌≡◌, ◌++◌, OnOk, codes};
-ghost use Rattle.std.specs.Option.{option_map_or};
+ghost use Rattle.std.{specs.Prelude.{◌≡◌, ◌++◌, OnOk, codes}, specs.Option.option_map_or};
 ghost use Rattle.view_svg.specs.Pictures.{curve, point, spot_attributes};
 
 use net_core::{Bytes, NoMemory};

@@ -3,11 +3,8 @@ use Rattle.std.proofs.Common.{ℕ, ◌≤◌, List, [], ◌∷◌, Option, None,
 use Rattle.net_core.proofs.Library.{AllByRecursion, All-from_recursion, option_map_or}
 use Rattle.plan_report.specs.Terms.{KnownNames, Outcome, Planned, Unsurvivable}
 use Rattle.plan_terms.specs.Terms.{Link, Places}
-use Rattle.plan_view.specs.declared.rows.LinkRow.{LinkRow}
-use Rattle.plan_view.specs.declared.rows.StateRow.{StateRow}
-use Rattle.view_text.specs.LinkCells.{cells_of_link, link_cells, link_heads}
-use Rattle.view_text.specs.OutcomeCells.{outcome_cells, outcome_heads}
-use Rattle.view_text.specs.StateCells.{state_cells}
+use Rattle.plan_view.{specs.declared.rows.LinkRow.LinkRow, specs.declared.rows.StateRow.StateRow}
+use Rattle.view_text.{specs.LinkCells.{cells_of_link, link_cells, link_heads}, specs.OutcomeCells.{outcome_cells, outcome_heads}, specs.StateCells.state_cells}
 
 -- rows of at most n cells
 abbrev pub fits : ℕ → List (List ℕ) → Type 0

@@ -2,18 +2,9 @@
 use Rattle.std.proofs.Common.{◌≡◌, ℕ, List, [], ◌∷◌, ◌++◌, append_assoc, codes, map, refl}
 use Rattle.plan_report.specs.Terms.{KnownNames, known_to, Plan, Quality}
 use Rattle.plan_terms.specs.Terms.{Case}
-use Rattle.plan_view.specs.declared.rows.LinkRow.{LinkRow}
-use Rattle.plan_view.specs.declared.rows.PlanSummary.{PlanSummary}
-use Rattle.plan_view.specs.declared.rows.StateRow.{StateRow}
-use Rattle.view_text.specs.CostCells.{cost_rows}
-use Rattle.view_text.specs.CostProofs.{HoldsProof}
-use Rattle.view_text.specs.LinkCells.{cells_of_link, link_heads, total_cells}
-use Rattle.view_text.specs.PlanViews.{IsPlanView, ShowsRows, accepted_text}
-use Rattle.view_text.specs.StateCells.{state_cells, state_heads}
+use Rattle.plan_view.{specs.declared.rows.LinkRow.LinkRow, specs.declared.rows.PlanSummary.PlanSummary, specs.declared.rows.StateRow.StateRow}
 use Rattle.view_cells.specs.Terms.{AddsText, HasRows, HasRowsAbove}
-use Rattle.view_text.specs.declared.plan.PlanNumbers.{PlanNumbers}
-use Rattle.view_text.specs.declared.proof.CostProof.{CostProof}
-use Rattle.view_text.specs.inner.Numbers.{AreNumbers}
+use Rattle.view_text.{specs.CostCells.cost_rows, specs.CostProofs.HoldsProof, specs.LinkCells.{cells_of_link, link_heads, total_cells}, specs.PlanViews.{IsPlanView, ShowsRows, accepted_text}, specs.StateCells.{state_cells, state_heads}, specs.declared.plan.PlanNumbers.PlanNumbers, specs.declared.proof.CostProof.CostProof, specs.inner.Numbers.AreNumbers}
 
 pub rows_shown : (known : KnownNames) (quality : Quality) (proof : CostProof) (links : List LinkRow) (states : List StateRow) (whole : PlanSummary)
     (old costs links_part states_part first second third new : List ℕ)

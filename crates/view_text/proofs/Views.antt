@@ -3,13 +3,8 @@ use Rattle.std.proofs.Common.{◌≡◌, ℕ, ◌+◌, ◌≤◌, ◌<◌, List,
 use Rattle.net_core.proofs.Library.{take_more}
 use Rattle.plan_terms.specs.Terms.{Case}
 use Rattle.plan_types.specs.declared.report.Outcome.{Outcome}
-use Rattle.view_text.specs.Headings.{heading_text}
-use Rattle.view_text.specs.OutcomeCells.{HasOutcomes, numbers_text}
-use Rattle.view_text.specs.Reports.{AreOutcomeViews, IsBody, IsBrief, IsFirstBlock, IsNumberedView, IsOutcomeView, IsReportView, IsSessionView}
-use Rattle.view_cells.specs.Terms.{AddsText}
-use Rattle.view_text.specs.declared.proof.CostProof.{CostProof}
-use Rattle.view_text.specs.declared.proof.CostProof.TheVariants.{Nothing}
-use Rattle.view_cells.proofs.Lemmas.{appended}
+use Rattle.view_cells.{specs.Terms.AddsText, proofs.Lemmas.appended}
+use Rattle.view_text.{specs.Headings.heading_text, specs.OutcomeCells.{HasOutcomes, numbers_text}, specs.Reports.{AreOutcomeViews, IsBody, IsBrief, IsFirstBlock, IsNumberedView, IsOutcomeView, IsReportView, IsSessionView}, specs.declared.proof.CostProof.CostProof, specs.declared.proof.CostProof.TheVariants.Nothing}
 
 pub numbered : (p : Case) (outcome : Outcome) (old mid new : List ℕ) → mid ≡ old ++ numbers_text outcome
     → AddsText (IsOutcomeView p Nothing outcome) mid new → AddsText (IsNumberedView p outcome) old new

@@ -5,8 +5,7 @@ use Rattle.plan_report.specs.Terms.{Cuts, Wide, Quality, Tight, Loose}
 use Rattle.plan_view.specs.declared.rows.PlanSummary.{PlanSummary}
 use Rattle.text_kit.specs.Terms.{money_word}
 use Rattle.view_cells.specs.Terms.{counted, tenths_per_cent}
-use Rattle.view_text.specs.declared.proof.CostProof.{CostProof}
-use Rattle.view_text.specs.declared.proof.CostProof.TheVariants.{Nothing, Cheapest, Above}
+use Rattle.view_text.{specs.declared.proof.CostProof.CostProof, specs.declared.proof.CostProof.TheVariants.{Nothing, Cheapest, Above}}
 
 -- what no plan undercuts, by the bound and the branch tree
 abbrev pub least_known : PlanSummary → CostProof → ℕ

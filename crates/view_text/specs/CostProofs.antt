@@ -2,8 +2,7 @@
 use Rattle.std.specs.Prelude.{ℕ, ◌≤◌, List}
 use Rattle.plan_terms.specs.Terms.{Case, IsAble, total_cost}
 use Rattle.plan_types.specs.declared.plan.Plan.{Plan}
-use Rattle.view_text.specs.declared.proof.CostProof.{CostProof}
-use Rattle.view_text.specs.declared.proof.CostProof.TheVariants.{Nothing, Cheapest, Above}
+use Rattle.view_text.{specs.declared.proof.CostProof.CostProof, specs.declared.proof.CostProof.TheVariants.{Nothing, Cheapest, Above}}
 
 -- no able counts cost less than this
 abbrev pub CostsAtLeast : Case → ℕ → Type 0

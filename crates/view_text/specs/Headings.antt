@@ -1,6 +1,5 @@
 -- the first line of a view
-use Rattle.std.specs.Prelude.{ℕ, List, [], ◌∷◌, ◌++◌, ◌&&◌, Bool, true, false, cond, codes, length, nat_eq, nat_lt}
-use Rattle.std.specs.List.{list_all}
+use Rattle.std.{specs.Prelude.{ℕ, List, [], ◌∷◌, ◌++◌, ◌&&◌, Bool, true, false, cond, codes, length, nat_eq, nat_lt}, specs.List.list_all}
 use Rattle.plan_terms.specs.Terms.{Case, Demand, Places, total_need}
 use Rattle.plan_report.specs.Terms.{Outcome, Planned, Unsurvivable}
 use Rattle.text_kit.specs.Terms.{money_word}

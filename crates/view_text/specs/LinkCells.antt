@@ -1,11 +1,9 @@
 -- the cells of a link's row: its numbers are those of the row
-use Rattle.std.specs.Prelude.{◌++◌, List, [], ◌∷◌, codes, slice_get, ℕ}
-use Rattle.std.specs.Option.{option_map_or}
+use Rattle.std.{specs.Prelude.{◌++◌, List, [], ◌∷◌, codes, slice_get, ℕ}, specs.Option.option_map_or}
 use Rattle.text_kit.specs.Terms.{money_word}
 use Rattle.plan_report.specs.Terms.{KnownNames, node_name, state_name}
 use Rattle.plan_terms.specs.Terms.{Link, Places}
-use Rattle.plan_view.specs.declared.rows.LinkRow.{LinkRow}
-use Rattle.plan_view.specs.declared.rows.PlanSummary.{PlanSummary}
+use Rattle.plan_view.{specs.declared.rows.LinkRow.LinkRow, specs.declared.rows.PlanSummary.PlanSummary}
 use Rattle.view_cells.specs.Terms.{joined_words, kinds_words, per_cent}
 
 -- the names of a link's ends

@@ -2,16 +2,9 @@
 use Rattle.std.specs.Prelude.{◌≡◌, ℕ, ◌+◌, List, [], ◌∷◌, ◌++◌, codes, decimal, length, map}
 use Rattle.plan_terms.specs.Terms.{Case, Places}
 use Rattle.plan_report.specs.Terms.{KnownNames, known_to, Plan, Quality}
-use Rattle.plan_view.specs.Terms.{AreLinkRows, AreStateRows, IsPlanSummary}
-use Rattle.plan_view.specs.declared.rows.LinkRow.{LinkRow}
-use Rattle.plan_view.specs.declared.rows.PlanSummary.{PlanSummary}
-use Rattle.plan_view.specs.declared.rows.StateRow.{StateRow}
-use Rattle.view_text.specs.CostCells.{cost_rows, least_text}
-use Rattle.view_text.specs.CostProofs.{HoldsProof}
-use Rattle.view_text.specs.LinkCells.{cells_of_link, link_heads, total_cells}
-use Rattle.view_text.specs.StateCells.{state_cells, state_heads}
+use Rattle.plan_view.{specs.Terms.{AreLinkRows, AreStateRows, IsPlanSummary}, specs.declared.rows.LinkRow.LinkRow, specs.declared.rows.PlanSummary.PlanSummary, specs.declared.rows.StateRow.StateRow}
 use Rattle.view_cells.specs.Terms.{HasRows, HasRowsAbove}
-use Rattle.view_text.specs.declared.proof.CostProof.{CostProof}
+use Rattle.view_text.{specs.CostCells.{cost_rows, least_text}, specs.CostProofs.HoldsProof, specs.LinkCells.{cells_of_link, link_heads, total_cells}, specs.StateCells.{state_cells, state_heads}, specs.declared.proof.CostProof.CostProof}
 
 -- the case with the demands of a plan
 abbrev pub case_of_plan : Case → Plan → Case

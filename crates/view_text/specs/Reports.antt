@@ -3,12 +3,7 @@ use Rattle.std.specs.Prelude.{◌≡◌, ℕ, List, [], ◌∷◌, ◌++◌, cod
 use Rattle.plan_terms.specs.Terms.{AreDemands, Case, Problem, case}
 use Rattle.plan_report.specs.Terms.{Outcome, Planned, Unsurvivable}
 use Rattle.plan_view.specs.Terms.{IsSoundPlan}
-use Rattle.view_text.specs.CostProofs.{HoldsProof}
-use Rattle.view_text.specs.Headings.{heading_text}
-use Rattle.view_text.specs.OutcomeCells.{HasOutcomes, numbers_text, separation_text}
-use Rattle.view_text.specs.PlanViews.{IsCostView, IsPlanView, case_of_plan}
-use Rattle.view_text.specs.declared.proof.CostProof.{CostProof}
-use Rattle.view_text.specs.declared.proof.CostProof.TheVariants.{Nothing}
+use Rattle.view_text.{specs.CostProofs.HoldsProof, specs.Headings.heading_text, specs.OutcomeCells.{HasOutcomes, numbers_text, separation_text}, specs.PlanViews.{IsCostView, IsPlanView, case_of_plan}, specs.declared.proof.CostProof.CostProof, specs.declared.proof.CostProof.TheVariants.Nothing}
 
 -- the case of a value of the program
 abbrev pub problem_case : Problem → Case

@@ -1,8 +1,6 @@
-ghost use Rattle.std.specs.Prelude.{◌≡◌, ◌≤◌, ◌++◌, All, IfOk, OnOk, codes, cond, length, nat_eq};
-ghost use Rattle.std.specs.List.{AllByRecursion};
-ghost use Rattle.view_cells.specs.Terms.{tenths_per_cent};
+ghost use Rattle.std.{specs.Prelude.{◌≡◌, ◌≤◌, ◌++◌, All, IfOk, OnOk, codes, cond, length, nat_eq}, specs.List.AllByRecursion};
+ghost use Rattle.view_cells.specs.Terms.{tenths_per_cent, HasRows, IsApart};
 ghost use Rattle.view_text.specs.CostCells.{cost_row, cost_rows, cost_text, gap_text, least_known, least_text, tree_text, value_text};
-ghost use Rattle.view_cells.specs.Terms.{HasRows, IsApart};
 
 use crate::proof::CostProof;
 use net_core::{Bytes, List, NoMemory, Places};

@@ -1,5 +1,4 @@
-ghost use Rattle.std.specs.Prelude.{◌≡◌, ◌++◌, [], OnOk, codes, cond, length, nat_eq};
-ghost use Rattle.std.specs.List.{list_all};
+ghost use Rattle.std.{specs.Prelude.{◌≡◌, ◌++◌, [], OnOk, codes, cond, length, nat_eq}, specs.List.list_all};
 ghost use Rattle.plan_terms.specs.Terms.{case, total_need};
 ghost use Rattle.view_cells.specs.Terms.{counted};
 ghost use Rattle.view_text.specs.Headings.{are_all_survived, demands_text, failures_text, heading_text, is_planned, size_text, told_demands};

@@ -1,10 +1,8 @@
-ghost use Rattle.std.specs.Prelude.{◌≡◌, ◌≤◌, ◌++◌, ◌∷◌, [], All, IfOk, OnOk, codes, length, map};
-ghost use Rattle.std.specs.List.{AllByRecursion};
+ghost use Rattle.std.{specs.Prelude.{◌≡◌, ◌≤◌, ◌++◌, ◌∷◌, [], All, IfOk, OnOk, codes, length, map}, specs.List.AllByRecursion};
 ghost use Rattle.plan_report.specs.Terms.{known_of, state_name};
 ghost use Rattle.text_kit.specs.Terms.{money_word};
-ghost use Rattle.view_cells.specs.Terms.{joined_words, kinds_words, per_cent};
+ghost use Rattle.view_cells.specs.Terms.{joined_words, kinds_words, per_cent, HasRowsAbove, IsApart};
 ghost use Rattle.view_text.specs.LinkCells.{cells_of_link, ends_text, link_cells, link_heads, total_cells};
-ghost use Rattle.view_cells.specs.Terms.{HasRowsAbove, IsApart};
 
 use net_core::{Bytes, Link, List, Name, Network, NoMemory, Places, States};
 use part_names::{node_name, state_name};

@@ -1,7 +1,6 @@
 ghost use Rattle.std.specs.Prelude.{◌≡◌, ◌≤◌, ◌++◌, ◌∷◌, [], All, IfOk, OnOk, decimal, length, map};
-ghost use Rattle.view_text.specs.OutcomeCells.{HasOutcomes, outcome_cells, outcome_heads};
-ghost use Rattle.view_text.specs.OutcomeCells.{failure_text, numbers_line, numbers_text, separation_text, unlinked_text};
 ghost use Rattle.view_cells.specs.Terms.{AddsText, HasRows};
+ghost use Rattle.view_text.specs.OutcomeCells.{HasOutcomes, outcome_cells, outcome_heads, failure_text, numbers_line, numbers_text, separation_text, unlinked_text};
 
 use net_core::{Bytes, List, Listed, Name, NoMemory, Places, StateId};
 use part_names::state_name;

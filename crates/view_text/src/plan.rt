@@ -2,10 +2,8 @@ ghost use Rattle.std.specs.Prelude.{◌≡◌, ◌++◌, IfOk, OnOk, codes};
 ghost use Rattle.plan_terms.specs.Terms.{case_of};
 ghost use Rattle.plan_report.specs.Terms.{known_of};
 ghost use Rattle.plan_view.specs.Terms.{IsSoundPlan};
-ghost use Rattle.view_text.specs.CostProofs.{HoldsProof};
-ghost use Rattle.view_text.specs.PlanViews.{IsCostView, IsPlanView, ShowsRows, accepted_text, states_line};
 ghost use Rattle.view_cells.specs.Terms.{AddsText};
-ghost use Rattle.view_text.specs.inner.Numbers.{AreNumbers};
+ghost use Rattle.view_text.{specs.CostProofs.HoldsProof, specs.PlanViews.{IsCostView, IsPlanView, ShowsRows, accepted_text, states_line}, specs.inner.Numbers.AreNumbers};
 
 use crate::costs::{costs_text, put_least};
 use crate::links::links_text;

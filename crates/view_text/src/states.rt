@@ -1,10 +1,8 @@
-ghost use Rattle.std.specs.Prelude.{◌≡◌, ◌≤◌, ◌/◌, ◌++◌, ◌∷◌, [], All, IfOk, OnOk, length, map};
-ghost use Rattle.std.specs.List.{AllByRecursion};
+ghost use Rattle.std.{specs.Prelude.{◌≡◌, ◌≤◌, ◌/◌, ◌++◌, ◌∷◌, [], All, IfOk, OnOk, length, map}, specs.List.AllByRecursion};
 ghost use Rattle.plan_report.specs.Terms.{known_of, state_name};
 ghost use Rattle.text_table.specs.Cells.{right_cell};
-ghost use Rattle.view_cells.specs.Terms.{tenths_per_cent};
+ghost use Rattle.view_cells.specs.Terms.{tenths_per_cent, HasRowsAbove, IsApart};
 ghost use Rattle.view_text.specs.StateCells.{bar_text, fullest_name, fullest_use, names_text, part_text, rerouted_text, state_cells, state_heads};
-ghost use Rattle.view_cells.specs.Terms.{HasRowsAbove, IsApart};
 
 use net_core::{Bytes, Link, LinkId, List, Network, NoMemory, Places, States};
 use part_names::{link_name, state_name};

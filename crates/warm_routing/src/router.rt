@@ -1,8 +1,7 @@
 ghost use Rattle.std.specs.Prelude.{◌<◌, IfOk, IfSome};
 ghost use Rattle.plan_terms.specs.Terms.{graph_of};
 ghost use Rattle.row_cuts.specs.FoundCuts.{IsFoundCutOf};
-ghost use Rattle.warm_routing.specs.WarmAnswers.{IsWarmAnswer};
-ghost use Rattle.warm_routing.specs.inner.Steps.{IsSoundChoice, IsSoundStep};
+ghost use Rattle.warm_routing.{specs.WarmAnswers.IsWarmAnswer, specs.inner.Steps.{IsSoundChoice, IsSoundStep}};
 
 use crate::answer::WarmAnswer;
 use crate::cut_of_row::cut_at;

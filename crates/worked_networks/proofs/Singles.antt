@@ -1,10 +1,6 @@
 -- each link alone as a state
 use Rattle.std.proofs.Common.{◌≡◌, ◌≢◌, ℕ, ◌+◌, ◌<◌, ◌≤◌, List, [], ◌∷◌, ◌++◌, length, get_or, All, AllPairs, sym, ap, subst, ◌∙◌, arith, ⊎_elim}
-use Rattle.net_core.proofs.Library.{get_or-append_seam, ∥∥₁_elim, cases_lt, get_or_append_left, All-cons, All-nil}
-use Rattle.net_core.specs.declared.ids.LinkId.{LinkId}
-use Rattle.net_core.specs.declared.network.Link.{Link}
-use Rattle.net_core.specs.declared.states.Listed.{Listed}
-use Rattle.net_core.specs.Terms.{IsNetwork, AreStates, single_state}
+use Rattle.net_core.{proofs.Library.{get_or-append_seam, ∥∥₁_elim, cases_lt, get_or_append_left, All-cons, All-nil}, specs.declared.ids.LinkId.LinkId, specs.declared.network.Link.Link, specs.declared.states.Listed.Listed, specs.Terms.{IsNetwork, AreStates, single_state}}
 use Rattle.worked_networks.specs.Tables.{AreSingles}
 
 -- one state more

@@ -1,11 +1,7 @@
 -- why a table gives no network, no states or no demands
 use Rattle.std.specs.Prelude.{◌≡◌, ℕ, zero, suc, ◌+◌, ◌++◌, ⊤, List, [], ◌∷◌, Some, length, map, slice_index_or, ◌<◌}
-use Rattle.net_core.specs.declared.demand.Demand.{Demand}
-use Rattle.net_core.specs.declared.network.Link.{Link}
-use Rattle.net_core.specs.declared.states.Listed.{Listed}
-use Rattle.net_core.specs.Terms.{network_fault, single_state, states_fault}
-use Rattle.worked_networks.specs.declared.fault.WorkedFault.{WorkedFault}
-use Rattle.worked_networks.specs.declared.fault.WorkedFault.TheVariants.{Network, States, NoMemory}
+use Rattle.net_core.{specs.declared.demand.Demand.Demand, specs.declared.network.Link.Link, specs.declared.states.Listed.Listed, specs.Terms.{network_fault, single_state, states_fault}}
+use Rattle.worked_networks.{specs.declared.fault.WorkedFault.WorkedFault, specs.declared.fault.WorkedFault.TheVariants.{Network, States, NoMemory}}
 
 -- names of one letter each, from the letter first on
 abbrev pub letters : ℕ → ℕ → List (List ℕ)

@@ -1,7 +1,6 @@
 -- the triangle
 use Rattle.std.specs.Prelude.{ℕ, List, [], ◌∷◌, codes}
-use Rattle.net_core.specs.declared.network.Link.{Link}
-use Rattle.net_core.specs.declared.network.Module.{Module}
+use Rattle.net_core.{specs.declared.network.Link.Link, specs.declared.network.Module.Module}
 
 -- a module of 10.00 for 5.00
 abbrev pub ten : List Module

@@ -1,6 +1,5 @@
 ghost use Rattle.std.specs.Prelude.{◌≡◌, ◌≤◌, ◌<◌, ◌+◌, ◌⊎◌, [], ◌∷◌, IfOk, IfErr, List as Seq, length, map};
-ghost use Rattle.net_core.specs.declared.demand.Demand.{Demand as D};
-ghost use Rattle.net_core.specs.Terms.{AreDemands};
+ghost use Rattle.net_core.{specs.declared.demand.Demand.{Demand as D}, specs.Terms.AreDemands};
 ghost use Rattle.worked_networks.specs.Tables.{row_of};
 
 use crate::belonging::belong;

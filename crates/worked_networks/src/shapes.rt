@@ -1,8 +1,6 @@
 ghost use Rattle.std.specs.Prelude.{◌≡◌, ℕ, ◌≤◌, ◌⊎◌, ◌<◌, ◌^◌, IfOk, IfErr, List as Seq, length, map};
-ghost use Rattle.net_core.specs.declared.demand.Demand.{Demand as D};
-ghost use Rattle.net_core.specs.Terms.{AreDemands, IsName, AreStates};
-ghost use Rattle.worked_networks.specs.Tables.{AreSingles, RefusesNetwork, letters, row_of};
-ghost use Rattle.worked_networks.specs.Triangle.{triangle_link, triangle_links};
+ghost use Rattle.net_core.{specs.declared.demand.Demand.{Demand as D}, specs.Terms.{AreDemands, IsName, AreStates}};
+ghost use Rattle.worked_networks.{specs.Tables.{AreSingles, RefusesNetwork, letters, row_of}, specs.Triangle.{triangle_link, triangle_links}};
 
 use crate::demand_rows::{DemandRow, demands};
 use crate::fault::WorkedFault;

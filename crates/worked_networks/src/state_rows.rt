@@ -1,6 +1,5 @@
 ghost use Rattle.std.specs.Prelude.{◌≡◌, ◌≤◌, ◌<◌, ◌+◌, ◌⊎◌, [], ◌∷◌, IfOk, IfErr, List as Seq, length, map};
-ghost use Rattle.net_core.specs.declared.states.Listed.{Listed as State};
-ghost use Rattle.net_core.specs.Terms.{AreStates, single_state};
+ghost use Rattle.net_core.{specs.declared.states.Listed.{Listed as State}, specs.Terms.{AreStates, single_state}};
 ghost use Rattle.worked_networks.specs.Tables.{AreSingles, RefusesStates, failed_of};
 
 use crate::fault::WorkedFault;

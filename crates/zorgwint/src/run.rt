@@ -1,11 +1,11 @@
 ghost use Rattle.std.specs.Prelude.{◌≡◌, ℕ, List, ◌≤◌};
 ghost use Rattle.input_files.specs.Shelves.{KeepsShelf};
-ghost use Rattle.people_commands.specs.Endings.{EndsFront, PutsBoth};
+ghost use Rattle.people_commands.specs.Endings.{EndsForPeople, PutsBoth};
 ghost use Rattle.check_answers.specs.declared.status.Status.{Status};
 
 use check_answers::Status;
-use people_commands::run as commands;
 use outside_io::{Shelf, Sink};
+use people_commands::run as commands;
 use plan_progress::Teller;
 use std::alloc::Global;
 use std::sync::Wait;
@@ -31,7 +31,7 @@ pub fn run<R: Threads + Wait + Sync, S: Shelf, K: Sink, E: Sink, T: Teller + Syn
 ) -> Status
     // The outcome of the run has its cause in the words and the files, reading fails only where the shelf counts it, and text and message
     // are written. The files stay as they are, and no count of faults falls.
-    ensures outcome { (status : Status) × (text : List ℕ) × (message : List ℕ) × EndsFront words.now (S.files shelf.old) status text message
+    ensures outcome { (status : Status) × (text : List ℕ) × (message : List ℕ) × EndsForPeople words.now (S.files shelf.old) status text message
         × KeepsShelf S.files S.faults (status ≡ Status.ReadFault) shelf.old shelf.new
         × PutsBoth K.taken K.faults E.taken E.faults status text message result out.old out.new beside.old beside.new }
     ensures later { K.faults out.old ≤ K.faults out.new }

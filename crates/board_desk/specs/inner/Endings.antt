@@ -1,9 +1,8 @@
 -- what a board is at the end of a turn
 use Rattle.std.specs.Prelude.{◌≡◌, ◌++◌, List, [], ◌∷◌, Bool, true, false}
 use Rattle.plan_terms.specs.Terms.{Entry}
-use Rattle.cut_pool.specs.declared.answers.AdmitAnswer.{AdmitAnswer}
+use Rattle.cut_pool.{specs.declared.answers.AdmitAnswer.AdmitAnswer, specs.declared.answers.EditAnswer.EditAnswer}
 use Rattle.cut_pool.specs.declared.answers.AdmitAnswer.TheVariants as admitting
-use Rattle.cut_pool.specs.declared.answers.EditAnswer.{EditAnswer}
 use Rattle.cut_pool.specs.declared.answers.EditAnswer.TheVariants as editing
 
 -- a board that answers an edit so has one entry more

@@ -1,12 +1,9 @@
 -- the program of a box: rows with bounds, and columns with names of their own
 use Rattle.std.specs.Prelude.{◌≡◌, ◌≢◌, ℕ, ℤ, ◌+◌, ◌<◌, ◌<ℤ◌, ◌≤ℤ◌, List, Option, None, Some, All, AllPairs, length, pos, slice_get}
-use Rattle.checked_fraction.specs.Terms.{IsNarrow}
+use Rattle.checked_fraction.{specs.Terms.IsNarrow, specs.declared.row.Row.Row}
 use Rattle.simplex_law.specs.Terms.{ColumnOf}
-use Rattle.simplex_core.specs.Terms.{AtEach, GainsAt, column_of}
-use Rattle.checked_fraction.specs.declared.row.Row.{Row}
-use Rattle.simplex_core.specs.declared.columns.Entry.{Entry}
-use Rattle.box_program.specs.declared.candidate.Candidate.{Candidate}
-use Rattle.box_program.specs.declared.program.Rated.{Rated}
+use Rattle.simplex_core.{specs.Terms.{AtEach, GainsAt, column_of}, specs.declared.columns.Entry.Entry}
+use Rattle.box_program.{specs.declared.candidate.Candidate.Candidate, specs.declared.program.Rated.Rated}
 
 -- an entry of one of the first n rows, which takes something
 pub record IsBoxEntry (n : ℕ) (e : Entry) : Type 0 where

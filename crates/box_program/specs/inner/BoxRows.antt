@@ -1,11 +1,8 @@
 -- the rows of a box's program, and the amounts that their prices are
 use Rattle.std.specs.Prelude.{◌≡◌, ◌≢◌, ℕ, ◌<◌, ◌⊎◌, List, All, AllPairs, Contains}
 use Rattle.plan_terms.specs.Terms.{Link}
-use Rattle.tree_check.specs.Boxes.{span_at}
-use Rattle.tree_check.specs.declared.boxes.Span.{Span}
-use Rattle.box_program.specs.Solutions.{IsFree, LiesIn}
-use Rattle.box_program.specs.declared.shape.ModuleRow.{ModuleRow}
-use Rattle.box_program.specs.declared.solution.Amount.{Amount}
+use Rattle.tree_check.{specs.Boxes.span_at, specs.declared.boxes.Span.Span}
+use Rattle.box_program.{specs.Solutions.{IsFree, LiesIn}, specs.declared.shape.ModuleRow.ModuleRow, specs.declared.solution.Amount.Amount}
 
 -- a row is that of a module of several counts, with its span
 pub record IsRowOf (links : List Link) (box : List (List Span)) (r : ModuleRow) : Type 0 where

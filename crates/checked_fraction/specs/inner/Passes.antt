@@ -1,12 +1,6 @@
 -- what the passes over a combined row find and write
-use Rattle.std.specs.Prelude.{ℕ, ℤ, List, pos, ◌≡◌, ◌<◌, ◌≤◌, ◌/◌, ◌*ℤ◌, ◌^◌, length, unsigned_abs, int_div}
-use Rattle.std.specs.Int.{◌∣◌}
-use Rattle.checked_fraction.specs.Rows.{num, IsNarrow}
-use Rattle.checked_fraction.specs.Mixed.{combined}
-use Rattle.checked_fraction.specs.declared.mix.Mix.{Mix}
-use Rattle.checked_fraction.specs.declared.pivot.Survey.{Survey}
-use Rattle.checked_fraction.specs.declared.pivot.Found.{Found}
-use Rattle.checked_fraction.specs.declared.wide.WideNumber.{WideNumber}
+use Rattle.std.{specs.Prelude.{ℕ, ℤ, List, pos, ◌≡◌, ◌<◌, ◌≤◌, ◌/◌, ◌*ℤ◌, ◌^◌, length, unsigned_abs, int_div}, specs.Int.◌∣◌}
+use Rattle.checked_fraction.{specs.Rows.{num, IsNarrow}, specs.Mixed.combined, specs.declared.mix.Mix.Mix, specs.declared.pivot.Survey.Survey, specs.declared.pivot.Found.Found, specs.declared.wide.WideNumber.WideNumber}
 
 -- rows of equal length, and factors, all narrow
 pub record CanMix (nums pivot : List ℤ) (mix : Mix) : Type 0 where

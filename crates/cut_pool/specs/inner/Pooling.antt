@@ -1,13 +1,8 @@
 -- pooled cuts one by one
-use Rattle.std.specs.Prelude.{◌≡◌, ◌==◌, ℕ, ◌+◌, ◌-◌, ◌≤◌, ◌<◌, ◌^◌, ◌&&◌, Bool, List, sum_by}
-use Rattle.std.specs.Cmp.Lexicographic.{pointwise}
+use Rattle.std.{specs.Prelude.{◌≡◌, ◌==◌, ℕ, ◌+◌, ◌-◌, ◌≤◌, ◌<◌, ◌^◌, ◌&&◌, Bool, List, sum_by}, specs.Cmp.Lexicographic.pointwise}
 use Rattle.plan_terms.specs.Terms.{Demand, AreDemands, Graph}
-use Rattle.metric_cut.specs.Cuts.{IsCutOf}
-use Rattle.metric_cut.specs.declared.cut.Cut.{Cut}
-use Rattle.metric_cut.specs.inner.Rights.{part_of}
-use Rattle.cut_pool.specs.declared.pooled_cut.PooledCut.{PooledCut}
-use Rattle.cut_pool.specs.declared.shares.NeedChange.{NeedChange}
-use Rattle.cut_pool.specs.inner.Shares.{IsShareOfDemand, asked_by}
+use Rattle.metric_cut.{specs.Cuts.IsCutOf, specs.declared.cut.Cut.Cut, specs.inner.Rights.part_of}
+use Rattle.cut_pool.{specs.declared.pooled_cut.PooledCut.PooledCut, specs.declared.shares.NeedChange.NeedChange, specs.inner.Shares.{IsShareOfDemand, asked_by}}
 
 -- the pooled cut is this one
 abbrev pub is_pooled_cut : Cut → PooledCut → Bool

@@ -1,8 +1,7 @@
 -- what one demand asks of cuts, before and after an edit
 use Rattle.std.specs.Prelude.{◌≡◌, ℕ, ◌+◌, ◌*◌, ◌<◌, ◌^◌, List, Option, None, Some, IfSome, sum_by, unwrap_or}
 use Rattle.plan_terms.specs.Terms.{Demand, Edit, Add, Drop, Set, without}
-use Rattle.short_paths.specs.declared.distance_table.DistanceTable.{DistanceTable}
-use Rattle.short_paths.specs.DistanceTables.{distance_at}
+use Rattle.short_paths.{specs.declared.distance_table.DistanceTable.DistanceTable, specs.DistanceTables.distance_at}
 use Rattle.metric_cut.specs.inner.Rights.{part_of}
 use Rattle.cut_pool.specs.declared.shares.DemandShare.{DemandShare}
 

@@ -3,8 +3,7 @@ use Rattle.std.specs.Prelude.{List, flat_map}
 use Rattle.plan_terms.specs.Terms.{Link}
 use Rattle.text_kit.specs.Terms.{Item}
 use Rattle.model_reader.specs.Failures.{state_items}
-use Rattle.failure_texts.specs.FailureTexts.{able_state}
-use Rattle.failure_texts.specs.declared.fates.Fate.{Fate}
+use Rattle.failure_texts.{specs.FailureTexts.able_state, specs.declared.fates.Fate.Fate}
 
 -- the failure of a link, where it separates nothing
 abbrev pub fate_items : List Link → Fate → List Item

@@ -1,13 +1,9 @@
 -- what the steps of an import answer
 use Rattle.std.specs.Prelude.{◌≡◌, ℕ, ◌<◌, ◌≤◌, List, All, Some, get_or, length, map, slice_get, slice_index}
 use Rattle.plan_terms.specs.Terms.{Demand, Flow, Routing, Case, Graph, Survives}
-use Rattle.path_split.specs.declared.arc.PathFlow.{PathFlow}
-use Rattle.path_split.specs.Balances.{AreNodesBalanced, IsFirstUnbalanced}
-use Rattle.path_split.specs.Splits.{IsFlowSplit}
+use Rattle.path_split.{specs.declared.arc.PathFlow.PathFlow, specs.Balances.{AreNodesBalanced, IsFirstUnbalanced}, specs.Splits.IsFlowSplit}
 use Rattle.flow_file.specs.declared.flow.LinkFlow.{LinkFlow}
-use Rattle.flow_import.specs.declared.fault.ImportFault.{ImportFault}
-use Rattle.flow_import.specs.declared.fault.ImportFault.TheVariants.{Dead, Unbalanced, Overloaded, NoMemory}
-use Rattle.flow_import.specs.Imports.{IsFirstOff, IsImportedState, demand_arcs, demand_paths, flow_load, flows_in, no_routing}
+use Rattle.flow_import.{specs.declared.fault.ImportFault.ImportFault, specs.declared.fault.ImportFault.TheVariants.{Dead, Unbalanced, Overloaded, NoMemory}, specs.Imports.{IsFirstOff, IsImportedState, demand_arcs, demand_paths, flow_load, flows_in, no_routing}}
 
 -- the flows of a demand along paths
 abbrev pub flows_along : ℕ → List PathFlow → List Flow

@@ -1,7 +1,6 @@
 -- prices, and these over a common divisor
 use Rattle.std.specs.Prelude.{◌≡◌, ℕ, ℤ, ◌/◌, ◌^◌, ◌≤◌, ◌<◌, List, length, map, pos, slice_index}
-use Rattle.flow_router.specs.declared.link_lengths.LinkLengths.{LinkLengths}
-use Rattle.flow_router.specs.declared.link_lengths.LinkLengths.TheVariants.{Fit, Long}
+use Rattle.flow_router.{specs.declared.link_lengths.LinkLengths.LinkLengths, specs.declared.link_lengths.LinkLengths.TheVariants.{Fit, Long}}
 
 -- the prices are the first n duals, none of which is negative
 pub record AreLinkCosts (n : ℕ) (duals : ℕ → ℤ) (prices : List ℕ) : Type 0 where

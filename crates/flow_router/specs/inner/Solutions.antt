@@ -2,8 +2,7 @@
 use Rattle.std.specs.Prelude.{ℕ, ◌*ℤ◌, ◌<ℤ◌, List, pos}
 use Rattle.plan_terms.specs.Terms.{RouteColumn, RouteTask, graph_of}
 use Rattle.simplex_law.specs.Terms.{dot}
-use Rattle.simplex_core.specs.Terms.{Solves}
-use Rattle.simplex_core.specs.declared.optimum.Optimum.{Optimum}
+use Rattle.simplex_core.{specs.Terms.Solves, specs.declared.optimum.Optimum.Optimum}
 use Rattle.route_law.specs.Terms.{ArePricedLengths, AreJoined, route_rows, route_bound, route_slack, total_scaled_need, IsCarrying}
 
 -- an optimum of the task's routing program

@@ -1,9 +1,7 @@
 -- a routing in the making
 use Rattle.std.specs.Prelude.{◌≡◌, ℕ, ◌+◌, ◌*◌, ◌<◌, ◌≤◌, ◌==◌, ◌⊎◌, ◌++◌, if◌then◌else◌, List, [], ◌∷◌, All, Any, Some, length, slice_get, slice_index}
 use Rattle.plan_terms.specs.Terms.{Demand, LinkId, Flow, names_link, IsFlow, load, sent, IsPath}
-use Rattle.greedy_router.specs.Blocked.{IsBlocked}
-use Rattle.greedy_router.specs.declared.draft.Draft.{Draft}
-use Rattle.greedy_router.specs.inner.FullLinks.{positives}
+use Rattle.greedy_router.{specs.Blocked.IsBlocked, specs.declared.draft.Draft.Draft, specs.inner.FullLinks.positives}
 
 -- one flow of demand k more, which ends the demand's rest or fills a link
 pub record Sends (k : ℕ) (path : List LinkId) (old new : Draft) : Type 0 where

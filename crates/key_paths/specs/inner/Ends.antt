@@ -1,14 +1,9 @@
 -- what comes of a best basis with keys
 use Rattle.std.specs.Prelude.{ℕ, ℤ, List, length, map, pos, Result, Ok, Err, ◌≡◌, ◌≢◌, ◌<◌, ◌≤◌, ◌+◌, ◌-◌, ◌*◌, ◌/◌, ◌^◌, ◌++◌, ◌≤ℤ◌, get_or, cond, ltb, unsigned_abs}
-use Rattle.checked_fraction.specs.Terms.{num}
-use Rattle.checked_fraction.specs.declared.row.Row.{Row}
+use Rattle.checked_fraction.{specs.Terms.num, specs.declared.row.Row.Row}
 use Rattle.plan_terms.specs.Terms.{RouteColumn, WideKind, Number, Row as RowOf, Product, Sum, Common, Value, Length}
-use Rattle.simplex_core.specs.Terms.{den_at, DivideAll, IsDenominator, HaveNoDenominator}
-use Rattle.simplex_core.specs.declared.optimum.Optimum.{Optimum}
-use Rattle.simplex_core.specs.declared.solver.SimplexFault.{SimplexFault}
-use Rattle.simplex_core.specs.declared.solver.SimplexFault.TheVariants.{Wide, NoMemory}
-use Rattle.key_rows.specs.Terms.{amounts, left_over_rows}
-use Rattle.key_rows.specs.declared.keyed.Keyed.{Keyed}
+use Rattle.simplex_core.{specs.Terms.{den_at, DivideAll, IsDenominator, HaveNoDenominator}, specs.declared.optimum.Optimum.Optimum, specs.declared.solver.SimplexFault.SimplexFault, specs.declared.solver.SimplexFault.TheVariants.{Wide, NoMemory}}
+use Rattle.key_rows.{specs.Terms.{amounts, left_over_rows}, specs.declared.keyed.Keyed.Keyed}
 use Rattle.key_paths.specs.declared.finish.Ended.{Ended}
 
 -- the denominator of row i

@@ -5,15 +5,8 @@ use Rattle.plan_terms.specs.Terms.{RouteColumn, WideKind, Row as RowOf, Product,
 use Rattle.simplex_law.specs.Terms.{ColumnOf, put, IsPick}
 use Rattle.simplex_core.specs.Terms.{nums_at, den_at}
 use Rattle.key_law.specs.Terms.{cost, full_prices, role_nums, AreKeyRows}
-use Rattle.key_rows.specs.Terms.{IsColumnNamed, LimitsNothing}
-use Rattle.key_paths.specs.inner.Gaining.{cost_at}
-use Rattle.key_paths.specs.inner.Held.{IsHeld, IsNameOf}
-use Rattle.key_paths.specs.inner.Outcomes.{IsWideBasis}
-use Rattle.key_rows.specs.declared.keyed.Keyed.{Keyed}
-use Rattle.key_rows.specs.declared.ratio_test.WideTest.{WideTest}
-use Rattle.key_rows.specs.declared.ratio_test.WideTest.TheVariants.{Common as TestCommon, Product as TestProduct, Row as TestRow}
-use Rattle.key_paths.specs.declared.turns.Turn.{Turn}
-use Rattle.key_paths.specs.declared.turns.Turn.TheVariants.{Again, Unbounded, Wide}
+use Rattle.key_rows.{specs.Terms.{IsColumnNamed, LimitsNothing}, specs.declared.keyed.Keyed.Keyed, specs.declared.ratio_test.WideTest.WideTest, specs.declared.ratio_test.WideTest.TheVariants.{Common as TestCommon, Product as TestProduct, Row as TestRow}}
+use Rattle.key_paths.{specs.inner.Gaining.cost_at, specs.inner.Held.{IsHeld, IsNameOf}, specs.inner.Outcomes.IsWideBasis, specs.declared.turns.Turn.Turn, specs.declared.turns.Turn.TheVariants.{Again, Unbounded, Wide}}
 
 -- a basis with other products
 abbrev pub with_products : Keyed → List ℤ → Keyed

@@ -3,9 +3,8 @@ use Rattle.std.specs.Prelude.{ℕ, ℤ, List, [], ◌∷◌, ◌++◌, All, Some
 use Rattle.checked_fraction.specs.Terms.{num}
 use Rattle.plan_terms.specs.Terms.{RouteColumn, LinkSlack, DemandSlack, Carry, Demand, LinkId, Graph, Joins, IsPath}
 use Rattle.simplex_law.specs.Terms.{dot}
+use Rattle.key_rows.{specs.declared.keyed.Keyed.Keyed, specs.Terms.path_uses}
 use Rattle.key_paths.specs.declared.carrier.Carrier.{Carrier}
-use Rattle.key_rows.specs.declared.keyed.Keyed.{Keyed}
-use Rattle.key_rows.specs.Terms.{path_uses}
 
 -- the path joins the ends of demand k, which has a need
 pub record IsCarried (g : Graph) (demands : List Demand) (k : ℕ) (path : List LinkId) : Type 0 where

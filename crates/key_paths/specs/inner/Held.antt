@@ -5,8 +5,7 @@ use Rattle.plan_terms.specs.Terms.{RouteColumn, LinkId}
 use Rattle.simplex_law.specs.Terms.{HoldsRow, ColumnOf, dot, IsPick}
 use Rattle.simplex_core.specs.Terms.{nums_at, den_at}
 use Rattle.key_law.specs.Terms.{left_column, cost, full_prices, role_nums, AreKeyRows}
-use Rattle.key_rows.specs.Terms.{IsColumnNamed, IsKeyed, demand_in, column_name, uses, path_uses, IsNameWithin, IsShortPath}
-use Rattle.key_rows.specs.declared.keyed.Keyed.{Keyed}
+use Rattle.key_rows.{specs.Terms.{IsColumnNamed, IsKeyed, demand_in, column_name, uses, path_uses, IsNameWithin, IsShortPath}, specs.declared.keyed.Keyed.Keyed}
 
 -- 0 or 1
 abbrev pub IsZeroOrOne : ℤ → Type 0

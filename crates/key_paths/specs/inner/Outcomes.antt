@@ -2,14 +2,8 @@
 use Rattle.std.specs.Prelude.{ℕ, ℤ, List, length, get_or, ◌≡◌, ◌<◌, ◌+◌, ◌⊎◌}
 use Rattle.plan_terms.specs.Terms.{RouteColumn, WideKind, Number, Row as RowOf, Product, Sum, Common, Value, Length}
 use Rattle.simplex_law.specs.Terms.{HoldsRow, HoldsProduct, HoldsCommon, ColumnOf, put}
-use Rattle.key_paths.specs.inner.Held.{AreColumnNames, IsHeld, IsEntering, IsPriced}
-use Rattle.key_rows.specs.declared.key_row.WideKey.{WideKey}
-use Rattle.key_rows.specs.declared.key_row.WideKey.TheVariants.{Common as KeyCommon, Row as KeyRow}
-use Rattle.key_rows.specs.declared.keyed.Keyed.{Keyed}
-use Rattle.key_paths.specs.declared.turn_rows.WideTurn.{WideTurn}
-use Rattle.key_paths.specs.declared.turn_rows.WideTurn.TheVariants.{Prices, Row as RowAt}
-use Rattle.key_paths.specs.declared.turns.Turn.{Turn}
-use Rattle.key_paths.specs.declared.turns.Turn.TheVariants.{Again, Unbounded, Wide}
+use Rattle.key_rows.{specs.declared.key_row.WideKey.WideKey, specs.declared.key_row.WideKey.TheVariants.{Common as KeyCommon, Row as KeyRow}, specs.declared.keyed.Keyed.Keyed}
+use Rattle.key_paths.{specs.inner.Held.{AreColumnNames, IsHeld, IsEntering, IsPriced}, specs.declared.turn_rows.WideTurn.WideTurn, specs.declared.turn_rows.WideTurn.TheVariants.{Prices, Row as RowAt}, specs.declared.turns.Turn.Turn, specs.declared.turns.Turn.TheVariants.{Again, Unbounded, Wide}}
 
 -- what is too wide, by its place in the basis
 abbrev pub wide_place : Keyed → WideTurn → WideKind RouteColumn

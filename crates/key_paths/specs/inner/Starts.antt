@@ -4,8 +4,7 @@ use Rattle.checked_fraction.specs.Terms.{num}
 use Rattle.plan_terms.specs.Terms.{RouteColumn}
 use Rattle.simplex_law.specs.Terms.{unit_vector}
 use Rattle.simplex_core.specs.Terms.{nums_at, den_at}
-use Rattle.key_rows.specs.Terms.{amounts, column_name, IsShapedBasis}
-use Rattle.key_rows.specs.declared.keyed.Keyed.{Keyed}
+use Rattle.key_rows.{specs.Terms.{amounts, column_name, IsShapedBasis}, specs.declared.keyed.Keyed.Keyed}
 
 -- the slack basis, in which the slack of each demand is its key
 pub record IsStart (links demands : ℕ) (bound : ℕ → ℤ) (slack : ℕ → RouteColumn) (b : Keyed) : Type 0 where

@@ -1,16 +1,11 @@
 -- what the steps of a turn change of a basis with keys
-use Rattle.std.specs.Prelude.{ℕ, ℤ, List, length, Some, ◌≡◌, ◌≢◌, ◌<◌, ◌+◌, ◌+ℤ◌, ◌-ℤ◌, ◌*ℤ◌, get_or, slice_set}
-use Rattle.std.specs.List.{slice_get}
-use Rattle.checked_fraction.specs.Terms.{num, IsReduced, combined, IsTooWide}
-use Rattle.checked_fraction.specs.declared.row.Row.{Row}
-use Rattle.checked_fraction.specs.declared.wide.WideNumber.{WideNumber}
-use Rattle.key_paths.specs.declared.turn_rows.WideTurn.{WideTurn}
-use Rattle.key_paths.specs.declared.turn_rows.WideTurn.TheVariants.{Prices, Row as RowOf}
+use Rattle.std.{specs.Prelude.{ℕ, ℤ, List, length, Some, ◌≡◌, ◌≢◌, ◌<◌, ◌+◌, ◌+ℤ◌, ◌-ℤ◌, ◌*ℤ◌, get_or, slice_set}, specs.List.slice_get}
+use Rattle.checked_fraction.{specs.Terms.{num, IsReduced, combined, IsTooWide}, specs.declared.row.Row.Row, specs.declared.wide.WideNumber.WideNumber}
 use Rattle.plan_terms.specs.Terms.{RouteColumn}
 use Rattle.simplex_core.specs.Terms.{nums_at, AreTurned, IsWideRow}
 use Rattle.key_law.specs.Terms.{swap}
-use Rattle.key_rows.specs.Terms.{IsKeyRow, path_uses, links_in, key_name, owner_in}
-use Rattle.key_rows.specs.declared.keyed.Keyed.{Keyed}
+use Rattle.key_rows.{specs.Terms.{IsKeyRow, path_uses, links_in, key_name, owner_in}, specs.declared.keyed.Keyed.Keyed}
+use Rattle.key_paths.{specs.declared.turn_rows.WideTurn.WideTurn, specs.declared.turn_rows.WideTurn.TheVariants.{Prices, Row as RowOf}}
 
 -- what the key of demand d takes of link k at its bound
 abbrev pub key_takes : Keyed → ℕ → ℕ → ℤ

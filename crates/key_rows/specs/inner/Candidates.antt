@@ -1,23 +1,11 @@
 -- keys as candidates, and which of two comes first
-use Rattle.std.specs.Prelude.{ℕ, ℤ, List, length, Option, Some, None, Result, Ok, Err, pos, ◌≡◌, ◌<◌, ◌≤◌, ◌+◌, ◌-◌, ◌≤ℤ◌, ◌<ℤ◌, ◌+ℤ◌, ◌*ℤ◌, ◌⊎◌, Bool, true, false}
-use Rattle.checked_fraction.specs.Terms.{num}
-use Rattle.checked_fraction.specs.declared.row.Row.{Row}
+use Rattle.std.{specs.Prelude.{ℕ, ℤ, List, length, Option, Some, None, Result, Ok, Err, pos, ◌≡◌, ◌<◌, ◌≤◌, ◌+◌, ◌-◌, ◌≤ℤ◌, ◌<ℤ◌, ◌+ℤ◌, ◌*ℤ◌, ◌⊎◌, Bool, true, false}, specs.List.slice_get}
+use Rattle.checked_fraction.{specs.Terms.num, specs.declared.row.Row.Row}
 use Rattle.simplex_core.specs.Terms.{HaveNoDenominator, nums_of}
 use Rattle.simplex_law.specs.Terms.{dot}
-use Rattle.std.specs.List.{slice_get}
-use Rattle.net_core.specs.declared.columns.RouteColumn.{RouteColumn}
-use Rattle.net_core.specs.declared.ids.LinkId.{LinkId}
+use Rattle.net_core.{specs.declared.columns.RouteColumn.RouteColumn, specs.declared.ids.LinkId.LinkId}
 use Rattle.key_law.specs.Terms.{IsTieFirst}
-use Rattle.key_rows.specs.KeyRows.{amounts, own_den, AreWeights, left_over_rows}
-use Rattle.key_rows.specs.Names.{left_uses, own_entry}
-use Rattle.key_rows.specs.inner.Orders.{IsRowCandidate}
-use Rattle.key_rows.specs.declared.key_row.WideKey.{WideKey}
-use Rattle.key_rows.specs.declared.key_row.WideKey.TheVariants.{Common, Row as RowOf}
-use Rattle.key_rows.specs.declared.keyed.Keyed.{Keyed}
-use Rattle.key_rows.specs.declared.ratio_test.WideTest.{WideTest}
-use Rattle.key_rows.specs.declared.ratio_test.WideTest.TheVariants.{Common as TestCommon, Product as TestProduct, Row as TestRow}
-use Rattle.key_rows.specs.declared.order.Candidate.{Candidate}
-use Rattle.key_rows.specs.KeyTests.{product_over, HasWideStep, IsKeyRow, IsWideSpread}
+use Rattle.key_rows.{specs.KeyRows.{amounts, own_den, AreWeights, left_over_rows}, specs.Names.{left_uses, own_entry}, specs.inner.Orders.IsRowCandidate, specs.declared.key_row.WideKey.WideKey, specs.declared.key_row.WideKey.TheVariants.{Common, Row as RowOf}, specs.declared.keyed.Keyed.Keyed, specs.declared.ratio_test.WideTest.WideTest, specs.declared.ratio_test.WideTest.TheVariants.{Common as TestCommon, Product as TestProduct, Row as TestRow}, specs.declared.order.Candidate.Candidate, specs.KeyTests.{product_over, HasWideStep, IsKeyRow, IsWideSpread}}
 
 module _ (b : Keyed) (d : ℕ) where
   -- the value of the key of demand d over all, where the rows have these weights

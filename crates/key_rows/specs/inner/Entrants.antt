@@ -2,14 +2,7 @@
 use Rattle.std.specs.Prelude.{ℕ, length, pos, ◌≢◌, ◌<◌, ◌≤ℤ◌, ◌^◌, unsigned_abs}
 use Rattle.checked_fraction.specs.Terms.{num}
 use Rattle.net_core.specs.declared.columns.RouteColumn.{RouteColumn}
-use Rattle.key_rows.specs.Bases.{IsShapedBasis}
-use Rattle.key_rows.specs.FirstRoles.{LeaveSomething}
-use Rattle.key_rows.specs.KeyTests.{HaveColumnProducts}
-use Rattle.key_rows.specs.Names.{own_entry, IsNameWithin, IsShortPath}
-use Rattle.key_rows.specs.inner.Candidates.{IsKeyCandidate, IsPlacedCandidate}
-use Rattle.key_rows.specs.declared.entrant.Entrant.{Entrant}
-use Rattle.key_rows.specs.declared.keyed.Keyed.{Keyed}
-use Rattle.key_rows.specs.declared.order.Candidate.{Candidate}
+use Rattle.key_rows.{specs.Bases.IsShapedBasis, specs.FirstRoles.LeaveSomething, specs.KeyTests.HaveColumnProducts, specs.Names.{own_entry, IsNameWithin, IsShortPath}, specs.inner.Candidates.{IsKeyCandidate, IsPlacedCandidate}, specs.declared.entrant.Entrant.Entrant, specs.declared.keyed.Keyed.Keyed, specs.declared.order.Candidate.Candidate}
 
 -- it runs over links that there are, and so does the key; the basis holds its products
 pub record IsEntrant (e : Entrant) : Type 0 where

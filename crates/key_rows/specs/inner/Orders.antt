@@ -1,12 +1,10 @@
 -- the order of candidates
 use Rattle.std.specs.Prelude.{ℕ, ℤ, List, Option, Some, None, pos, ◌≡◌, ◌<◌, ◌≤ℤ◌, ◌<ℤ◌, ◌⊎◌}
-use Rattle.checked_fraction.specs.Terms.{num}
-use Rattle.checked_fraction.specs.declared.row.Row.{Row}
+use Rattle.checked_fraction.{specs.Terms.num, specs.declared.row.Row.Row}
 use Rattle.simplex_law.specs.Terms.{IsNoLater}
 use Rattle.simplex_core.specs.Terms.{nums_at}
 use Rattle.key_law.specs.Terms.{ComesFirst}
-use Rattle.key_rows.specs.KeyRows.{amounts}
-use Rattle.key_rows.specs.declared.order.Candidate.{Candidate}
+use Rattle.key_rows.{specs.KeyRows.amounts, specs.declared.order.Candidate.Candidate}
 
 -- the first candidate comes before the second, by link entries n over r and o over s where their values tie
 abbrev pub IsCandidateFirst : ℕ → Candidate → (ℕ → ℤ) → ℤ → Candidate → (ℕ → ℤ) → ℤ → Type 0

@@ -2,10 +2,7 @@
 use Rattle.std.specs.Prelude.{ℕ, ℤ, List, Option, Some, None, length, pos, ◌≡◌, ◌≢◌, ◌<◌, ◌+◌, ◌⊎◌}
 use Rattle.checked_fraction.specs.Terms.{num}
 use Rattle.net_core.specs.declared.columns.RouteColumn.{RouteColumn}
-use Rattle.key_rows.specs.KeyRows.{IsOwn}
-use Rattle.key_rows.specs.Names.{demand_in}
-use Rattle.key_rows.specs.declared.keyed.Keyed.{Keyed}
-use Rattle.key_rows.specs.declared.order.Candidate.{Candidate}
+use Rattle.key_rows.{specs.KeyRows.IsOwn, specs.Names.demand_in, specs.declared.keyed.Keyed.Keyed, specs.declared.order.Candidate.Candidate}
 
 -- the role of a candidate
 abbrev pub role_in : Option Candidate → Option ℕ

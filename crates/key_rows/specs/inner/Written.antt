@@ -1,7 +1,6 @@
 -- the weights of a key's rows and the numbers of its row, as far as they are written
 use Rattle.std.specs.Prelude.{ℕ, ℤ, List, pos, ◌≡◌, ◌<◌, ◌≤◌, ◌^◌, ◌*ℤ◌, unsigned_abs}
-use Rattle.checked_fraction.specs.Terms.{num, IsNarrow}
-use Rattle.checked_fraction.specs.declared.row.Row.{Row}
+use Rattle.checked_fraction.{specs.Terms.{num, IsNarrow}, specs.declared.row.Row.Row}
 use Rattle.simplex_core.specs.Terms.{den_at}
 use Rattle.key_rows.specs.KeyRows.{IsOwn}
 

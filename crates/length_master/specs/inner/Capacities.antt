@@ -1,8 +1,6 @@
 -- capacities at prices of the links' capacity
-use Rattle.std.specs.Prelude.{ℕ, zero, suc, ◌+◌, ◌*◌, List, length, map, slice_index, unsigned_abs}
-use Rattle.std.specs.List.{range_with_len}
-use Rattle.checked_fraction.specs.Terms.{num}
-use Rattle.checked_fraction.specs.declared.row.Row.{Row}
+use Rattle.std.{specs.Prelude.{ℕ, zero, suc, ◌+◌, ◌*◌, List, length, map, slice_index, unsigned_abs}, specs.List.range_with_len}
+use Rattle.checked_fraction.{specs.Terms.num, specs.declared.row.Row.Row}
 use Rattle.module_prices.specs.declared.cheapest.UnitPair.{UnitPair}
 use Rattle.plan_terms.specs.Terms.{Caps, Link}
 use Rattle.master_law.specs.Terms.{unit_capacities}

@@ -5,9 +5,7 @@ use Rattle.plan_terms.specs.Terms.{MasterColumn, Metric, Link, CutLine}
 use Rattle.simplex_law.specs.Terms.{ColumnOf, unit_vector}
 use Rattle.master_law.specs.Terms.{cut_entry, cut_gain, master_slack}
 use Rattle.master_bound.specs.Answers.{cut_at}
-use Rattle.length_master.specs.declared.slot.Slot.{Slot}
-use Rattle.length_master.specs.declared.slot.Slot.TheVariants.{Slack, Cut}
-use Rattle.length_master.specs.declared.row.KeptRow.{KeptRow}
+use Rattle.length_master.{specs.declared.slot.Slot.Slot, specs.declared.slot.Slot.TheVariants.{Slack, Cut}, specs.declared.row.KeptRow.KeptRow}
 
 -- a row of the list; past its end, one without numbers
 abbrev pub row_at : List KeptRow → ℕ → KeptRow

@@ -1,16 +1,12 @@
 -- what is tested of a basis, its values and its prices
 use Rattle.std.specs.Prelude.{ℕ, ℤ, ◌≡◌, ◌<◌, ◌^◌, ◌*ℤ◌, ◌≤ℤ◌, List, Some, pos, get_or, length, slice_get}
-use Rattle.checked_fraction.specs.Terms.{num}
-use Rattle.checked_fraction.specs.declared.row.Row.{Row}
+use Rattle.checked_fraction.{specs.Terms.num, specs.declared.row.Row.Row}
 use Rattle.module_prices.specs.declared.cheapest.UnitPair.{UnitPair}
 use Rattle.plan_terms.specs.Terms.{MasterColumn, Link, CutLine}
 use Rattle.simplex_law.specs.Terms.{dot, int_sum, unit_vector}
 use Rattle.master_law.specs.Terms.{cut_gain, master_bound}
-use Rattle.master_bound.specs.Answers.{cut_at}
-use Rattle.master_bound.specs.Narrow.{length_entry}
-use Rattle.length_master.specs.declared.priced_lengths.Balance.{Balance}
-use Rattle.length_master.specs.declared.row.KeptRow.{KeptRow}
-use Rattle.length_master.specs.inner.Slots.{ArePlacedRows, row_at, slot_entry, slot_gain, slot_lengths, slot_name}
+use Rattle.master_bound.{specs.Answers.cut_at, specs.Narrow.length_entry}
+use Rattle.length_master.{specs.declared.priced_lengths.Balance.Balance, specs.declared.row.KeptRow.KeptRow, specs.inner.Slots.{ArePlacedRows, row_at, slot_entry, slot_gain, slot_lengths, slot_name}}
 
 -- the products of row i with the first n slots are its denominator for its own one, and 0 for others
 abbrev pub IsInverseAt : List CutLine → List KeptRow → KeptRow → ℕ → ℕ → Type 0

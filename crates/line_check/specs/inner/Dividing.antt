@@ -1,12 +1,8 @@
 -- the limits of divided lines, and their coefficients link by link
-use Rattle.std.specs.Prelude.{◌≡◌, ℕ, ◌≤◌, ◌<◌, ◌^◌, true, List, All, IsTrue, length, map, min}
-use Rattle.std.specs.List.{range_with_len}
+use Rattle.std.{specs.Prelude.{◌≡◌, ℕ, ◌≤◌, ◌<◌, ◌^◌, true, List, All, IsTrue, length, map, min}, specs.List.range_with_len}
 use Rattle.master_bound.specs.declared.answer.Multiplier.{Multiplier}
 use Rattle.plan_terms.specs.Terms.{Link}
-use Rattle.line_check.specs.Inequalities.{WeightedLine, module_number, module_price}
-use Rattle.line_check.specs.Lines.{divided_up}
-use Rattle.line_check.specs.Testing.{says, test_at}
-use Rattle.line_check.specs.declared.tested_lines.Tested.{Tested}
+use Rattle.line_check.{specs.Inequalities.{WeightedLine, module_number, module_price}, specs.Lines.divided_up, specs.Testing.{says, test_at}, specs.declared.tested_lines.Tested.Tested}
 
 -- a divisor and numerators keep their limits
 pub record KeepsLimits (divisor : ℕ) (terms : List Multiplier) : Type 0 where

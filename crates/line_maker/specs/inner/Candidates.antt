@@ -1,12 +1,8 @@
 -- lines that may be made
 use Rattle.std.specs.Prelude.{◌≡◌, ℕ, ◌≤◌, ◌<◌, ◌^◌, List, [], ◌∷◌, All, length}
 use Rattle.plan_terms.specs.Terms.{Link}
-use Rattle.line_check.specs.Terms.{module_number, module_price, need_of, summed_need, divided_up, IsSoundAt, weighed, Multiplier}
-use Rattle.line_check.specs.declared.inequality.Inequality.{Inequality}
-use Rattle.line_check.specs.declared.tested_lines.Tested.{Tested}
-use Rattle.line_maker.specs.declared.numbers.Lowest.{Lowest}
-use Rattle.line_maker.specs.declared.pairs.Pair.{Pair}
-use Rattle.line_maker.specs.declared.candidate.Candidate.{Candidate}
+use Rattle.line_check.{specs.Terms.{module_number, module_price, need_of, summed_need, divided_up, IsSoundAt, weighed, Multiplier}, specs.declared.inequality.Inequality.Inequality, specs.declared.tested_lines.Tested.Tested}
+use Rattle.line_maker.{specs.declared.numbers.Lowest.Lowest, specs.declared.pairs.Pair.Pair, specs.declared.candidate.Candidate.Candidate}
 
 -- an earlier line that holds, with a numerator that a divided line may have
 pub record IsTermOf (tested : List Tested) (m : Multiplier) : Type 0 where

@@ -1,13 +1,11 @@
 -- cuts that gain at the prices of the links
 use Rattle.std.specs.Prelude.{ℕ, ℤ, ◌≡◌, ◌<◌, ◌*ℤ◌, ◌-ℤ◌, ◌<ℤ◌, ◌≤ℤ◌, List, Option, None, Some, length, pos, slice_get}
-use Rattle.checked_fraction.specs.Terms.{num}
-use Rattle.checked_fraction.specs.declared.row.Row.{Row}
+use Rattle.checked_fraction.{specs.Terms.num, specs.declared.row.Row.Row}
 use Rattle.module_prices.specs.declared.cheapest.UnitPair.{UnitPair}
 use Rattle.plan_terms.specs.Terms.{Link, CutLine}
 use Rattle.simplex_law.specs.Terms.{dot}
 use Rattle.master_law.specs.Terms.{cut_gain}
-use Rattle.master_bound.specs.declared.candidate.Candidate.{Candidate}
-use Rattle.master_bound.specs.Narrow.{length_entry}
+use Rattle.master_bound.{specs.declared.candidate.Candidate.Candidate, specs.Narrow.length_entry}
 
 -- what the first n entries of lengths cost
 abbrev pub cost_below : Row → List UnitPair → List ℕ → ℕ → ℤ

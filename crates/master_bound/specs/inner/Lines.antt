@@ -4,8 +4,7 @@ use Rattle.plan_terms.specs.Terms.{MasterColumn, Metric, Link, CutLine}
 use Rattle.net_core.specs.declared.columns.MasterColumn.TheVariants.{LinkSlack}
 use Rattle.simplex_law.specs.Terms.{ColumnOf, AreNames}
 use Rattle.master_law.specs.Terms.{AreLinesOf, cut_gain}
-use Rattle.master_bound.specs.declared.answer.Multiplier.{Multiplier}
-use Rattle.master_bound.specs.Answers.{cut_at, lines_of}
+use Rattle.master_bound.{specs.declared.answer.Multiplier.Multiplier, specs.Answers.{cut_at, lines_of}}
 
 -- how much is taken of a column, if it is a cut
 abbrev pub amount_of : MasterColumn → ℕ → ℕ

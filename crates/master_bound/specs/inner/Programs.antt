@@ -1,17 +1,11 @@
 -- the columns that are handed out, and optima of the master program
-use Rattle.std.specs.Prelude.{ℕ, ◌≡◌, ◌<◌, List, [], ◌∷◌, pos, cond, nat_lt, length}
-use Rattle.std.specs.List.{AllByRecursion}
+use Rattle.std.{specs.Prelude.{ℕ, ◌≡◌, ◌<◌, List, [], ◌∷◌, pos, cond, nat_lt, length}, specs.List.AllByRecursion}
 use Rattle.checked_fraction.specs.Terms.{IsNarrow}
 use Rattle.module_prices.specs.declared.cheapest.UnitPair.{UnitPair}
 use Rattle.plan_terms.specs.Terms.{MasterColumn, Metric, Master, WideKind, Link, CutLine}
-use Rattle.simplex_core.specs.Terms.{entry_of, AreEntries, Solves}
-use Rattle.simplex_core.specs.declared.columns.Column.{Column}
-use Rattle.simplex_core.specs.declared.columns.Entry.{Entry}
-use Rattle.simplex_core.specs.declared.optimum.Optimum.{Optimum}
+use Rattle.simplex_core.{specs.Terms.{entry_of, AreEntries, Solves}, specs.declared.columns.Column.Column, specs.declared.columns.Entry.Entry, specs.declared.optimum.Optimum.Optimum}
 use Rattle.master_law.specs.Terms.{cut_gain, master_bound, master_slack, IsCutColumn}
-use Rattle.master_bound.specs.declared.answer.MasterFault.{MasterFault}
-use Rattle.master_bound.specs.declared.answer.MasterFault.TheVariants.{Wide}
-use Rattle.master_bound.specs.Narrow.{length_entry}
+use Rattle.master_bound.{specs.declared.answer.MasterFault.MasterFault, specs.declared.answer.MasterFault.TheVariants.Wide, specs.Narrow.length_entry}
 
 -- the entry of a row, unless it is 0
 abbrev pub entry_in : ℕ → ℕ → List Entry

@@ -1,7 +1,6 @@
 -- the share of an objective row
 use Rattle.std.specs.Prelude.{ℕ, ℤ, ◌≡◌, ◌<◌, ◌^◌, List, All, pos, length, slice_index}
-use Rattle.checked_fraction.specs.Terms.{num}
-use Rattle.checked_fraction.specs.declared.row.Row.{Row}
+use Rattle.checked_fraction.{specs.Terms.num, specs.declared.row.Row.Row}
 use Rattle.plan_types.specs.declared.quality.Share.{Share}
 
 -- the units are the first n prices, none of which is negative

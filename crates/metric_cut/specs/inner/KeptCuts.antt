@@ -1,9 +1,7 @@
 -- the opening cuts of a state, from what it keeps of two lists of lengths
-use Rattle.std.specs.Prelude.{◌==◌, ℕ, List, [], ◌∷◌, Option, None, Some, cond}
-use Rattle.std.specs.Cmp.Lexicographic.{pointwise}
+use Rattle.std.{specs.Prelude.{◌==◌, ℕ, List, [], ◌∷◌, Option, None, Some, cond}, specs.Cmp.Lexicographic.pointwise}
 use Rattle.plan_terms.specs.Terms.{Graph, ArePriceLengths}
-use Rattle.metric_cut.specs.Cuts.{MayKeepCut}
-use Rattle.metric_cut.specs.declared.cut.Cut.{Cut}
+use Rattle.metric_cut.{specs.Cuts.MayKeepCut, specs.declared.cut.Cut.Cut}
 
 -- a cut of what the state keeps of the price lengths
 abbrev pub MayKeepPrices : Graph → Option Cut → Type 0

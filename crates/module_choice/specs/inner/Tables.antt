@@ -1,8 +1,7 @@
 -- the least costs of a link's modules to reach a number of steps
 use Rattle.std.specs.Prelude.{◌≡◌, ℕ, ◌+◌, ◌-◌, ◌*◌, ◌^◌, ◌<◌, ◌≤◌, List, All, Some, length, map, slice_get}
 use Rattle.plan_terms.specs.Terms.{Module, IsModule, IsGreatestDivisor, modules_capacity, modules_cost, Reaches}
-use Rattle.module_choice.specs.declared.tables.Entry.{Entry}
-use Rattle.module_choice.specs.declared.tables.Table.{Table}
+use Rattle.module_choice.{specs.declared.tables.Entry.Entry, specs.declared.tables.Table.Table}
 
 -- modules whose capacities are counted in steps, with their capacities in units of the network
 abbrev pub in_units : ℕ → List Module → List Module

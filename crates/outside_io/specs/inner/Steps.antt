@@ -1,14 +1,6 @@
 -- the steps in which a file is read and a piece is written
-use Rattle.std.specs.Prelude.{◌≡◌, ◌≢◌, ℕ, ◌+◌, ◌≤◌, ◌<◌, ◌⊎◌, List, [], ◌++◌, length, take, Option, Some, None, IfSome, ⊤, Result, MatchResult}
-use Rattle.std.specs.IoError.{error_kind}
-use Rattle.std.specs.declared.io.Error.{Error}
-use Rattle.std.specs.declared.io.ErrorKind.{ErrorKind}
-use Rattle.std.specs.declared.io.ErrorKind.TheVariants.{IsADirectory, NotFound, PermissionDenied, QuotaExceeded, StorageFull}
-use Rattle.std.specs.Io.KnownBytes.{Consumes, Appends, IsAtEnd}
-use Rattle.outside_io.specs.declared.shelf.Fetch.{Fetch}
-use Rattle.outside_io.specs.declared.shelf.ReadFault.{ReadFault}
-use Rattle.outside_io.specs.declared.shelf.ReadFault.TheVariants.{Folder, NoRight, Other}
-use Rattle.outside_io.specs.declared.shelf.Fetch.TheVariants.{Found, Missing, TooLong, Failed, NoMemory}
+use Rattle.std.{specs.Prelude.{◌≡◌, ◌≢◌, ℕ, ◌+◌, ◌≤◌, ◌<◌, ◌⊎◌, List, [], ◌++◌, length, take, Option, Some, None, IfSome, ⊤, Result, MatchResult}, specs.IoError.error_kind, specs.declared.io.Error.Error, specs.declared.io.ErrorKind.ErrorKind, specs.declared.io.ErrorKind.TheVariants.{IsADirectory, NotFound, PermissionDenied, QuotaExceeded, StorageFull}, specs.Io.KnownBytes.{Consumes, Appends, IsAtEnd}}
+use Rattle.outside_io.{specs.declared.shelf.Fetch.Fetch, specs.declared.shelf.ReadFault.ReadFault, specs.declared.shelf.ReadFault.TheVariants.{Folder, NoRight, Other}, specs.declared.shelf.Fetch.TheVariants.{Found, Missing, TooLong, Failed, NoMemory}}
 
 -- what reading an open file to its end answers, and what it leaves in an empty buffer, where the bytes of the file are known
 abbrev pub Reads : Option (List ℕ) → ℕ → Fetch → List ℕ → Type 0

@@ -1,10 +1,7 @@
 -- arcs with both of their nodes, and what is left of their flow
-use Rattle.std.specs.Prelude.{◌≡◌, ◌≢◌, ℕ, ◌+◌, ◌<◌, ◌≤◌, ◌==◌, Bool, if◌then◌else◌, List, [], ◌∷◌, length, map, slice_get, slice_index, slice_index_or, sum_by}
-use Rattle.std.specs.Option.{option_map_or}
+use Rattle.std.{specs.Prelude.{◌≡◌, ◌≢◌, ℕ, ◌+◌, ◌<◌, ◌≤◌, ◌==◌, Bool, if◌then◌else◌, List, [], ◌∷◌, length, map, slice_get, slice_index, slice_index_or, sum_by}, specs.Option.option_map_or}
 use Rattle.plan_terms.specs.Terms.{Link}
-use Rattle.path_split.specs.declared.arc.Arc.{Arc}
-use Rattle.path_split.specs.declared.leg.Leg.{Leg}
-use Rattle.path_split.specs.Balances.{other_end}
+use Rattle.path_split.{specs.declared.arc.Arc.Arc, specs.declared.leg.Leg.Leg, specs.Balances.other_end}
 
 -- the node that the arc enters
 abbrev pub far_node : List Link → Arc → ℕ

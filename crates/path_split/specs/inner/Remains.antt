@@ -1,11 +1,7 @@
 -- what is left of legs and of a need, while one path after another is taken off
 use Rattle.std.specs.Prelude.{◌≡◌, ℕ, zero, suc, ◌+◌, ◌<◌, ◌≤◌, ◌⊎◌, ◌++◌, List, [], ◌∷◌, All, Any, drop, length, slice_index}
 use Rattle.plan_terms.specs.Terms.{IsPath}
-use Rattle.path_split.specs.Splits.{path_load}
-use Rattle.path_split.specs.declared.arc.PathFlow.{PathFlow}
-use Rattle.path_split.specs.declared.leg.Leg.{Leg}
-use Rattle.path_split.specs.inner.Legs.{arrives, due, is_on, leaves, leg_at, nums, picked}
-use Rattle.path_split.specs.inner.Trails.{AreEnough, less, trail_links}
+use Rattle.path_split.{specs.Splits.path_load, specs.declared.arc.PathFlow.PathFlow, specs.declared.leg.Leg.Leg, specs.inner.Legs.{arrives, due, is_on, leaves, leg_at, nums, picked}, specs.inner.Trails.{AreEnough, less, trail_links}}
 
 -- some leg is on link e and leads from x to y
 pub record HasLeg (legs : List Leg) (e x y : ℕ) : Type 0 where

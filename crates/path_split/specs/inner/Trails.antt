@@ -1,9 +1,7 @@
 -- walks along legs with flow left
-use Rattle.std.specs.Prelude.{◌≡◌, ◌≢◌, ℕ, ◌-◌, ◌<◌, ◌≤◌, ◌⊎◌, List, [], ◌∷◌, length, map, slice_index, slice_set}
-use Rattle.std.specs.List.{AllByRecursion}
+use Rattle.std.{specs.Prelude.{◌≡◌, ◌≢◌, ℕ, ◌-◌, ◌<◌, ◌≤◌, ◌⊎◌, List, [], ◌∷◌, length, map, slice_index, slice_set}, specs.List.AllByRecursion}
 use Rattle.plan_terms.specs.Terms.{LinkId, AreDifferent}
-use Rattle.path_split.specs.declared.leg.Leg.{Leg}
-use Rattle.path_split.specs.inner.Legs.{leaves, leg_at, picked}
+use Rattle.path_split.{specs.declared.leg.Leg.Leg, specs.inner.Legs.{leaves, leg_at, picked}}
 
 -- the legs at these places lead from a to b
 abbrev pub Chain : List Leg → ℕ → List ℕ → ℕ → Type 0

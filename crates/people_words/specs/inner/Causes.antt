@@ -1,10 +1,6 @@
 -- what the functions of a reading of words answer to each other
 use Rattle.std.specs.Prelude.{◌≡◌, ℕ, ◌++◌, List, [], ◌∷◌, None, Some, map}
-use Rattle.people_words.specs.GivenWords.{AreRead, GivenOption}
-use Rattle.people_words.specs.declared.given.Awaited.{Awaited}
-use Rattle.people_words.specs.declared.given.Awaited.TheVariants.{Word, Value, Names}
-use Rattle.people_words.specs.declared.given.Given.{Given}
-use Rattle.people_words.specs.declared.given.OptionValue.{OptionValue}
+use Rattle.people_words.{specs.GivenWords.{AreRead, GivenOption}, specs.declared.given.Awaited.Awaited, specs.declared.given.Awaited.TheVariants.{Word, Value, Names}, specs.declared.given.Given.Given, specs.declared.given.OptionValue.OptionValue}
 
 -- the names that are given
 abbrev pub given_names : Given → List (List ℕ)

@@ -1,10 +1,6 @@
 -- what tests answer
 use Rattle.std.specs.Prelude.{ℕ, Option, None, Some, Result, Ok, Err, ⊤, List}
-use Rattle.plan_checker.specs.Order.{Kind, HoldsNone, HoldNone, IsFirstFinding}
-use Rattle.plan_checker.specs.Places.{IsLeastPair, IsLeastPlace}
-use Rattle.plan_checker.specs.declared.place.Place.{Place}
-use Rattle.plan_checker.specs.declared.stop.Stop.{Stop}
-use Rattle.plan_checker.specs.declared.stop.Stop.TheVariants.{Found, NoMemory}
+use Rattle.plan_checker.{specs.Order.{Kind, HoldsNone, HoldNone, IsFirstFinding}, specs.Places.{IsLeastPair, IsLeastPlace}, specs.declared.place.Place.Place, specs.declared.stop.Stop.Stop, specs.declared.stop.Stop.TheVariants.{Found, NoMemory}}
 
 -- the least place at which this holds, or none where it holds at none
 abbrev pub IsFirstPlace : (ℕ → Type 0) → Option ℕ → Type 0

@@ -1,11 +1,7 @@
 -- the report of a plan without demands on the triangle
 use Rattle.std.specs.Prelude.{[], ◌∷◌, false}
 use Rattle.plan_terms.specs.Terms.{Pooled, CutLine, Routing}
-use Rattle.plan_types.specs.declared.certificate.Certificate.{Certificate}
-use Rattle.plan_types.specs.declared.plan.Plan.{Plan}
-use Rattle.plan_types.specs.declared.quality.Quality.TheVariants.{Tight}
-use Rattle.plan_types.specs.declared.report.Outcome.TheVariants.{Planned}
-use Rattle.plan_types.specs.declared.report.Report.{Report}
+use Rattle.plan_types.{specs.declared.certificate.Certificate.Certificate, specs.declared.plan.Plan.Plan, specs.declared.quality.Quality.TheVariants.Tight, specs.declared.report.Outcome.TheVariants.Planned, specs.declared.report.Report.Report}
 
 -- the unit cut of the state without failures, which asks for nothing
 abbrev pub idle_cut : CutLine

@@ -6,9 +6,7 @@ use Rattle.cut_pool.specs.Terms.{cut_of_line, cuts_of}
 use Rattle.plan_law.specs.WorkedLists.{IsBeginning, IsWorkedList, Round}
 use Rattle.turn_lock.specs.Passes.{Seen}
 use Rattle.separator.specs.Separators.{IsCutEntry}
-use Rattle.plan_rounds.specs.WorkedRounds.{IsWorkedPool}
-use Rattle.plan_rounds.specs.declared.rounds.Turn.{Turn}
-use Rattle.plan_rounds.specs.declared.rounds.Turn.TheVariants.{Further, Last}
+use Rattle.plan_rounds.{specs.WorkedRounds.IsWorkedPool, specs.declared.rounds.Turn.Turn, specs.declared.rounds.Turn.TheVariants.{Further, Last}}
 
 -- all entries are the separator's own, and are pooled cuts
 pub record IsAlone (seen : Seen Entry) : Type 0 where

@@ -1,11 +1,8 @@
 -- what is found of the answers of all states
 use Rattle.std.specs.Prelude.{◌≡◌, ◌≢◌, ℕ, ◌<◌, ◌≤◌, ◌⊎◌, ◌++◌, List, [], ◌∷◌, None, Some, All, AllPairs, IfSome, length, slice_get}
 use Rattle.plan_terms.specs.Terms.{Evidence, Entry, Caps, Routing, Case, graph_in, HasShortLengths}
-use Rattle.separator.specs.Terms.{IsEvidenceHere, IsRouted, IsSeparatingCut}
-use Rattle.separator.specs.declared.answers.Separated.{Separated}
-use Rattle.separator.specs.declared.answers.Separated.TheVariants.{Routed, Violated, Wide}
-use Rattle.plan_rounds.specs.WorkedRounds.{StandAtSpots}
-use Rattle.plan_rounds.specs.declared.sorted_answers.Answered.{Answered}
+use Rattle.separator.{specs.Terms.{IsEvidenceHere, IsRouted, IsSeparatingCut}, specs.declared.answers.Separated.Separated, specs.declared.answers.Separated.TheVariants.{Routed, Violated, Wide}}
+use Rattle.plan_rounds.{specs.WorkedRounds.StandAtSpots, specs.declared.sorted_answers.Answered.Answered}
 
 -- the answer of one state is added to those before it
 abbrev pub PutsAnswer : Separated → Answered → Answered → Type 0

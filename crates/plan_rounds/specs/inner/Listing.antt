@@ -1,15 +1,12 @@
 -- the cuts of a planning, as they are added to its list
 use Rattle.std.specs.Prelude.{◌≡◌, ℕ, ◌^◌, ◌<◌, ◌⊎◌, ◌++◌, List, [], ◌∷◌, All, Some, length, slice_get}
 use Rattle.plan_terms.specs.Terms.{Demand, Entry, CutLine, Case, IsCut}
-use Rattle.plan_types.specs.declared.certificate.Spot.{Spot}
-use Rattle.plan_types.specs.declared.certificate.Spot.TheVariants.{Pool}
-use Rattle.metric_cut.specs.Cuts.{IsLineAt}
-use Rattle.metric_cut.specs.declared.cut.Cut.{Cut}
+use Rattle.plan_types.{specs.declared.certificate.Spot.Spot, specs.declared.certificate.Spot.TheVariants.Pool}
+use Rattle.metric_cut.{specs.Cuts.IsLineAt, specs.declared.cut.Cut.Cut}
 use Rattle.plan_law.specs.WorkedLists.{AreDifferentCuts, HasCut, Lacks}
 use Rattle.turn_lock.specs.Passes.{Seen}
 use Rattle.separator.specs.Separators.{Frame, SeesMore}
-use Rattle.plan_rounds.specs.WorkedRounds.{StandAtSpots}
-use Rattle.plan_rounds.specs.declared.candidates.Candidates.{Candidates}
+use Rattle.plan_rounds.{specs.WorkedRounds.StandAtSpots, specs.declared.candidates.Candidates.Candidates}
 
 -- the separator has the network, states and mark that it had, and has seen further entries, of which its own are pooled cuts
 pub record GoesOn {M : Type 0} (frame frame_now : Frame M) (old new : Seen Entry) : Type 0 where

@@ -2,19 +2,10 @@
 use Rattle.std.specs.Prelude.{◌≡◌, ℕ, ◌+◌, ◌<◌, ◌≤◌, ◌⊎◌, ◌++◌, Bool, true, false, List, All, Option, None, Some, length, take}
 use Rattle.plan_terms.specs.Terms.{Entry, Caps, CutLine, Case, IsCut}
 use Rattle.module_prices.specs.declared.cheapest.UnitPair.{UnitPair}
-use Rattle.plan_types.specs.declared.certificate.Spot.{Spot}
-use Rattle.plan_types.specs.declared.quality.Cause.TheVariants.{Cuts}
-use Rattle.plan_types.specs.declared.quality.Quality.{Quality}
-use Rattle.plan_types.specs.declared.quality.Quality.TheVariants.{Loose}
+use Rattle.plan_types.{specs.declared.certificate.Spot.Spot, specs.declared.quality.Cause.TheVariants.Cuts, specs.declared.quality.Quality.Quality, specs.declared.quality.Quality.TheVariants.Loose}
 use Rattle.master_bound.specs.declared.answer.Best.{Best}
 use Rattle.plan_law.specs.WorkedLists.{AreRounds, IsBeginning, IsRound, Round, after_rounds}
-use Rattle.plan_rounds.specs.WorkedRounds.{AreWorkedRounds, EndsBy, IsBestAt}
-use Rattle.plan_rounds.specs.inner.Sharing.{IsQualityAt}
-use Rattle.plan_rounds.specs.declared.candidates.Candidates.{Candidates}
-use Rattle.plan_rounds.specs.declared.rounds.Turn.{Turn}
-use Rattle.plan_rounds.specs.declared.rounds.Turn.TheVariants.{Further, Last}
-use Rattle.plan_rounds.specs.declared.rounds.Worked.{Worked}
-use Rattle.plan_rounds.specs.declared.sorted_answers.Answered.{Answered}
+use Rattle.plan_rounds.{specs.WorkedRounds.{AreWorkedRounds, EndsBy, IsBestAt}, specs.inner.Sharing.IsQualityAt, specs.declared.candidates.Candidates.Candidates, specs.declared.rounds.Turn.Turn, specs.declared.rounds.Turn.TheVariants.{Further, Last}, specs.declared.rounds.Worked.Worked, specs.declared.sorted_answers.Answered.Answered}
 
 -- the first cuts, as many as there is room for, have been added to the list with their spots
 pub record AddsFirst (room : ℕ) (found old new : Candidates) : Type 0 where

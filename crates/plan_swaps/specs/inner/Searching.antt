@@ -2,8 +2,7 @@
 use Rattle.std.specs.Prelude.{◌≡◌, ℕ, List}
 use Rattle.plan_terms.specs.Terms.{Case, AreCounts, AreWithinLimits, capacities, total_cost}
 use Rattle.trim_plan.specs.Terms.{AreRoutingsWithin, IsTestOf}
-use Rattle.plan_swaps.specs.declared.kept.Kept.{Kept}
-use Rattle.plan_swaps.specs.declared.search.Search.{Search}
+use Rattle.plan_swaps.{specs.declared.kept.Kept.Kept, specs.declared.search.Search.Search}
 
 -- counts within their limits that may be asked about
 pub record AreAskedCounts (p : Case) (s : Search) (counts : List (List ℕ)) : Type 0 where

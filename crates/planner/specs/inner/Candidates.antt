@@ -2,8 +2,7 @@
 use Rattle.std.specs.Prelude.{◌≡◌, ℕ, ◌-◌, ◌*◌, ◌^◌, ◌<◌, ◌⊎◌, List, [], ◌∷◌, All, Some, length, slice_get}
 use Rattle.plan_terms.specs.Terms.{Link, CutLine, IsBound, IsLowest, fixed_along, IsBestOwn, IsMultiplier}
 use Rattle.plan_types.specs.declared.certificate.Spot.{Spot}
-use Rattle.metric_cut.specs.Bounded.{HaveBound}
-use Rattle.metric_cut.specs.declared.certificate.OwnCertificate.{OwnCertificate}
+use Rattle.metric_cut.{specs.Bounded.HaveBound, specs.declared.certificate.OwnCertificate.OwnCertificate}
 use Rattle.plan_rounds.specs.declared.rounds.Worked.{Worked}
 use Rattle.planner.specs.declared.own_bound.CertifiedBound.{CertifiedBound}
 

@@ -3,13 +3,9 @@ use Rattle.std.specs.Prelude.{◌≡◌, ℕ, ◌*◌, ◌^◌, ◌<◌, ◌≤�
 use Rattle.plan_terms.specs.Terms.{CutLine, Demand, Entry, Link, Case, AreWithinLimits, HasShortLengths, IsBound, IsFallback}
 use Rattle.plan_report.specs.Terms.{CertLine, Local, Plan, Quality}
 use Rattle.module_choice.specs.declared.fallback.Fallback.{Fallback}
-use Rattle.plan_rounds.specs.Terms.{cut_at, Best, Multiplier, AreWorkedRounds}
-use Rattle.share_covers.specs.Choices.{IsChosen, IsQualityOfShare}
-use Rattle.share_covers.specs.declared.choice.Chosen.{Chosen}
-use Rattle.plan_rounds.specs.declared.rounds.Worked.{Worked}
-use Rattle.planner.specs.declared.own_bound.CertifiedBound.{CertifiedBound}
-use Rattle.planner.specs.declared.plan.Standing.{Standing}
-use Rattle.planner.specs.inner.Candidates.{IsBestBound}
+use Rattle.plan_rounds.{specs.Terms.{cut_at, Best, Multiplier, AreWorkedRounds}, specs.declared.rounds.Worked.Worked}
+use Rattle.share_covers.{specs.Choices.{IsChosen, IsQualityOfShare}, specs.declared.choice.Chosen.Chosen}
+use Rattle.planner.{specs.declared.own_bound.CertifiedBound.CertifiedBound, specs.declared.plan.Standing.Standing, specs.inner.Candidates.IsBestBound}
 
 -- ---- the bound
 

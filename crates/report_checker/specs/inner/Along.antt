@@ -2,11 +2,9 @@
 use Rattle.std.specs.Prelude.{◌≡◌, ℕ, ◌<◌, ◌≤◌, Option, None, Some, length, min, slice_get}
 use Rattle.plan_terms.specs.Terms.{Case}
 use Rattle.plan_report.specs.Terms.{Outcome, Report}
-use Rattle.plan_checker.specs.Terms.{HoldNone, IsFirstFinding, HoldsAt}
-use Rattle.plan_checker.specs.declared.finding.Finding.{Finding}
-use Rattle.report_checker.specs.Outcomes.{IsAcceptedOutcome, outcome_findings}
+use Rattle.plan_checker.{specs.Terms.{HoldNone, IsFirstFinding, HoldsAt}, specs.declared.finding.Finding.Finding}
 use Rattle.plan_types.specs.Terms.{outcome_position}
-use Rattle.report_checker.specs.declared.outcomes_along.Checked.{Checked}
+use Rattle.report_checker.{specs.Outcomes.{IsAcceptedOutcome, outcome_findings}, specs.declared.outcomes_along.Checked.Checked}
 
 -- the number of entries before an outcome, which are all where its position is past the journal
 abbrev pub outcome_place : Report → Outcome → ℕ

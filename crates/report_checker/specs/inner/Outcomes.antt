@@ -2,13 +2,9 @@
 use Rattle.std.specs.Prelude.{ℕ, zero, suc, ◌<◌, All}
 use Rattle.plan_terms.specs.Terms.{Case}
 use Rattle.plan_types.specs.declared.report.Report.{Report}
-use Rattle.plan_checker.specs.Terms.{HoldNone, IsFirstFinding, HoldsAt}
-use Rattle.plan_checker.specs.declared.finding.CheckAnswer.{CheckAnswer}
-use Rattle.plan_checker.specs.declared.finding.CheckAnswer.TheVariants.{Accepted, NoMemory, Rejected}
-use Rattle.plan_checker.specs.declared.finding.Finding.{Finding}
-use Rattle.plan_checker.specs.declared.stop.Stop.{Stop}
-use Rattle.plan_checker.specs.declared.stop.Stop.TheVariants as stops
+use Rattle.plan_checker.{specs.Terms.{HoldNone, IsFirstFinding, HoldsAt}, specs.declared.finding.CheckAnswer.CheckAnswer, specs.declared.finding.CheckAnswer.TheVariants.{Accepted, NoMemory, Rejected}, specs.declared.finding.Finding.Finding, specs.declared.stop.Stop.Stop}
 use Rattle.report_checker.specs.Outcomes.{outcome_findings}
+use Rattle.plan_checker.specs.declared.stop.Stop.TheVariants as stops
 
 -- the answer of a reason to stop on the whole report
 abbrev pub answer_to : Stop → CheckAnswer

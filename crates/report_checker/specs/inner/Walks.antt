@@ -2,8 +2,7 @@
 use Rattle.std.specs.Prelude.{◌≡◌, ◌<◌, ◌^◌, List, [], ◌∷◌, ◌++◌, Bool, true, length}
 use Rattle.plan_terms.specs.Terms.{Entry, Edited, Pooled, Case, edit_need}
 use Rattle.cut_pool.specs.Terms.{cuts_of, demands_left, version_left}
-use Rattle.report_checker.specs.Journals.{IsOtherEntry}
-use Rattle.report_checker.specs.declared.walk.Walk.{Walk}
+use Rattle.report_checker.{specs.Journals.IsOtherEntry, specs.declared.walk.Walk.Walk}
 
 -- the need of the entry's edit, if it has one, is below 2^40 units
 abbrev pub HasSmallNeed : Entry → Type 0

@@ -1,8 +1,7 @@
 -- what a state keeps of lengths
 use Rattle.std.specs.Prelude.{ℕ, List}
 use Rattle.plan_terms.specs.Terms.{Demand, Caps, Graph, Keeps}
-use Rattle.metric_cut.specs.Cuts.{IsCutOf}
-use Rattle.metric_cut.specs.declared.cut.Cut.{Cut}
+use Rattle.metric_cut.{specs.Cuts.IsCutOf, specs.declared.cut.Cut.Cut}
 use Rattle.node_sets.specs.Boundaries.{IsViolatedAt}
 
 -- a violated cut of what the state keeps of lengths

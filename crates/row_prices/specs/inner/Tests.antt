@@ -2,12 +2,9 @@
 use Rattle.std.specs.Prelude.{ℕ, ℤ, ◌≡◌, ◌<◌, ◌-ℤ◌, ◌*ℤ◌, ◌<ℤ◌, ◌≤ℤ◌, List, Some, get_or, length, pos, slice_get, slice_index}
 use Rattle.checked_fraction.specs.Terms.{num}
 use Rattle.plan_terms.specs.Terms.{RouteColumn, LinkSlack, DemandSlack, Carry, Demand, LinkId, Graph, Joins, IsGreatestDivisor}
-use Rattle.short_paths.specs.DistanceTables.{AreAllDistances, distance_at}
-use Rattle.short_paths.specs.declared.distance_table.DistanceTable.{DistanceTable}
+use Rattle.short_paths.{specs.DistanceTables.{AreAllDistances, distance_at}, specs.declared.distance_table.DistanceTable.DistanceTable}
 use Rattle.simplex_law.specs.Terms.{int_sum, unit_vector}
-use Rattle.row_prices.specs.KeyPaths.{IsPathOf, IsBesideKeys}
-use Rattle.row_prices.specs.PathRows.{path_row, key_path}
-use Rattle.row_prices.specs.declared.path_row.PathRow.{PathRow}
+use Rattle.row_prices.{specs.KeyPaths.{IsPathOf, IsBesideKeys}, specs.PathRows.{path_row, key_path}, specs.declared.path_row.PathRow.PathRow}
 
 -- the link at a place of a path
 abbrev pub link_at : List LinkId → ℕ → ℕ

@@ -1,8 +1,7 @@
 -- separations on the way: those that come before a state and a demand
 use Rattle.std.specs.Prelude.{ℕ, ◌≤◌, List, All, AllPairs, Contains, length}
 use Rattle.plan_terms.specs.Terms.{Case, Joins, Separates, graph_in}
-use Rattle.short_paths.specs.DistanceTables.{AreAllDistances}
-use Rattle.short_paths.specs.declared.distance_table.DistanceTable.{DistanceTable}
+use Rattle.short_paths.{specs.DistanceTables.AreAllDistances, specs.declared.distance_table.DistanceTable.DistanceTable}
 use Rattle.failure_states.specs.declared.separations.Separation.{Separation}
 use Rattle.separation_texts.specs.AllSeparations.{ComesBefore, IsEarlier}
 

@@ -1,13 +1,9 @@
 -- what the workers of a round find
 use Rattle.std.specs.Prelude.{◌≡◌, ℕ, ◌<◌, ◌+◌, ◌⊎◌, ◌++◌, List, [], ◌∷◌, Option, All, IfSome, length}
 use Rattle.plan_terms.specs.Terms.{graph_in, case_of}
-use Rattle.separator.specs.Terms.{RouteAnswer, IsFinding, cut_answered}
-use Rattle.board_desk.specs.declared.caller.Caller.{Caller}
-use Rattle.board_desk.specs.Turns.{IsAtDesk, board_made}
-use Rattle.separator.specs.declared.answers.StateAnswer.{StateAnswer}
-use Rattle.separation_workers.specs.Callers.{HasSeenHistory}
-use Rattle.separation_workers.specs.declared.round.Round.{Round}
-use Rattle.separation_workers.specs.declared.round.StateFound.{StateFound}
+use Rattle.separator.{specs.Terms.{RouteAnswer, IsFinding, cut_answered}, specs.declared.answers.StateAnswer.StateAnswer}
+use Rattle.board_desk.{specs.declared.caller.Caller.Caller, specs.Turns.{IsAtDesk, board_made}}
+use Rattle.separation_workers.{specs.Callers.HasSeenHistory, specs.declared.round.Round.Round, specs.declared.round.StateFound.StateFound}
 
 -- the answer is right for state s at the capacities of the round
 abbrev pub IsFoundOf : Round → ℕ → RouteAnswer → Type 0

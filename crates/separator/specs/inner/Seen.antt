@@ -1,11 +1,7 @@
 -- what a board tells of its history
-use Rattle.std.specs.Prelude.{ℕ, zero, suc, ◌≤◌, List, [], ◌∷◌, drop, length, map, refl, take}
-use Rattle.std.proofs.Common.{◌∙◌, ap, inl, inr, subst, sym}
-use Rattle.std.proofs.Math.Logic.{∥∥₁_map}
-use Rattle.std.proofs.lemmas.List.{length-map}
+use Rattle.std.{specs.Prelude.{ℕ, zero, suc, ◌≤◌, List, [], ◌∷◌, drop, length, map, refl, take}, proofs.Common.{◌∙◌, ap, inl, inr, subst, sym}, proofs.Math.Logic.∥∥₁_map, proofs.lemmas.List.length-map}
 use Rattle.plan_terms.specs.Terms.{Demand, Entry, Edited, Pooled, Network, States, case}
-use Rattle.cut_pool.specs.declared.pooled_cut.PooledCut.{PooledCut}
-use Rattle.cut_pool.specs.Terms.{IsBoardAfter, IsLegalAfter, cut_of_line, line_of_pooled}
+use Rattle.cut_pool.{specs.declared.pooled_cut.PooledCut.PooledCut, specs.Terms.{IsBoardAfter, IsLegalAfter, cut_of_line, line_of_pooled}}
 use Rattle.separator.specs.Separators.{IsCutEntry, IsPartOf, IsSeenHistory}
 
 part_more : {X : Type 0} (xs ys : List X) (y : X) → IsPartOf xs ys → IsPartOf xs (y ∷ ys)

@@ -2,12 +2,8 @@
 use Rattle.std.specs.Prelude.{◌≡◌, ◌≢◌, ℕ, ◌+◌, ◌≤◌, ◌<◌, ◌⊎◌, ◌++◌, List, [], ◌∷◌, All, AllPairs, Contains, Some, length, slice_get}
 use Rattle.plan_terms.specs.Terms.{Entry, Caps, Case, graph_in}
 use Rattle.metric_cut.specs.declared.cut.Cut.{Cut}
-use Rattle.cut_pool.specs.declared.board.Board.{Board}
-use Rattle.cut_pool.specs.Terms.{origin_of, cuts_of}
-use Rattle.separator.specs.declared.answers.StateAnswer.{StateAnswer}
-use Rattle.separator.specs.declared.answers.Separated.{Separated}
-use Rattle.separator.specs.Findings.{IsFoundCutOf}
-use Rattle.separator.specs.Separators.{IsAnswerOf, IsCutEntry, IsFullHistory, SeparatesAt, cut_answered, cuts_after, cuts_answered}
+use Rattle.cut_pool.{specs.declared.board.Board.Board, specs.Terms.{origin_of, cuts_of}}
+use Rattle.separator.{specs.declared.answers.StateAnswer.StateAnswer, specs.declared.answers.Separated.Separated, specs.Findings.IsFoundCutOf, specs.Separators.{IsAnswerOf, IsCutEntry, IsFullHistory, SeparatesAt, cut_answered, cuts_after, cuts_answered}}
 
 -- state and lengths of a cut
 abbrev pub state_and_lengths : Cut → ℕ × List ℕ

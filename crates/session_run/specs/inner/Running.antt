@@ -2,19 +2,13 @@
 use Rattle.std.specs.Prelude.{◌≡◌, ℕ, ◌+◌, ◌≤◌, ◌++◌, ◌&&◌, Bool, List, [], All, count_by, filter, flat_map, length, nat_le, nat_lt, Result, Ok, Err, Vec}
 use Rattle.plan_terms.specs.Terms.{Entry, Edited, Pooled, Case}
 use Rattle.text_kit.specs.Terms.{IsEditInForm}
-use Rattle.plan_types.specs.declared.report.Outcome.{Outcome}
+use Rattle.plan_types.{specs.declared.report.Outcome.Outcome, specs.Terms.outcome_position}
 use Rattle.planner.specs.Terms.{IsWorkedPool}
 use Rattle.cut_pool.specs.Terms.{opening_case, cuts_of}
-use Rattle.session_script.specs.declared.script.Command.{Command}
-use Rattle.session_script.specs.Terms.{IsCommandInForm, is_plan}
+use Rattle.session_script.{specs.declared.script.Command.Command, specs.Terms.{IsCommandInForm, is_plan}}
 use Rattle.turn_lock.specs.Passes.{Seen}
-use Rattle.board_desk.specs.declared.caller.Caller.{Caller}
-use Rattle.board_desk.specs.Turns.{IsAtDesk, board_made, caller_places}
-use Rattle.session_run.specs.Transcripts.{IsOnePlan, IsPlanned, RunsFrom, acts_of, edit_asked, edit_made, outcomes_of}
-use Rattle.plan_types.specs.Terms.{outcome_position}
-use Rattle.session_run.specs.declared.setting.Setting.{Setting}
-use Rattle.session_run.specs.declared.setting.Stop.{Stop}
-use Rattle.session_run.specs.declared.setting.Stop.TheVariants.{NoMemory, Full}
+use Rattle.board_desk.{specs.declared.caller.Caller.Caller, specs.Turns.{IsAtDesk, board_made, caller_places}}
+use Rattle.session_run.{specs.Transcripts.{IsOnePlan, IsPlanned, RunsFrom, acts_of, edit_asked, edit_made, outcomes_of}, specs.declared.setting.Setting.Setting, specs.declared.setting.Stop.Stop, specs.declared.setting.Stop.TheVariants.{NoMemory, Full}}
 
 -- the command is of a caller from `low` on and below `high`
 abbrev pub is_of : ℕ → ℕ → Command → Bool

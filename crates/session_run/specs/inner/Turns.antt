@@ -2,25 +2,15 @@
 use Rattle.std.specs.Prelude.{◌≡◌, ℕ, ◌+◌, ◌<◌, ◌++◌, List, [], ◌∷◌, All, IfOk, Some, length, slice_get, Result, Ok, Err}
 use Rattle.plan_terms.specs.Terms.{Demand, Edit, Entry, Edited, Reply, NoMemory, Case, AreDemands, IsCut}
 use Rattle.plan_types.specs.declared.report.Outcome.{Outcome}
-use Rattle.plan_types.specs.declared.report.Outcome.TheVariants as outcomes
-use Rattle.planner.specs.Terms.{IsWorkedAlone}
-use Rattle.planner.specs.declared.answer.PlanAnswer.{PlanAnswer}
-use Rattle.planner.specs.declared.answer.PlanAnswer.TheVariants.{Planned, NotSurvivable}
-use Rattle.cut_pool.specs.declared.answers.EditAnswer.{EditAnswer}
-use Rattle.cut_pool.specs.declared.answers.EditAnswer.TheVariants as editing
-use Rattle.cut_pool.specs.declared.snapshot.Snapshot.{Snapshot}
-use Rattle.cut_pool.specs.Terms.{IsPoolAfter, demands_left, version_left, case_left}
+use Rattle.planner.{specs.Terms.IsWorkedAlone, specs.declared.answer.PlanAnswer.PlanAnswer, specs.declared.answer.PlanAnswer.TheVariants.{Planned, NotSurvivable}}
+use Rattle.cut_pool.{specs.declared.answers.EditAnswer.EditAnswer, specs.declared.snapshot.Snapshot.Snapshot, specs.Terms.{IsPoolAfter, demands_left, version_left, case_left}}
 use Rattle.separation_workers.specs.Terms.{IsCutEntry, SeesMore}
-use Rattle.session_script.specs.declared.script.Act.{Act}
-use Rattle.session_script.specs.declared.script.Act.TheVariants.{Change, Plan}
-use Rattle.session_script.specs.declared.script.Command.{Command}
+use Rattle.session_script.{specs.declared.script.Act.Act, specs.declared.script.Act.TheVariants.{Change, Plan}, specs.declared.script.Command.Command}
 use Rattle.turn_lock.specs.Terms.{IsPrefix, Seen}
-use Rattle.board_desk.specs.declared.caller.Caller.{Caller}
-use Rattle.board_desk.specs.Turns.{caller_seen}
-use Rattle.session_run.specs.Transcripts.{IsOutcomeAfter, IsPlanned}
-use Rattle.session_run.specs.inner.Running.{IsFullAt}
-use Rattle.session_run.specs.declared.plans.Asked.{Asked}
-use Rattle.session_run.specs.declared.setting.Stop.{Stop}
+use Rattle.board_desk.{specs.declared.caller.Caller.Caller, specs.Turns.caller_seen}
+use Rattle.session_run.{specs.Transcripts.{IsOutcomeAfter, IsPlanned}, specs.inner.Running.IsFullAt, specs.declared.plans.Asked.Asked, specs.declared.setting.Stop.Stop}
+use Rattle.plan_types.specs.declared.report.Outcome.TheVariants as outcomes
+use Rattle.cut_pool.specs.declared.answers.EditAnswer.TheVariants as editing
 use Rattle.session_run.specs.declared.setting.Stop.TheVariants as stops
 
 -- ---- edits

@@ -2,11 +2,7 @@
 use Rattle.std.specs.Prelude.{if◌then◌else◌, nat_lt}
 use Rattle.module_choice.specs.declared.fallback.Fallback.{Fallback}
 use Rattle.plan_types.specs.declared.quality.Quality.{Quality}
-use Rattle.share_covers.specs.declared.choice.Chosen.{Chosen}
-use Rattle.share_covers.specs.declared.covers.Installed.{Installed}
-use Rattle.share_covers.specs.declared.routes.InstalledRoutes.{InstalledRoutes}
-use Rattle.share_covers.specs.declared.routes.InstalledRoutes.TheVariants.{Routed, Wide, Short}
-use Rattle.share_covers.specs.inner.Widened.{widened}
+use Rattle.share_covers.{specs.declared.choice.Chosen.Chosen, specs.declared.covers.Installed.Installed, specs.declared.routes.InstalledRoutes.InstalledRoutes, specs.declared.routes.InstalledRoutes.TheVariants.{Routed, Wide, Short}, specs.inner.Widened.widened}
 
 -- the covers where the states answer with routings; else the fallback plan, beside a looser quality where it costs more than covers that are too wide
 abbrev pub decided : Installed → Fallback → Quality → InstalledRoutes → Chosen

@@ -2,10 +2,7 @@
 use Rattle.std.specs.Prelude.{ℕ, ◌≤◌, ◌<◌}
 use Rattle.plan_terms.specs.Terms.{Case}
 use Rattle.plan_types.specs.declared.quality.Share.{Share}
-use Rattle.share_covers.specs.InstalledRoutes.{IsRoutesAnswer, installed_caps}
-use Rattle.share_covers.specs.ShareCovers.{AreShareCovers}
-use Rattle.share_covers.specs.declared.choice.RoutedCovers.{RoutedCovers}
-use Rattle.share_covers.specs.declared.covers.Installed.{Installed}
+use Rattle.share_covers.{specs.InstalledRoutes.{IsRoutesAnswer, installed_caps}, specs.ShareCovers.AreShareCovers, specs.declared.choice.RoutedCovers.RoutedCovers, specs.declared.covers.Installed.Installed}
 
 -- covers of the share cost more
 abbrev pub HasDearerCovers : Case → Share → ℕ → Type 0

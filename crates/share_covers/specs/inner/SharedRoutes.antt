@@ -2,15 +2,12 @@
 use Rattle.std.specs.Prelude.{◌≡◌, ℕ, ◌+◌, ◌*◌, ◌^◌, ◌<◌, ◌≤◌, ◌⊎◌, List, Option, None, Some, length, slice_get}
 use Rattle.plan_terms.specs.Terms.{Demand, Routing, Caps, Graph, Joins, Carries, Case}
 use Rattle.module_prices.specs.declared.cheapest.UnitPair.{UnitPair}
-use Rattle.plan_types.specs.declared.quality.Fractional.{Fractional}
-use Rattle.plan_types.specs.declared.quality.Quality.{Quality}
-use Rattle.plan_types.specs.declared.quality.Quality.TheVariants.{Tight, Loose}
+use Rattle.plan_types.{specs.declared.quality.Fractional.Fractional, specs.declared.quality.Quality.Quality, specs.declared.quality.Quality.TheVariants.{Tight, Loose}}
 use Rattle.master_law.specs.Terms.{AreUnitPairs}
 use Rattle.route_law.specs.Terms.{IsLowestRouting, over_times}
 use Rattle.plan_law.specs.TightPlans.{CoversShare}
 use Rattle.flow_mending.specs.Terms.{IsRouted}
-use Rattle.share_covers.specs.Choices.{CarriesShare}
-use Rattle.share_covers.specs.InstalledRoutes.{AreRoutedWithin, installed_caps}
+use Rattle.share_covers.{specs.Choices.CarriesShare, specs.InstalledRoutes.{AreRoutedWithin, installed_caps}}
 
 -- another routing, some number of times over, has the first one's flows over its denominator times the scale
 pub record IsAtWhole (scale : ℕ) (routing whole : Routing) : Type 0 where

@@ -1,6 +1,5 @@
 -- the arcs of surviving links, and where those of a node start
-use Rattle.std.specs.Prelude.{◌≡◌, ℕ, ◌<◌, ◌≤◌, ◌^◌, ◌⊎◌, List, All, Contains, length, slice_index}
-use Rattle.std.specs.List.{AllWithin}
+use Rattle.std.{specs.Prelude.{◌≡◌, ℕ, ◌<◌, ◌≤◌, ◌^◌, ◌⊎◌, List, All, Contains, length, slice_index}, specs.List.AllWithin}
 use Rattle.short_paths.specs.declared.forward_star.Arc.{Arc}
 
 -- one of the arcs goes over link e from x to y

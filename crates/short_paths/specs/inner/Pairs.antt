@@ -1,8 +1,7 @@
 -- the numbers of each two of some nodes, in the order of the higher node and then of the lower one
 use Rattle.std.specs.Prelude.{◌≡◌, ◌≢◌, ℕ, ◌+◌, ◌-◌, ◌*◌, ◌/◌, ◌^◌, ◌<◌, ◌≤◌, ◌==◌, ◌++◌, cond, List, Option, Some, All, length, map, max, min, slice_index, take}
 use Rattle.plan_terms.specs.Terms.{IsDistance}
-use Rattle.short_paths.specs.declared.distance_table.TheConstants.{APART}
-use Rattle.short_paths.specs.inner.Tables.{IsTable, answer_of}
+use Rattle.short_paths.{specs.declared.distance_table.TheConstants.APART, specs.inner.Tables.{IsTable, answer_of}}
 
 -- how many pairs n nodes have
 abbrev pub pair_count : ℕ → ℕ

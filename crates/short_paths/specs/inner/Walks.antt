@@ -1,6 +1,5 @@
 -- paths that keep off nodes that were seen
-use Rattle.std.specs.Prelude.{◌≡◌, ℕ, ◌==◌, Bool, true, false, cond, List, Option, None, Some, slice_index_or}
-use Rattle.std.specs.List.{AllByRecursion}
+use Rattle.std.{specs.Prelude.{◌≡◌, ℕ, ◌==◌, Bool, true, false, cond, List, Option, None, Some, slice_index_or}, specs.List.AllByRecursion}
 use Rattle.plan_terms.specs.Terms.{LinkId, NodeId, Link, AreDifferent, Leads, last_node}
 
 -- the other end of a link, seen from one of its ends

@@ -1,15 +1,8 @@
 -- values as fractions, common denominators, and values over one
-use Rattle.std.specs.Prelude.{ℕ, ℤ, List, length, Option, Some, None, Result, Ok, Err, ◌≡◌, ◌<◌, ◌≤◌, ◌*◌, ◌/◌, ◌^◌, unsigned_abs}
-use Rattle.std.specs.Int.{◌∣◌}
-use Rattle.std.specs.List.{slice_get}
+use Rattle.std.{specs.Prelude.{ℕ, ℤ, List, length, Option, Some, None, Result, Ok, Err, ◌≡◌, ◌<◌, ◌≤◌, ◌*◌, ◌/◌, ◌^◌, unsigned_abs}, specs.Int.◌∣◌, specs.List.slice_get}
 use Rattle.checked_fraction.specs.declared.row.Row.{Row}
 use Rattle.simplex_law.specs.Terms.{dot}
-use Rattle.simplex_core.specs.Tables.{nums_at, den_at}
-use Rattle.simplex_core.specs.inner.Shapes.{AtEach}
-use Rattle.simplex_core.specs.inner.Values.{sizes_of}
-use Rattle.simplex_core.specs.declared.fraction.Fraction.{Fraction}
-use Rattle.simplex_core.specs.declared.value.ValueFault.{ValueFault}
-use Rattle.simplex_core.specs.declared.value.ValueFault.TheVariants.{Sum, Common, NoMemory}
+use Rattle.simplex_core.{specs.Tables.{nums_at, den_at}, specs.inner.Shapes.AtEach, specs.inner.Values.sizes_of, specs.declared.fraction.Fraction.Fraction, specs.declared.value.ValueFault.ValueFault, specs.declared.value.ValueFault.TheVariants.{Sum, Common, NoMemory}}
 
 -- the size of value over den, as a fraction whose denominator divides den
 pub record IsFractionOf (value den : ℤ) (f : Fraction) : Type 0 where

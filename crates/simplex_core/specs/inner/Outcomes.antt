@@ -1,20 +1,8 @@
 -- what comes of a best basis
 use Rattle.std.specs.Prelude.{ℕ, List, length, Result, Ok, Err, ◌≡◌, ◌<◌, ◌≤◌, ◌^◌}
 use Rattle.checked_fraction.specs.Terms.{num}
-use Rattle.net_core.specs.declared.columns.WideKind.{WideKind}
-use Rattle.net_core.specs.declared.columns.WideKind.TheVariants.{Number, Row as RowOf, Product, Sum, Common, Value, Length}
-use Rattle.simplex_core.specs.inner.Commons.{AreFractionsOf, fraction_den, IsDenominator, HaveNoDenominator, DivideAll, value_at}
-use Rattle.simplex_core.specs.Tables.{nums_at}
-use Rattle.simplex_core.specs.inner.Shapes.{AtEach}
-use Rattle.simplex_core.specs.inner.Values.{sizes_of}
-use Rattle.simplex_core.specs.declared.basis.Basis.{Basis}
-use Rattle.simplex_core.specs.declared.fraction.Fraction.{Fraction}
-use Rattle.simplex_core.specs.declared.optimum.Optimum.{Optimum}
-use Rattle.simplex_core.specs.declared.solver.SimplexFault.{SimplexFault}
-use Rattle.simplex_core.specs.declared.solver.SimplexFault.TheVariants.{Wide, NoMemory}
-use Rattle.simplex_core.specs.declared.solver.Values.{Values}
-use Rattle.simplex_core.specs.declared.value.ValueFault.{ValueFault}
-use Rattle.simplex_core.specs.declared.value.ValueFault.TheVariants.{Sum as SumFault, Common as CommonFault, NoMemory as NoMemoryFault}
+use Rattle.net_core.{specs.declared.columns.WideKind.WideKind, specs.declared.columns.WideKind.TheVariants.{Number, Row as RowOf, Product, Sum, Common, Value, Length}}
+use Rattle.simplex_core.{specs.inner.Commons.{AreFractionsOf, fraction_den, IsDenominator, HaveNoDenominator, DivideAll, value_at}, specs.Tables.nums_at, specs.inner.Shapes.AtEach, specs.inner.Values.sizes_of, specs.declared.basis.Basis.Basis, specs.declared.fraction.Fraction.Fraction, specs.declared.optimum.Optimum.Optimum, specs.declared.solver.SimplexFault.SimplexFault, specs.declared.solver.SimplexFault.TheVariants.{Wide, NoMemory}, specs.declared.solver.Values.Values, specs.declared.value.ValueFault.ValueFault, specs.declared.value.ValueFault.TheVariants.{Sum as SumFault, Common as CommonFault, NoMemory as NoMemoryFault}}
 
 -- over each narrow common denominator, the values are below 2 ^ 124
 abbrev pub HasLowValues : {N : Type 0} → Basis N → Type 0

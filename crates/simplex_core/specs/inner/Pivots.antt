@@ -1,9 +1,7 @@
 -- rows combined with the pivot row
-use Rattle.std.specs.Prelude.{ℕ, ℤ, List, length, ◌≡◌, ◌≢◌, ◌<◌, ◌≤◌}
-use Rattle.std.specs.List.{slice_get}
-use Rattle.simplex_core.specs.Turned.{IsCombined}
+use Rattle.std.{specs.Prelude.{ℕ, ℤ, List, length, ◌≡◌, ◌≢◌, ◌<◌, ◌≤◌}, specs.List.slice_get}
 use Rattle.checked_fraction.specs.declared.row.Row.{Row}
-use Rattle.simplex_core.specs.Tables.{nums_of}
+use Rattle.simplex_core.{specs.Turned.IsCombined, specs.Tables.nums_of}
 
 -- row i is combined unless it is row r, and the others are as they were
 pub record CombinesAt (m : ℕ) (old new : List Row) (products : List ℤ) (pivot : ℕ → ℤ) (q : ℤ) (r i : ℕ) : Type 0 where

@@ -1,11 +1,8 @@
 -- products of rows with columns
 use Rattle.std.specs.Prelude.{ℕ, ℤ, List, length, Option, Some, None, ◌≡◌, ◌<◌, ◌≤◌, ◌^◌, unsigned_abs}
-use Rattle.simplex_core.specs.Tables.{nums_at, IsRectangle}
-use Rattle.checked_fraction.specs.Terms.{num, IsNarrow}
-use Rattle.checked_fraction.specs.declared.row.Row.{Row}
+use Rattle.checked_fraction.{specs.Terms.{num, IsNarrow}, specs.declared.row.Row.Row}
 use Rattle.simplex_law.specs.Terms.{dot}
-use Rattle.simplex_core.specs.Columns.{entry_of}
-use Rattle.simplex_core.specs.declared.columns.Entry.{Entry}
+use Rattle.simplex_core.{specs.Tables.{nums_at, IsRectangle}, specs.Columns.entry_of, specs.declared.columns.Entry.Entry}
 
 -- rows of as many numbers as there are rows, and as many bounds, all narrow
 pub record AreBoundedRows (rows : List Row) (bounds : List ℤ) : Type 0 where

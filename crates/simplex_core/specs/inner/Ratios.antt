@@ -1,13 +1,8 @@
 -- which row leaves when a column enters
-use Rattle.std.specs.Prelude.{ℕ, ℤ, pos, List, length, Option, Some, None, Result, Ok, Err, ◌≡◌, ◌<◌, ◌≤◌, ◌^◌, ◌<ℤ◌, unsigned_abs, ◌≤ℤ◌, ◌⊎◌}
-use Rattle.std.specs.declared.cmp.Ordering.{Ordering}
-use Rattle.std.specs.declared.cmp.Ordering.TheVariants.{Less, Equal, Greater}
+use Rattle.std.{specs.Prelude.{ℕ, ℤ, pos, List, length, Option, Some, None, Result, Ok, Err, ◌≡◌, ◌<◌, ◌≤◌, ◌^◌, ◌<ℤ◌, unsigned_abs, ◌≤ℤ◌, ◌⊎◌}, specs.declared.cmp.Ordering.Ordering, specs.declared.cmp.Ordering.TheVariants.{Less, Equal, Greater}}
 use Rattle.simplex_law.specs.Terms.{IsNoLater, dot}
-use Rattle.checked_fraction.specs.Terms.{num}
-use Rattle.checked_fraction.specs.declared.row.Row.{Row}
-use Rattle.simplex_core.specs.Tables.{nums_at}
-use Rattle.simplex_core.specs.inner.Values.{sizes_of}
-use Rattle.simplex_core.specs.declared.ratio_test.Candidate.{Candidate}
+use Rattle.checked_fraction.{specs.Terms.num, specs.declared.row.Row.Row}
+use Rattle.simplex_core.{specs.Tables.nums_at, specs.inner.Values.sizes_of, specs.declared.ratio_test.Candidate.Candidate}
 
 -- a row of m with a product that is positive and below 2 ^ 126
 pub record IsPlaced (m : ℕ) (c : Candidate) : Type 0 where

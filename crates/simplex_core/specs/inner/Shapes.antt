@@ -1,11 +1,8 @@
 -- what a basis holds: names, rows, bounds
-use Rattle.std.specs.Prelude.{ℕ, ℤ, List, length, pos, Some, replicate, slice_set, ◌≡◌, ◌<◌, ◌^◌}
-use Rattle.std.specs.List.{slice_get}
-use Rattle.checked_fraction.specs.Terms.{num, IsNarrow}
-use Rattle.checked_fraction.specs.declared.row.Row.{Row}
+use Rattle.std.{specs.Prelude.{ℕ, ℤ, List, length, pos, Some, replicate, slice_set, ◌≡◌, ◌<◌, ◌^◌}, specs.List.slice_get}
+use Rattle.checked_fraction.{specs.Terms.{num, IsNarrow}, specs.declared.row.Row.Row}
 use Rattle.simplex_law.specs.Terms.{unit_vector}
-use Rattle.simplex_core.specs.Tables.{nums_at, den_at, IsRectangle}
-use Rattle.simplex_core.specs.declared.basis.Basis.{Basis}
+use Rattle.simplex_core.{specs.Tables.{nums_at, den_at, IsRectangle}, specs.declared.basis.Basis.Basis}
 
 -- each list of a basis of m rows has m items
 pub record IsShaped {N : Type 0} (m : ℕ) (b : Basis N) : Type 0 where

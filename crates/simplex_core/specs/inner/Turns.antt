@@ -1,18 +1,9 @@
 -- what a turn leaves
 use Rattle.std.specs.Prelude.{ℕ, ℤ, pos, slice_set, ◌≡◌, ◌≢◌, ◌<◌, ◌≤◌, ◌^◌, ◌-ℤ◌, ◌*ℤ◌, ◌<ℤ◌, ◌≤ℤ◌, ◌⊎◌, unsigned_abs}
-use Rattle.checked_fraction.specs.Terms.{num, combined, IsTooWide}
-use Rattle.checked_fraction.specs.declared.row.Row.{Row}
-use Rattle.checked_fraction.specs.declared.wide.WideNumber.{WideNumber}
-use Rattle.net_core.specs.declared.columns.WideKind.{WideKind}
-use Rattle.net_core.specs.declared.columns.WideKind.TheVariants.{Number, Row as RowOf, Product, Sum, Common, Value, Length}
+use Rattle.checked_fraction.{specs.Terms.{num, combined, IsTooWide}, specs.declared.row.Row.Row, specs.declared.wide.WideNumber.WideNumber}
+use Rattle.net_core.{specs.declared.columns.WideKind.WideKind, specs.declared.columns.WideKind.TheVariants.{Number, Row as RowOf, Product, Sum, Common, Value, Length}}
 use Rattle.simplex_law.specs.Terms.{dot, ColumnOf, IsProgramColumn, IsWide, IsPick, IsTurned}
-use Rattle.simplex_core.specs.Tables.{nums_at, den_at}
-use Rattle.simplex_core.specs.Prices.{GainsAt}
-use Rattle.simplex_core.specs.inner.Shapes.{IsShaped}
-use Rattle.simplex_core.specs.inner.Values.{sizes_of}
-use Rattle.simplex_core.specs.declared.basis.Basis.{Basis}
-use Rattle.simplex_core.specs.declared.solver.Turn.{Turn}
-use Rattle.simplex_core.specs.declared.solver.Turn.TheVariants.{Again, Best, Unbounded, Wide, NoMemory}
+use Rattle.simplex_core.{specs.Tables.{nums_at, den_at}, specs.Prices.GainsAt, specs.inner.Shapes.IsShaped, specs.inner.Values.sizes_of, specs.declared.basis.Basis.Basis, specs.declared.solver.Turn.Turn, specs.declared.solver.Turn.TheVariants.{Again, Best, Unbounded, Wide, NoMemory}}
 
 -- the product of the objective row with a column, less the column's gain over the row's denominator
 abbrev pub reduced_cost : {N : Type 0} → ℕ → Row → ColumnOf N → ℤ

@@ -1,9 +1,7 @@
 -- which column enters, which row leaves, and the rows after the pivot
 use Rattle.std.specs.Prelude.{ℕ, ℤ, suc, pos, ◌≢◌, ◌<◌, ◌*ℤ◌, ◌-ℤ◌, ◌<ℤ◌}
 use Rattle.checked_fraction.specs.Terms.{IsReduced, combined}
-use Rattle.simplex_law.specs.Sums.{dot}
-use Rattle.simplex_law.specs.Programs.{ColumnOf}
-use Rattle.simplex_law.specs.inner.Lexicographic.{IsLexNonneg, valued}
+use Rattle.simplex_law.{specs.Sums.dot, specs.Programs.ColumnOf, specs.inner.Lexicographic.{IsLexNonneg, valued}}
 
 -- the numbers u with their value in front, over p, come no later than those of v over q
 abbrev pub IsNoLater : ℕ → (ℕ → ℤ) → (ℕ → ℤ) → ℤ → (ℕ → ℤ) → ℤ → Type 0

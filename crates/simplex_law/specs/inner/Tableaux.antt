@@ -1,9 +1,6 @@
 -- what the simplex method keeps: the rows of a basis' inverse, and its duals
 use Rattle.std.specs.Prelude.{ℕ, ℤ, suc, pos, ◌≡◌, ◌<◌, ◌*ℤ◌, ◌<ℤ◌}
-use Rattle.simplex_law.specs.Sums.{int_sum, unit_vector}
-use Rattle.simplex_law.specs.Programs.{ColumnOf}
-use Rattle.simplex_law.specs.Bases.{IsRow}
-use Rattle.simplex_law.specs.inner.Lexicographic.{IsLexNonneg, valued}
+use Rattle.simplex_law.{specs.Sums.{int_sum, unit_vector}, specs.Programs.ColumnOf, specs.Bases.IsRow, specs.inner.Lexicographic.{IsLexNonneg, valued}}
 
 -- the right inverse: with weights that bring all rows over one denominator, the columns times the rows are that denominator
 pub record IsFilling (m : ℕ) (basic nums : ℕ → ℕ → ℤ) (den w : ℕ → ℤ) (all : ℤ) : Type 0 where

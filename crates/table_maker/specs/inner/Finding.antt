@@ -2,8 +2,7 @@
 use Rattle.std.specs.Prelude.{◌≡◌, ℕ, ◌≤◌, Bool, List, All, AllPairs, length, map}
 use Rattle.plan_terms.specs.Terms.{Case, CutLine, IsCut, Link, case_of, graph_in}
 use Rattle.master_law.specs.Terms.{IsSameCut}
-use Rattle.table_maker.specs.SetCuts.{IsNewTo, IsSetCut, PartsNodes, boundary_of}
-use Rattle.table_maker.specs.declared.boundaries.Sets.{Sets}
+use Rattle.table_maker.{specs.SetCuts.{IsNewTo, IsSetCut, PartsNodes, boundary_of}, specs.declared.boundaries.Sets.Sets}
 
 -- the cuts found are cuts of node sets, not too many, different ones, and none of the known ones
 abbrev pub AreFound : Sets → Type 0

@@ -1,10 +1,6 @@
 -- weights of table lines, and divisors under them
 use Rattle.std.specs.Prelude.{◌≡◌, ℕ, ◌*◌, ◌<◌, ◌≤◌, List, All}
-use Rattle.line_check.specs.Terms.{need_of}
-use Rattle.line_check.specs.declared.inequality.Inequality.{Inequality}
-use Rattle.line_check.specs.declared.line.Line.{Line}
-use Rattle.line_check.specs.declared.line.Line.TheVariants.{Table}
-use Rattle.line_check.specs.declared.line.TableKind.{TableKind}
+use Rattle.line_check.{specs.Terms.need_of, specs.declared.inequality.Inequality.Inequality, specs.declared.line.Line.Line, specs.declared.line.Line.TheVariants.Table, specs.declared.line.TableKind.TableKind}
 
 -- a table line with no weight above the greatest
 pub record IsLightTable (most : ℕ) (line : Line) : Type 0 where

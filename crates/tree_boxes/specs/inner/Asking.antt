@@ -2,10 +2,8 @@
 use Rattle.std.specs.Prelude.{ℕ, ◌+◌, List, MatchResult, Result}
 use Rattle.plan_terms.specs.Terms.{Case, capacities, total_cost}
 use Rattle.plan_swaps.specs.Terms.{IsStopAt, whole_caps, Stop}
-use Rattle.tree_boxes.specs.declared.evaluation.Tried.{Tried}
+use Rattle.tree_boxes.{specs.declared.evaluation.Tried.Tried, specs.declared.found.Cheaper.Cheaper, specs.Finds.AreCheaperCounts}
 use Rattle.tree_boxes.specs.declared.evaluation.Tried.TheVariants as tried
-use Rattle.tree_boxes.specs.declared.found.Cheaper.{Cheaper}
-use Rattle.tree_boxes.specs.Finds.{AreCheaperCounts}
 
 -- the answer about counts: lower ones in form that carry the demands and cost no more, or what stops them
 abbrev pub IsAnswerTo : Case → List (List ℕ) → Result Cheaper Stop → Type 0

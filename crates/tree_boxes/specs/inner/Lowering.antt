@@ -1,6 +1,5 @@
 -- counts that are lowered as far as the limits of plans ask
-use Rattle.std.specs.Prelude.{◌≡◌, ℕ, ◌+◌, ◌^◌, ◌≤◌, ◌<◌, ◌⊎◌, List, [], All, length, map, slice_index_or}
-use Rattle.std.specs.List.{AllZip}
+use Rattle.std.{specs.Prelude.{◌≡◌, ℕ, ◌+◌, ◌^◌, ◌≤◌, ◌<◌, ◌⊎◌, List, [], All, length, map, slice_index_or}, specs.List.AllZip}
 use Rattle.plan_terms.specs.Terms.{Link, Module, modules_capacity}
 
 -- the modules of link e; none where there is no such link

@@ -1,9 +1,7 @@
 -- greatest counts along a line, module by module
 use Rattle.std.specs.Prelude.{◌≡◌, ◌≢◌, ℕ, ◌*◌, ◌-◌, ◌^◌, List, Option, None, Some, IsSome, min, unwrap_or}
-use Rattle.tree_check.specs.Boxes.{span_at}
-use Rattle.line_check.specs.Terms.{entry}
-use Rattle.line_check.specs.declared.inequality.Inequality.{Inequality}
-use Rattle.tree_check.specs.declared.boxes.Span.{Span}
+use Rattle.line_check.{specs.Terms.entry, specs.declared.inequality.Inequality.Inequality}
+use Rattle.tree_check.{specs.Boxes.span_at, specs.declared.boxes.Span.Span}
 
 -- module m of link e has a greatest count where its coefficient is positive
 abbrev pub HasMost : Inequality → List (List Span) → ℕ → ℕ → Type 0

@@ -1,20 +1,8 @@
 -- what a node that holds is to a walk, and what a walk has found
 use Rattle.std.specs.Prelude.{◌≡◌, ℕ, ◌≤◌, ◌<◌, ◌⊎◌, ⊤, true, false, Option, None, Some, List, [], ◌∷◌, ◌++◌, All, min, take}
 use Rattle.plan_terms.specs.Terms.{AreCounts, Case, Link, case_of}
-use Rattle.line_check.specs.Terms.{IsLeastPlace}
-use Rattle.tree_check.specs.Boxes.{least_counts, whole_box}
-use Rattle.tree_check.specs.Proofs.{FailsAtNode, HasOpenValue, HoldsAtNode, HoldsNode, IsMissingAt, IsOpenAt, IsUnfounded}
-use Rattle.tree_check.specs.Testing.{names_in}
-use Rattle.tree_check.specs.Trees.{TreeBox, boxes_left, sides_of}
-use Rattle.line_check.specs.declared.inequality.Inequality.{Inequality}
-use Rattle.tree_check.specs.declared.nodes.Held.{Held}
-use Rattle.tree_check.specs.declared.nodes.Held.TheVariants.{Settled, Open}
-use Rattle.tree_check.specs.declared.proof.Node.{Node}
-use Rattle.tree_check.specs.declared.proof.Proof.{Proof}
-use Rattle.tree_check.specs.declared.stop.Stop.{Stop}
-use Rattle.tree_check.specs.declared.stop.Stop.TheVariants.{Fault, NoMemory}
-use Rattle.tree_check.specs.declared.tests.Tests.{Tests}
-use Rattle.tree_check.specs.declared.walk.Found.{Found}
+use Rattle.line_check.{specs.Terms.IsLeastPlace, specs.declared.inequality.Inequality.Inequality}
+use Rattle.tree_check.{specs.Boxes.{least_counts, whole_box}, specs.Proofs.{FailsAtNode, HasOpenValue, HoldsAtNode, HoldsNode, IsMissingAt, IsOpenAt, IsUnfounded}, specs.Testing.names_in, specs.Trees.{TreeBox, boxes_left, sides_of}, specs.declared.nodes.Held.Held, specs.declared.nodes.Held.TheVariants.{Settled, Open}, specs.declared.proof.Node.Node, specs.declared.proof.Proof.Proof, specs.declared.stop.Stop.Stop, specs.declared.stop.Stop.TheVariants.{Fault, NoMemory}, specs.declared.tests.Tests.Tests, specs.declared.walk.Found.Found}
 
 -- ---- nodes
 

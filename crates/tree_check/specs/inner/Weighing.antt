@@ -1,15 +1,8 @@
 -- gains of modules, and their sums
 use Rattle.std.specs.Prelude.{◌≡◌, ℕ, ◌+◌, ◌*◌, ◌<◌, ◌≤◌, ◌^◌, Option, None, Some}
 use Rattle.plan_terms.specs.Terms.{sum_below}
-use Rattle.tree_check.specs.BoxValues.{IsBounded, IsBoxValue, gain_by, loss_by, module_charge, module_gain, module_loss}
-use Rattle.tree_check.specs.Boxes.{span_at}
 use Rattle.line_check.specs.Terms.{module_number, module_price, weighed}
-use Rattle.tree_check.specs.declared.gains.Gain.{Gain}
-use Rattle.tree_check.specs.declared.gains.Gains.{Gains}
-use Rattle.tree_check.specs.declared.weighing.Weighing.{Weighing}
-use Rattle.tree_check.specs.declared.boxes.Span.{Span}
-use Rattle.tree_check.specs.declared.total.Total.{Total}
-use Rattle.tree_check.specs.inner.Totals.{of_parts}
+use Rattle.tree_check.{specs.BoxValues.{IsBounded, IsBoxValue, gain_by, loss_by, module_charge, module_gain, module_loss}, specs.Boxes.span_at, specs.declared.gains.Gain.Gain, specs.declared.gains.Gains.Gains, specs.declared.weighing.Weighing.Weighing, specs.declared.boxes.Span.Span, specs.declared.total.Total.Total, specs.inner.Totals.of_parts}
 
 -- the number that a sum in two parts means
 abbrev pub total_of : Total → ℕ

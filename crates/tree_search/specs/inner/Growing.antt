@@ -4,20 +4,12 @@ use Rattle.plan_terms.specs.Terms.{Case, CutLine, Link}
 use Rattle.plan_types.specs.declared.plan.Plan.{Plan}
 use Rattle.line_check.specs.Terms.{entry}
 use Rattle.tree_check.specs.Terms.{IsSplitOf, lower_side, upper_side, whole_box, TreeBox, module_costs, Tested}
-use Rattle.tree_boxes.specs.Terms.{Split, AreCheaperCounts, IsFoundAt, IsTwigOf}
-use Rattle.tree_search.specs.inner.Places.{AreSettled, AreTwigsOf, twig_splits}
-use Rattle.tree_boxes.specs.declared.found.Cheaper.{Cheaper}
-use Rattle.tree_boxes.specs.declared.found.Found.{Found}
+use Rattle.tree_boxes.{specs.Terms.{Split, AreCheaperCounts, IsFoundAt, IsTwigOf}, specs.declared.found.Cheaper.Cheaper, specs.declared.found.Found.Found, specs.declared.twigs.Twig.Twig}
+use Rattle.tree_search.{specs.inner.Places.{AreSettled, AreTwigsOf, twig_splits}, specs.declared.choice.Choice.Choice, specs.declared.growth.Growth.Growth, specs.declared.growth.Sides.Sides, specs.declared.growth.Turn.Turn, specs.declared.tree.Tree.Tree}
 use Rattle.tree_boxes.specs.declared.found.Found.TheVariants as found
-use Rattle.tree_search.specs.declared.choice.Choice.{Choice}
-use Rattle.tree_search.specs.declared.growth.Growth.{Growth}
 use Rattle.tree_search.specs.declared.growth.Growth.TheVariants as growth
-use Rattle.tree_search.specs.declared.growth.Sides.{Sides}
 use Rattle.tree_search.specs.declared.growth.Sides.TheVariants as sides
-use Rattle.tree_search.specs.declared.growth.Turn.{Turn}
 use Rattle.tree_search.specs.declared.growth.Turn.TheVariants as turn
-use Rattle.tree_search.specs.declared.tree.Tree.{Tree}
-use Rattle.tree_boxes.specs.declared.twigs.Twig.{Twig}
 
 -- the places of a tree of the case with this number of splits
 pub record IsGrowing (p : Case) (plan : Plan) (handed : List CutLine) (tested : List Tested) (n : ℕ) (twigs : List Twig) : Type 0 where

@@ -2,12 +2,9 @@
 use Rattle.std.specs.Prelude.{◌≡◌, ℕ, ◌≤◌, ◌⊎◌, Bool, false, List, [], length, map, take}
 use Rattle.plan_terms.specs.Terms.{Case, CutLine}
 use Rattle.plan_types.specs.declared.plan.Plan.{Plan}
-use Rattle.tree_boxes.specs.Terms.{Proof, twig_node, cuts_among, lines_among, moved_line, moved_node, place_of, Entry}
+use Rattle.tree_boxes.{specs.Terms.{Proof, twig_node, cuts_among, lines_among, moved_line, moved_node, place_of, Entry}, specs.declared.known.Known.Known, specs.declared.twigs.Twig.Twig}
+use Rattle.tree_search.{specs.Proving.IsProofOf, specs.inner.Showing.{all_shown, verdict_of}}
 use Rattle.tree_boxes.specs.Terms.entry
-use Rattle.tree_search.specs.Proving.{IsProofOf}
-use Rattle.tree_search.specs.inner.Showing.{all_shown, verdict_of}
-use Rattle.tree_boxes.specs.declared.known.Known.{Known}
-use Rattle.tree_boxes.specs.declared.twigs.Twig.{Twig}
 
 -- the known entries are all of these if there are at most `most` of them, or else the first of their cuts, at most `most`
 abbrev pub AreFirstOf : ℕ → List Entry → Known → Type 0

@@ -1,10 +1,8 @@
 -- places of growing trees, and their boxes
 use Rattle.std.specs.Prelude.{◌≡◌, ℕ, List, Some, count_by, slice_get}
 use Rattle.tree_check.specs.Trees.{TreeBox, sides_of}
-use Rattle.tree_boxes.specs.Finds.{is_split, twig_node}
+use Rattle.tree_boxes.{specs.Finds.{is_split, twig_node}, specs.declared.twigs.OpenBox.OpenBox, specs.declared.twigs.Twig.Twig}
 use Rattle.tree_search.specs.inner.Preorder.{ArePlaced}
-use Rattle.tree_boxes.specs.declared.twigs.OpenBox.{OpenBox}
-use Rattle.tree_boxes.specs.declared.twigs.Twig.{Twig}
 use Rattle.tree_boxes.specs.declared.twigs.Twig.TheVariants as twig
 
 -- the boxes of the two sides, if the place is a split

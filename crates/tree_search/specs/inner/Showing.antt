@@ -1,9 +1,8 @@
 -- what the places of a tree show of a plan's cost
 use Rattle.std.specs.Prelude.{ℕ, min, true, false, List, [], ◌∷◌, if◌then◌else◌}
-use Rattle.tree_check.specs.declared.proof.Verdict.{Verdict}
-use Rattle.tree_check.specs.declared.proof.Verdict.TheVariants.{Cheapest, Above}
-use Rattle.tree_search.specs.declared.tree.Shown.{Shown}
+use Rattle.tree_check.{specs.declared.proof.Verdict.Verdict, specs.declared.proof.Verdict.TheVariants.{Cheapest, Above}}
 use Rattle.tree_boxes.specs.declared.twigs.Twig.{Twig}
+use Rattle.tree_search.specs.declared.tree.Shown.{Shown}
 use Rattle.tree_boxes.specs.declared.twigs.Twig.TheVariants as twig
 
 -- what is shown together with one more place

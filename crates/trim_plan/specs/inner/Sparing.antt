@@ -1,7 +1,6 @@
 -- how modules are taken off counts, and the places of the blocks of those that are left
 use Rattle.std.specs.Prelude.{ℕ, ◌<◌, List, map, sum, sum_by}
-use Rattle.trim_plan.specs.Trimmed.{AreAtMost}
-use Rattle.trim_plan.specs.declared.trimmed_plan.Block.{Block}
+use Rattle.trim_plan.{specs.Trimmed.AreAtMost, specs.declared.trimmed_plan.Block.Block}
 
 -- the link and the module of each block
 abbrev pub block_places : List Block → List (ℕ × ℕ)

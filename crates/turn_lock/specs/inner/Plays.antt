@@ -1,10 +1,7 @@
 -- What each step tells the pass that makes it.
 use Rattle.std.specs.Prelude.{◌≡◌, ◌≢◌, ℕ, ◌+◌, ◌-◌, ◌/◌, ◌%◌, ◌^◌, List, [], ◌∷◌, ◌++◌, length, ◌⊎◌, true, Some, None, Option}
 use Rattle.atomic_table.specs.Table.{Me, Step, rest}
-use Rattle.turn_lock.specs.declared.rule.View.{View}
-use Rattle.turn_lock.specs.declared.rule.Stage.{Stage}
-use Rattle.turn_lock.specs.declared.rule.Stage.TheVariants.{Idle, Waiting, Holding, Joined}
-use Rattle.turn_lock.specs.Histories.{IsPrefix, longer, are_places, merged}
+use Rattle.turn_lock.{specs.declared.rule.View.View, specs.declared.rule.Stage.Stage, specs.declared.rule.Stage.TheVariants.{Idle, Waiting, Holding, Joined}, specs.Histories.{IsPrefix, longer, are_places, merged}}
 
 -- the list that a pass which was taken in had seen
 abbrev pub also_seen : {I : Type 0} → Stage I → List I

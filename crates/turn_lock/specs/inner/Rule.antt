@@ -1,12 +1,9 @@
 -- The rule of the table under a desk.
 use Rattle.std.specs.Prelude.{◌≡◌, ◌≢◌, ℕ, ◌+◌, ◌%◌, ◌^◌, ◌≤◌, List, [], ◌∷◌, length, sum_by, count_by, cond, nat_lt, nat_le, Bool, ◌==◌, ◌&&◌, ◌⊎◌, true, Some, Option}
+use Rattle.atomic_table.specs.Table.{State}
+use Rattle.turn_lock.{specs.declared.rule.View.View, specs.declared.rule.Stage.Stage, specs.declared.rule.Stage.TheVariants.{Idle, Waiting, Holding, Joined}, specs.Histories.{IsPrefix, longer, are_places}}
 use mathlib.Core.Option.{some, none}
 use lib.ListN.{get_elem?}
-use Rattle.atomic_table.specs.Table.{State}
-use Rattle.turn_lock.specs.declared.rule.View.{View}
-use Rattle.turn_lock.specs.declared.rule.Stage.{Stage}
-use Rattle.turn_lock.specs.declared.rule.Stage.TheVariants.{Idle, Waiting, Holding, Joined}
-use Rattle.turn_lock.specs.Histories.{IsPrefix, longer, are_places}
 
 -- 1 where the test holds, and else 0
 abbrev pub one_where : Bool → ℕ

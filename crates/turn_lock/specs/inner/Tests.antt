@@ -1,8 +1,7 @@
 -- What a pass and a turn keep, as numbers and tests.
 use Rattle.std.specs.Prelude.{◌≡◌, ℕ, Bool, true, false, List, [], ◌∷◌, Option, Some, None, ◌==◌, ◌&&◌}
 use Rattle.atomic_table.specs.Seated.{TableId}
-use Rattle.turn_lock.specs.declared.rule.Stage.{Stage}
-use Rattle.turn_lock.specs.declared.rule.Stage.TheVariants.{Idle, Waiting, Holding, Joined}
+use Rattle.turn_lock.{specs.declared.rule.Stage.Stage, specs.declared.rule.Stage.TheVariants.{Idle, Waiting, Holding, Joined}}
 
 abbrev pub stage_number : {I : Type 0} → Stage I → ℕ
 stage_number Idle = 0

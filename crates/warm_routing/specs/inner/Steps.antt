@@ -1,10 +1,8 @@
 -- steps whose answer, where they have one, is right
 use Rattle.std.specs.Prelude.{List}
 use Rattle.plan_terms.specs.Terms.{Demand, Caps, Graph}
-use Rattle.warm_routing.specs.WarmAnswers.{IsWarmAnswer}
-use Rattle.warm_routing.specs.declared.router.Step.{Step}
+use Rattle.warm_routing.{specs.WarmAnswers.IsWarmAnswer, specs.declared.router.Step.Step, specs.declared.router.Choice.Choice}
 use Rattle.warm_routing.specs.declared.router.Step.TheVariants as step
-use Rattle.warm_routing.specs.declared.router.Choice.{Choice}
 use Rattle.warm_routing.specs.declared.router.Choice.TheVariants as choice
 
 -- an answer is right

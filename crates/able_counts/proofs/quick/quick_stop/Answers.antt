@@ -2,8 +2,7 @@ use Rattle.std.proofs.Common.{IfSome, inr, subst}
 use Rattle.net_core.proofs.Networks.{few_links}
 use Rattle.plan_terms.specs.Terms.{graph_of}
 use Rattle.separator.specs.Terms.{IsRouted}
-use Rattle.able_counts.specs.inner.Tasks.{task_case}
-use Rattle.able_counts.proofs.Testing.{routed_within}
+use Rattle.able_counts.{specs.inner.Tasks.task_case, proofs.Testing.routed_within}
 use Rattle.able_counts.proofs.quick.quick_stop.Goals as goal
 
 pub returns-in-Some-clause-kept : goal.returns-in-Some-clause-kept

@@ -2,8 +2,7 @@ use Rattle.std.proofs.Common.{inr, subst, arith}
 use Rattle.plan_terms.specs.Terms.{graph_of}
 use Rattle.net_core.proofs.Networks.{few_links}
 use Rattle.separator.specs.Findings.{IsFinding}
-use Rattle.able_counts.specs.inner.Tasks.{task_case}
-use Rattle.able_counts.proofs.Testing.{routed_within, survivable_joins}
+use Rattle.able_counts.{specs.inner.Tasks.task_case, proofs.Testing.{routed_within, survivable_joins}}
 use Rattle.able_counts.proofs.state_stop.state_stop.Goals as goal
 
 pub route_anew-requires-clause-joined : goal.route_anew-requires-clause-joined

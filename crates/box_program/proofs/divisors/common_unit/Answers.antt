@@ -1,8 +1,7 @@
 use Rattle.std.proofs.Common.{◌↔◌, All, subst, arith, take_all}
 use Rattle.net_core.proofs.Library.{dvd-zero, ◌∣◌}
 use Rattle.tree_check.specs.Terms.{Tested}
-use Rattle.box_program.specs.Divisors.{DividesNumbers}
-use Rattle.box_program.proofs.Dividing.{divisors_more}
+use Rattle.box_program.{specs.Divisors.DividesNumbers, proofs.Dividing.divisors_more}
 use Rattle.box_program.proofs.divisors.common_unit.Goals as goal
 
 pub loop-t-preserved : goal.loop-t-preserved

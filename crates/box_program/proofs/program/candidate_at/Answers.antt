@@ -3,8 +3,7 @@ use Rattle.net_core.proofs.Library.{false≢true, ints, slice_get_read}
 use Rattle.checked_fraction.specs.Terms.{IsNarrow, num}
 use Rattle.simplex_law.specs.Terms.{dot}
 use Rattle.simplex_core.specs.Terms.{entry_of}
-use Rattle.box_program.proofs.Candidates.{gains_there}
-use Rattle.box_program.proofs.Entries.{are_entries}
+use Rattle.box_program.{proofs.Candidates.gains_there, proofs.Entries.are_entries}
 use Rattle.box_program.proofs.program.candidate_at.Goals as goal
 
 whole : (x : ℤ) → IsNarrow x → to_z w64 (of_z w64 x) ≡ x

@@ -1,8 +1,7 @@
 use Rattle.std.proofs.Common.{◌+◌, ◌∙◌, refl, subst, sym}
 use Rattle.net_core.proofs.Library.{false≢true}
 use Rattle.tree_check.specs.Boxes.{IsFixedSpan}
-use Rattle.box_program.specs.inner.BoxRows.{AreRowsBefore}
-use Rattle.box_program.proofs.RowsMade.{row_more}
+use Rattle.box_program.{specs.inner.BoxRows.AreRowsBefore, proofs.RowsMade.row_more}
 use Rattle.box_program.proofs.rows.add_module.Goals as goal
 
 pub returns : goal.returns

@@ -1,5 +1,4 @@
-use Rattle.std.proofs.Common.{take}
-use Rattle.std.specs.List.{AllZip}
+use Rattle.std.{proofs.Common.take, specs.List.AllZip}
 use Rattle.box_program.specs.inner.BoxRows.{IsAmountAt}
 use Rattle.box_program.proofs.solution.amounts_of.Given as goal
 

@@ -1,7 +1,6 @@
 use Rattle.std.proofs.Common.{arith, inl, inr, ◌∙◌}
-use Rattle.checked_fraction.proofs.Fractions.{less_whole, more_whole, no_rest, turned}
+use Rattle.checked_fraction.{proofs.Fractions.{less_whole, more_whole, no_rest, turned}, proofs.fraction.+cmp.Goals.{then-left-eq0-via-then-left-eq0, then-left-eq0-via-else-left-eq0+then-right-eq0}}
 use Rattle.checked_fraction.proofs.fraction.+cmp.Goals as goal
-use Rattle.checked_fraction.proofs.fraction.+cmp.Goals.{then-left-eq0-via-then-left-eq0, then-left-eq0-via-else-left-eq0+then-right-eq0}
 
 pub returns-then-whole-other : goal.returns-then-whole-other
 returns-then-whole-other t c = less_whole _ _ _ _ c.requires.first c.requires.second c.if-whole-other.true

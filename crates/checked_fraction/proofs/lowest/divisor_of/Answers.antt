@@ -1,7 +1,5 @@
 use Rattle.std.proofs.Common.{◌≡◌, length, arith, sym, subst}
-use Rattle.checked_fraction.specs.Rows.{num}
-use Rattle.checked_fraction.specs.inner.Passes.{IsRowGcd}
-use Rattle.checked_fraction.proofs.Divisors.{row_gcd_none, row_gcd_one, row_gcd_more}
+use Rattle.checked_fraction.{specs.Rows.num, specs.inner.Passes.IsRowGcd, proofs.Divisors.{row_gcd_none, row_gcd_one, row_gcd_more}}
 use Rattle.checked_fraction.proofs.lowest.divisor_of.Goals as goal
 
 pub loop-k-init : goal.loop-k-init

@@ -1,5 +1,4 @@
-use Rattle.checked_fraction.specs.Rows.{num}
-use Rattle.checked_fraction.specs.inner.Passes.{IsRowGcd}
+use Rattle.checked_fraction.{specs.Rows.num, specs.inner.Passes.IsRowGcd}
 use Rattle.checked_fraction.proofs.lowest.divisor_of.Given as goal
 
 -- the divisor of the numbers so far

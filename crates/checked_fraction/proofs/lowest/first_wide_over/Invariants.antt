@@ -1,5 +1,4 @@
-use Rattle.checked_fraction.specs.Rows.{num}
-use Rattle.checked_fraction.specs.inner.Passes.{over, IsWithin}
+use Rattle.checked_fraction.{specs.Rows.num, specs.inner.Passes.{over, IsWithin}}
 use Rattle.checked_fraction.proofs.lowest.first_wide_over.Given as goal
 
 -- the numbers so far are narrow

@@ -1,7 +1,6 @@
 use Rattle.std.proofs.Common.{arith, ◌≡◌, ◌/◌, ◌<◌, ◌^◌, ◌∙◌, pos, w64, to_z, length, sym, subst, div-le_self}
 use Rattle.net_core.proofs.Library.{ints}
-use Rattle.checked_fraction.specs.Rows.{num, IsInLowestTerms}
-use Rattle.checked_fraction.proofs.Lowering.{lowered, too_wide}
+use Rattle.checked_fraction.{specs.Rows.{num, IsInLowestTerms}, proofs.Lowering.{lowered, too_wide}}
 use Rattle.checked_fraction.proofs.lowest.lower.Goals as goal
 
 pub returns-in-Some-clause-wide : goal.returns-in-Some-clause-wide

@@ -1,6 +1,4 @@
-use Rattle.checked_fraction.specs.Rows.{num}
-use Rattle.checked_fraction.specs.inner.Passes.{over}
-use Rattle.checked_fraction.proofs.Writing.{IsWritten}
+use Rattle.checked_fraction.{specs.Rows.num, specs.inner.Passes.over, proofs.Writing.IsWritten}
 use Rattle.checked_fraction.proofs.lowest.write_over.Given as goal
 
 -- the numbers so far are written

@@ -1,9 +1,6 @@
 use Rattle.std.proofs.Common.{arith, length, ◌*ℤ◌}
 use Rattle.net_core.proofs.Library.{ints, on_ok_weaker, IfErr-weaker}
-use Rattle.checked_fraction.specs.Rows.{num}
-use Rattle.checked_fraction.specs.Mixed.{IsTooWide}
-use Rattle.checked_fraction.specs.inner.Passes.{raw}
-use Rattle.checked_fraction.proofs.Reduced.{times_same, unmixed}
+use Rattle.checked_fraction.{specs.Rows.num, specs.Mixed.IsTooWide, specs.inner.Passes.raw, proofs.Reduced.{times_same, unmixed}}
 use Rattle.checked_fraction.proofs.pivot.combine_by.Goals as goal
 
 pub returns-then-mix-eq0-clause-reduced : goal.returns-then-mix-eq0-clause-reduced

@@ -1,7 +1,5 @@
 use Rattle.std.proofs.Common.{length, pos, sym, subst}
-use Rattle.checked_fraction.specs.Rows.{IsReduced}
-use Rattle.checked_fraction.specs.inner.Passes.{raw, over}
-use Rattle.checked_fraction.proofs.Reduced.{reduces}
+use Rattle.checked_fraction.{specs.Rows.IsReduced, specs.inner.Passes.{raw, over}, proofs.Reduced.reduces}
 use Rattle.checked_fraction.proofs.pivot.find.Goals as goal
 
 pub returns-in-Some-clause-wide : goal.returns-in-Some-clause-wide

@@ -1,7 +1,6 @@
 use Rattle.std.proofs.Common.{◌≡◌, pos, ◌*ℤ◌, w64, to_z, of_z, sym, ap, ◌∙◌, arith}
 use Rattle.net_core.proofs.Library.{ints}
-use Rattle.checked_fraction.proofs.Products.{positive_factor}
-use Rattle.checked_fraction.proofs.Quotients.{exact_quotient}
+use Rattle.checked_fraction.{proofs.Products.positive_factor, proofs.Quotients.exact_quotient}
 use Rattle.checked_fraction.proofs.pivot.lowest.Goals as goal
 
 pub returns-clause-times : goal.returns-clause-times

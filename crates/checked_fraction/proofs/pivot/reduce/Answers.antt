@@ -1,7 +1,6 @@
 use Rattle.std.proofs.Common.{◌≡◌, w64, to_z, of_z, sym, subst, arith}
 use Rattle.net_core.proofs.Library.{ints}
-use Rattle.checked_fraction.specs.Rows.{num, IsInLowestTerms}
-use Rattle.checked_fraction.proofs.Reduced.{settled}
+use Rattle.checked_fraction.{specs.Rows.{num, IsInLowestTerms}, proofs.Reduced.settled}
 use Rattle.checked_fraction.proofs.pivot.reduce.Goals as goal
 
 pub returns-clause-reduced : goal.returns-clause-reduced

@@ -1,7 +1,5 @@
-use Rattle.std.proofs.Common.{sym, subst, arith}
-use Rattle.std.proofs.lemmas.Nat.Gcd.{le_of_dvd}
-use Rattle.checked_fraction.specs.inner.Passes.{raw, IsRowGcd}
-use Rattle.checked_fraction.proofs.Divisors.{row_gcd_none, row_gcd_more, sizes_more}
+use Rattle.std.{proofs.Common.{sym, subst, arith}, proofs.lemmas.Nat.Gcd.le_of_dvd}
+use Rattle.checked_fraction.{specs.inner.Passes.{raw, IsRowGcd}, proofs.Divisors.{row_gcd_none, row_gcd_more, sizes_more}}
 use Rattle.checked_fraction.proofs.pivot.take_survey.Goals as goal
 
 pub loop-k-init : goal.loop-k-init

@@ -1,7 +1,6 @@
 use Rattle.std.proofs.Common.{arith, ◌≡◌, w64, to_z, of_z, ap, subst, sym, ◌∙◌, int_div, pos, ◌*ℤ◌, ◌-ℤ◌}
 use Rattle.net_core.proofs.Library.{ints}
-use Rattle.checked_fraction.specs.Rows.{num, IsNarrow}
-use Rattle.checked_fraction.proofs.Writing.{write_one}
+use Rattle.checked_fraction.{specs.Rows.{num, IsNarrow}, proofs.Writing.write_one}
 use Rattle.checked_fraction.proofs.pivot.write.Goals as goal
 
 pub loop-k-preserved : goal.loop-k-preserved

@@ -1,5 +1,4 @@
-use Rattle.checked_fraction.specs.inner.Passes.{raw, over}
-use Rattle.checked_fraction.proofs.Writing.{IsWritten}
+use Rattle.checked_fraction.{specs.inner.Passes.{raw, over}, proofs.Writing.IsWritten}
 use Rattle.checked_fraction.proofs.pivot.write.Given as goal
 
 -- the numbers so far are written

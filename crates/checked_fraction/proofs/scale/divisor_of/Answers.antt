@@ -1,8 +1,6 @@
-use Rattle.std.proofs.Common.{◌≡◌, unsigned_abs, arith}
+use Rattle.std.{proofs.Common.{◌≡◌, unsigned_abs, arith}, proofs.lemmas.Nat.Gcd.le_of_dvd}
 use Rattle.net_core.proofs.Library.{ints, IsGcd-swap, positive_divisor}
-use Rattle.std.proofs.lemmas.Nat.Gcd.{le_of_dvd}
-use Rattle.checked_fraction.specs.Rows.{num}
-use Rattle.checked_fraction.proofs.Divisors.{row_gcd_more, row_gcd_one}
+use Rattle.checked_fraction.{specs.Rows.num, proofs.Divisors.{row_gcd_more, row_gcd_one}}
 use Rattle.checked_fraction.proofs.scale.divisor_of.Goals as goal
 
 pub returns-then-common-eq1-clause-gcd : goal.returns-then-common-eq1-clause-gcd

@@ -1,7 +1,6 @@
 use Rattle.std.proofs.Common.{◌≡◌, ◌<◌, ◌/◌, ◌^◌, pos, w64, to_z, sym, subst, arith, div-le_self}
 use Rattle.net_core.proofs.Library.{ints}
-use Rattle.checked_fraction.specs.Rows.{num, IsInLowestTerms}
-use Rattle.checked_fraction.proofs.Reduced.{made}
+use Rattle.checked_fraction.{specs.Rows.{num, IsInLowestTerms}, proofs.Reduced.made}
 use Rattle.checked_fraction.proofs.scale.rescale.Goals as goal
 
 pub returns-clause-reduced : goal.returns-clause-reduced

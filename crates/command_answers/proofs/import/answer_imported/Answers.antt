@@ -4,10 +4,8 @@ use Rattle.plan_report.specs.Terms.{known_to, SpellsReport, report_text}
 use Rattle.flow_file.specs.declared.flow.FlowFile.{FlowFile}
 use Rattle.proof_report.specs.Terms.{whole_report}
 use Rattle.plan_import.specs.ImportedPlans.{IsImportedReport}
-use Rattle.command_answers.specs.Answers.{EndsImported}
-use Rattle.check_answers.specs.declared.answer.Answer.{Answer}
-use Rattle.check_answers.specs.declared.status.Status.TheVariants.{Done}
-use Rattle.command_answers.proofs.Clauses.{three_ok}
+use Rattle.check_answers.{specs.declared.answer.Answer.Answer, specs.declared.status.Status.TheVariants.Done}
+use Rattle.command_answers.{specs.Answers.EndsImported, proofs.Clauses.three_ok}
 use Rattle.command_answers.proofs.import.answer_imported.Goals as goal
 
 pub planned-requires : goal.planned-requires

@@ -1,7 +1,5 @@
 use Rattle.std.proofs.Common.{◌≡◌, ◌+◌, [], ◌∷◌, ◌++◌, ◌∙◌, ap, arith, length, length-append, slice_index, subst, sym, take}
-use Rattle.cover_table.specs.CoverWeights.{IsLeastWeight}
-use Rattle.cover_table.specs.inner.Rows.{IsNextRow}
-use Rattle.cover_table.proofs.Rows.{IsStep, bounds_more, least_at, listed_more}
+use Rattle.cover_table.{specs.CoverWeights.IsLeastWeight, specs.inner.Rows.IsNextRow, proofs.Rows.{IsStep, bounds_more, least_at, listed_more}}
 use Rattle.cover_table.proofs.table.least_weights.Goals as goal
 
 pub loop-k-preserved : goal.loop-k-preserved

@@ -1,6 +1,5 @@
 use Rattle.std.proofs.Common.{◌≡◌, ℕ, ◌+◌, ◌<◌, ◌≤◌, ◌^◌, All, length, slice_index, take}
-use Rattle.cover_table.specs.CoverWeights.{IsLeastWeight}
-use Rattle.cover_table.specs.inner.Rows.{AreCoverBounds}
+use Rattle.cover_table.{specs.CoverWeights.IsLeastWeight, specs.inner.Rows.AreCoverBounds}
 use Rattle.cover_table.proofs.table.least_weights.Given as goal
 
 -- the least weights of covers by the first kinds

@@ -1,6 +1,6 @@
 use Rattle.std.proofs.Common.{◌≢◌, ◌∙◌, sym}
-use Rattle.csv.specs.declared.writer.QuoteStyle.TheVariants as style
 use Rattle.csv_rows.proofs.Written.{on_no_err}
+use Rattle.csv.specs.declared.writer.QuoteStyle.TheVariants as style
 use Rattle.csv_rows.proofs.rows.row_bytes.Goals as goal
 
 pub returns-in-Ok : goal.returns-in-Ok

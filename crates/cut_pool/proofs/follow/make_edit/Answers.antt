@@ -1,11 +1,6 @@
 use Rattle.std.proofs.Common.{◌≡◌, ◌∙◌, All, List, ap, length, map, sym, subst}
 use Rattle.plan_terms.specs.Terms.{Answered, without}
-use Rattle.cut_pool.specs.declared.pooled_cut.PooledCut.{PooledCut}
-use Rattle.cut_pool.specs.declared.shares.NeedChange.{NeedChange}
-use Rattle.cut_pool.specs.inner.Pooling.{StandsAt}
-use Rattle.cut_pool.specs.inner.Shares.{IsShareIn, edit_name}
-use Rattle.cut_pool.proofs.Following.{all_after, cuts_same}
-use Rattle.cut_pool.proofs.Leaving.{others_left}
+use Rattle.cut_pool.{specs.declared.pooled_cut.PooledCut.PooledCut, specs.declared.shares.NeedChange.NeedChange, specs.inner.Pooling.StandsAt, specs.inner.Shares.{IsShareIn, edit_name}, proofs.Following.{all_after, cuts_same}, proofs.Leaving.others_left}
 use Rattle.cut_pool.proofs.follow.make_edit.Goals as goal
 
 abbrev change_of : (c : goal.After-follow_all) → NeedChange

@@ -1,7 +1,6 @@
 use Rattle.std.proofs.Common.{subst, sym, rules}
 use Rattle.net_core.proofs.Library.{map_over_more}
-use Rattle.cut_pool.specs.inner.Pooling.{CanFollow, followed}
-use Rattle.cut_pool.proofs.Following.{next_right}
+use Rattle.cut_pool.{specs.inner.Pooling.{CanFollow, followed}, proofs.Following.next_right}
 use Rattle.cut_pool.proofs.pooled_cut.follow_each.Goals as goal
 
 pub follow-requires : goal.follow-requires

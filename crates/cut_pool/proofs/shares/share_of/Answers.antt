@@ -1,8 +1,6 @@
 use Rattle.std.proofs.Common.{◌≡◌, ◌∙◌, List, Some, ap, get_or, subst, sym}
 use Rattle.plan_terms.specs.Terms.{Demand}
-use Rattle.cut_pool.specs.declared.shares.DemandShare.{DemandShare}
-use Rattle.cut_pool.specs.inner.Shares.{IsShareIn}
-use Rattle.cut_pool.proofs.Leaving.{share_found, share_from, share_none}
+use Rattle.cut_pool.{specs.declared.shares.DemandShare.DemandShare, specs.inner.Shares.IsShareIn, proofs.Leaving.{share_found, share_from, share_none}}
 use Rattle.cut_pool.proofs.shares.share_of.Goals as goal
 
 pub returns-in_err-k-clause-share : goal.returns-in_err-k-clause-share

@@ -1,6 +1,5 @@
 use Rattle.std.proofs.Common.{◌≡◌, ℕ}
-use Rattle.exact_tests.specs.declared.packing.Label.TheVariants.{Slack, Listed}
-use Rattle.exact_tests.proofs.Listed.{packing, three_fit}
+use Rattle.exact_tests.{specs.declared.packing.Label.TheVariants.{Slack, Listed}, proofs.Listed.{packing, three_fit}}
 use Rattle.exact_tests.proofs.packing.solved.Goals as goal
 
 apart : (i j : ℕ) → Listed i ≡ Slack j → ⊥

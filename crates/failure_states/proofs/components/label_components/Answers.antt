@@ -1,7 +1,7 @@
 use Rattle.std.proofs.Common.{arith, ap, length}
+use Rattle.net_core.proofs.Networks.{few_links}
 use Rattle.failure_states.proofs.Labelling.{components_none}
 use Rattle.failure_states.proofs.components.label_components.Goals as goal
-use Rattle.net_core.proofs.Networks.{few_links}
 
 pub loop-e-init : goal.loop-e-init
 loop-e-init c = components_none _ _ _ (omega (arith, c.number.ensures.size, c.requires))

@@ -1,7 +1,6 @@
 use Rattle.std.proofs.Common.{length, subst}
 use Rattle.plan_terms.specs.Terms.{Graph, Joins}
-use Rattle.failure_states.specs.inner.Components.{AreComponents}
-use Rattle.failure_states.proofs.Splits.{answer_separates}
+use Rattle.failure_states.{specs.inner.Components.AreComponents, proofs.Splits.answer_separates}
 use Rattle.failure_states.proofs.separations.first_in_state.Goals as goal
 
 pub returns-clause-first : goal.returns-clause-first

@@ -1,7 +1,5 @@
 use Rattle.std.proofs.Common.{length, subst, sym}
-use Rattle.failure_texts.specs.Fates.{AreFates}
-use Rattle.failure_texts.proofs.Alone.{none_first}
-use Rattle.failure_texts.proofs.Spelling.{failure_list_made}
+use Rattle.failure_texts.{specs.Fates.AreFates, proofs.Alone.none_first, proofs.Spelling.failure_list_made}
 use Rattle.failure_texts.proofs.answer.failure_list.Goals as goal
 
 pub returns : goal.returns

@@ -1,6 +1,5 @@
 use Rattle.std.proofs.Common.{◌∙◌}
-use Rattle.failure_texts.proofs.FateLists.{fates_inside}
-use Rattle.failure_texts.proofs.Spelling.{text_of_parts}
+use Rattle.failure_texts.{proofs.FateLists.fates_inside, proofs.Spelling.text_of_parts}
 use Rattle.failure_texts.proofs.answer.text_of_fates.Goals as goal
 
 pub put_states-requires : goal.put_states-requires

@@ -1,6 +1,5 @@
 use Rattle.std.proofs.Common.{◌∙◌, ◌+◌, subst, sym}
-use Rattle.failure_texts.specs.Fates.{AreFates}
-use Rattle.failure_texts.proofs.FateLists.{link_at, more_told}
+use Rattle.failure_texts.{specs.Fates.AreFates, proofs.FateLists.{link_at, more_told}}
 use Rattle.failure_texts.proofs.fates.fates_of.Goals as goal
 
 pub loop-e-preserved : goal.loop-e-preserved

@@ -1,6 +1,5 @@
 use Rattle.std.proofs.Common.{◌∷◌, [], None, arith, codes}
-use Rattle.text_kit.specs.Terms.{Opening, Verbatim}
-use Rattle.text_kit.proofs.Lemmas.{adds_more, adds_section}
+use Rattle.text_kit.{specs.Terms.{Opening, Verbatim}, proofs.Lemmas.{adds_more, adds_section}}
 use Rattle.failure_texts.specs.inner.FateItems.{fate_items}
 use Rattle.failure_texts.proofs.states.put_states.Goals as goal
 

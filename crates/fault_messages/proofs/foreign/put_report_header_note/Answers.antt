@@ -1,7 +1,7 @@
 use Rattle.std.proofs.Common.{◌≡◌, ◌++◌, ◌∙◌, ap, false, inl, inr, refl, subst, sym, true}
 use Rattle.text_kit.proofs.Lemmas.{on_ok}
-use Rattle.fault_messages.specs.ForeignReports.{begins_report}
 use Rattle.fault_texts.specs.Quotes.{note_text}
+use Rattle.fault_messages.specs.ForeignReports.{begins_report}
 use Rattle.fault_messages.proofs.foreign.put_report_header_note.Goals as goal
 
 pub returns-then-begins_report : goal.returns-then-begins_report

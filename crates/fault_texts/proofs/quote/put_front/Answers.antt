@@ -1,7 +1,6 @@
 use Rattle.std.proofs.Common.{◌++◌, ◌∙◌, ap, codes, cond, length, take, [], ◌==◌}
 use Rattle.text_kit.proofs.Lemmas.{on_ok}
-use Rattle.fault_texts.specs.Quotes.{quoted}
-use Rattle.fault_texts.proofs.Telling.{front_put}
+use Rattle.fault_texts.{specs.Quotes.quoted, proofs.Telling.front_put}
 use Rattle.fault_texts.proofs.quote.put_front.Goals as goal
 
 pub returns : goal.returns

@@ -1,8 +1,6 @@
-use Rattle.text_kit.specs.Terms.{Parenthesis, no_fault}
-use Rattle.text_kit.proofs.Lemmas.{list_turn}
+use Rattle.text_kit.{specs.Terms.{Parenthesis, no_fault}, proofs.Lemmas.list_turn}
 use Rattle.report_words.specs.Terms.{known_in}
-use Rattle.flow_file.specs.FlowReading.{link_flow_at}
-use Rattle.flow_file.proofs.FlowsOnline.{link_flow_some}
+use Rattle.flow_file.{specs.FlowReading.link_flow_at, proofs.FlowsOnline.link_flow_some}
 use Rattle.flow_file.proofs.file.take_link_flow.Goals as goal
 
 pub returns-clause-turn : goal.returns-clause-turn

@@ -1,10 +1,7 @@
 use Rattle.std.proofs.Common.{◌+◌, length}
-use Rattle.text_kit.specs.Terms.{Parenthesis, of_length}
-use Rattle.text_kit.proofs.Lemmas.{list_turn}
+use Rattle.text_kit.{specs.Terms.{Parenthesis, of_length}, proofs.Lemmas.list_turn}
 use Rattle.report_words.specs.Terms.{known_in}
-use Rattle.flow_file.specs.declared.fault.FlowsKind.TheVariants.{Limit}
-use Rattle.flow_file.specs.FlowReading.{state_flows_at}
-use Rattle.flow_file.proofs.FlowsOnline.{state_flows_some}
+use Rattle.flow_file.{specs.declared.fault.FlowsKind.TheVariants.Limit, specs.FlowReading.state_flows_at, proofs.FlowsOnline.state_flows_some}
 use Rattle.flow_file.proofs.file.take_state_flows.Goals as goal
 
 pub returns-clause-turn : goal.returns-clause-turn

@@ -1,7 +1,6 @@
 use Rattle.std.proofs.Common.{List, [], ◌∷◌, ◌++◌, take, ap, sym, ◌∙◌, append_assoc}
 use Rattle.plan_terms.specs.Terms.{Flow}
-use Rattle.flow_import.specs.inner.Steps.{flows_along}
-use Rattle.flow_import.proofs.Splitting.{along_more}
+use Rattle.flow_import.{specs.inner.Steps.flows_along, proofs.Splitting.along_more}
 use Rattle.flow_import.proofs.arcs.add_paths.Goals as goal
 
 pub loop-flow-preserved : goal.loop-flow-preserved

@@ -2,8 +2,7 @@ use Rattle.std.proofs.Common.{◌≡◌, ◌+◌, ◌++◌, List, Some, length, 
 use Rattle.net_core.proofs.Library.{slice_get_read, err_from_is_err_and}
 use Rattle.plan_terms.specs.Terms.{case_of, Demand}
 use Rattle.path_split.specs.declared.arc.PathFlow.{PathFlow}
-use Rattle.flow_import.specs.inner.Steps.{AreSplitTo, IsOffFault, flows_along}
-use Rattle.flow_import.proofs.Splitting.{off_fault, split_even, split_more}
+use Rattle.flow_import.{specs.inner.Steps.{AreSplitTo, IsOffFault, flows_along}, proofs.Splitting.{off_fault, split_even, split_more}}
 use Rattle.flow_import.proofs.splits.split_all.Goals as goal
 
 pub loop-k-preserved : goal.loop-k-preserved

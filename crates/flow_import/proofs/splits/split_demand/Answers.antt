@@ -1,7 +1,6 @@
 use Rattle.std.proofs.Common.{Err, length, ap, refl, ◌∙◌}
 use Rattle.path_split.specs.Balances.{IsFirstUnbalanced}
-use Rattle.flow_import.specs.Imports.{demand_arcs}
-use Rattle.flow_import.proofs.Splitting.{arcs_few, arcs_known, unbalanced_at}
+use Rattle.flow_import.{specs.Imports.demand_arcs, proofs.Splitting.{arcs_few, arcs_known, unbalanced_at}}
 use Rattle.flow_import.proofs.splits.split_demand.Goals as goal
 
 pub split_flow-requires-clause-arcs : goal.split_flow-requires-clause-arcs

@@ -1,10 +1,7 @@
 use Rattle.std.proofs.Common.{ℕ, List, length, ap, arith, refl, subst, sym}
 use Rattle.plan_terms.specs.Terms.{graph_of, case_of}
 use Rattle.net_core.proofs.Library.{err_from_is_err_and}
-use Rattle.flow_import.specs.Imports.{AreAlive, IsStateFault}
-use Rattle.flow_import.proofs.Carrying.{state_imported}
-use Rattle.flow_import.proofs.Importing.{all_alive, all_fit, exceeded_first, few_links, known_demands, known_links, off_state}
-use Rattle.flow_import.proofs.Splitting.{all_even}
+use Rattle.flow_import.{specs.Imports.{AreAlive, IsStateFault}, proofs.Carrying.state_imported, proofs.Importing.{all_alive, all_fit, exceeded_first, few_links, known_demands, known_links, off_state}, proofs.Splitting.all_even}
 use Rattle.flow_import.proofs.states.import_state.Goals as goal
 
 pub first_above-requires-clause-few : goal.first_above-requires-clause-few

@@ -2,9 +2,7 @@ use Rattle.std.proofs.Common.{◌+◌, ◌<◌, List, length, subst, sym, arith}
 use Rattle.net_core.proofs.Library.{err_from_is_err_and}
 use Rattle.plan_terms.specs.Terms.{case_of}
 use Rattle.flow_file.specs.declared.flow.LinkFlow.{LinkFlow}
-use Rattle.flow_import.specs.Imports.{IsImportFault, IsImportedState}
-use Rattle.flow_import.specs.inner.Steps.{AreImportedTo}
-use Rattle.flow_import.proofs.Importing.{fault_after, imported_more}
+use Rattle.flow_import.{specs.Imports.{IsImportFault, IsImportedState}, specs.inner.Steps.AreImportedTo, proofs.Importing.{fault_after, imported_more}}
 use Rattle.flow_import.proofs.states.import_states.Goals as goal
 
 pub loop-s-preserved : goal.loop-s-preserved

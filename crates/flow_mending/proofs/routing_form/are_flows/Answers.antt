@@ -1,7 +1,6 @@
 use Rattle.std.proofs.Common.{arith}
 use Rattle.plan_terms.specs.Terms.{graph_of}
-use Rattle.flow_mending.specs.inner.Counting.{IsCountedFlow}
-use Rattle.flow_mending.proofs.Counted.{all_next, all_taken}
+use Rattle.flow_mending.{specs.inner.Counting.IsCountedFlow, proofs.Counted.{all_next, all_taken}}
 use Rattle.flow_mending.proofs.routing_form.are_flows.Goals as goal
 
 pub loop-f-preserved : goal.loop-f-preserved

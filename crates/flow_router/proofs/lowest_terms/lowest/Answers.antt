@@ -1,6 +1,5 @@
 use Rattle.std.proofs.Common.{subst}
-use Rattle.flow_router.specs.Lowest.{IsCommonDivisor}
-use Rattle.flow_router.proofs.Dividing.{in_lowest}
+use Rattle.flow_router.{specs.Lowest.IsCommonDivisor, proofs.Dividing.in_lowest}
 use Rattle.flow_router.proofs.lowest_terms.lowest.Goals as goal
 
 pub divide_list-requires-clause-divides : goal.divide_list-requires-clause-divides

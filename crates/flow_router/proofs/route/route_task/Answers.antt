@@ -1,7 +1,6 @@
 use Rattle.std.proofs.Common.{Some, ap, arith, sym, subst, ◌∙◌, ◌≡◌}
 use Rattle.plan_terms.specs.Terms.{Number, graph_of}
-use Rattle.route_law.specs.Terms.{IsRouteEvidence, route_slack}
-use Rattle.route_law.proofs.Lemmas.{number_evidence}
+use Rattle.route_law.{specs.Terms.{IsRouteEvidence, route_slack}, proofs.Lemmas.number_evidence}
 use Rattle.simplex_core.proofs.Starts.{each_at}
 use Rattle.flow_router.proofs.route.route_task.Goals as goal
 

@@ -1,7 +1,6 @@
 use Rattle.std.proofs.Common.{length, subst}
 use Rattle.plan_terms.specs.Terms.{graph_of}
-use Rattle.flow_router.specs.inner.Flowing.{AreBasisFlows}
-use Rattle.flow_router.proofs.Answering.{optimum_routed}
+use Rattle.flow_router.{specs.inner.Flowing.AreBasisFlows, proofs.Answering.optimum_routed}
 use Rattle.flow_router.proofs.route.routed.Goals as goal
 
 pub returns : goal.returns

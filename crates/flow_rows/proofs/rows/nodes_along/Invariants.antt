@@ -1,6 +1,5 @@
 use Rattle.std.proofs.Common.{◌≡◌, take}
-use Rattle.flow_rows.specs.FlowRows.{nodes_along}
-use Rattle.flow_rows.specs.inner.Ends.{node_after}
+use Rattle.flow_rows.{specs.FlowRows.nodes_along, specs.inner.Ends.node_after}
 use Rattle.flow_rows.proofs.rows.nodes_along.Given as goal
 
 -- the nodes so far, and the last of them

@@ -1,9 +1,7 @@
 use Rattle.std.proofs.Common.{◌≡◌, ◌<◌, ◌∙◌, All, length, sym, subst, arith}
 use Rattle.net_core.proofs.Library.{slice_get_within, All-from_recursion}
-use Rattle.plan_terms.specs.Terms.{IsFlow, Joins, LinkId, graph_of}
-use Rattle.plan_terms.proofs.Lemmas.{path_links_inside}
-use Rattle.greedy_router.proofs.Adding.{draft_again, draft_none}
-use Rattle.greedy_router.proofs.Differing.{path_differs}
+use Rattle.plan_terms.{specs.Terms.{IsFlow, Joins, LinkId, graph_of}, proofs.Lemmas.path_links_inside}
+use Rattle.greedy_router.{proofs.Adding.{draft_again, draft_none}, proofs.Differing.path_differs}
 use Rattle.greedy_router.proofs.greedy_flows.begin_with.Goals as goal
 
 pub loop-flow-init : goal.loop-flow-init

@@ -1,9 +1,7 @@
 use Rattle.std.proofs.Common.{List, ℕ, get_or, length, refl, subst, sym, ap, take, ◌≡◌, ◌<◌, ◌∙◌, arith, IsPermutation}
 use Rattle.net_core.proofs.Library.{range_with_len, take-length, slice_get_read}
 use Rattle.plan_terms.specs.Terms.{Joins, graph_of, Demand}
-use Rattle.greedy_router.specs.inner.Drafts.{AreRouted}
-use Rattle.greedy_router.proofs.Adding.{routed_all, routed_more, routed_none}
-use Rattle.greedy_router.proofs.Falling.{place_below}
+use Rattle.greedy_router.{specs.inner.Drafts.AreRouted, proofs.Adding.{routed_all, routed_more, routed_none}, proofs.Falling.place_below}
 use Rattle.greedy_router.proofs.greedy_flows.route_missing.Goals as goal
 
 -- the order has the places of the demands

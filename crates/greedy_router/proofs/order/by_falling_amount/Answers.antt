@@ -1,8 +1,6 @@
-use Rattle.std.proofs.Common.{◌≡◌, ℕ, rules, sym, subst, get_or, length}
+use Rattle.std.{proofs.Common.{◌≡◌, ℕ, rules, sym, subst, get_or, length}, specs.declared.cmp.Reverse.Reverse}
 use Rattle.net_core.proofs.Library.{always_returns_same, IsStableBy}
-use Rattle.std.specs.declared.cmp.Reverse.{Reverse}
-use Rattle.greedy_router.specs.inner.Orders.{AreFalling}
-use Rattle.greedy_router.proofs.Falling.{Higher, falls}
+use Rattle.greedy_router.{specs.inner.Orders.AreFalling, proofs.Falling.{Higher, falls}}
 use Rattle.greedy_router.proofs.order.by_falling_amount.Goals as goal
 
 pub returns-clause-falling : goal.returns-clause-falling

@@ -1,7 +1,6 @@
 use Rattle.std.proofs.Common.{◌∙◌}
 use Rattle.plan_terms.specs.Terms.{Joins, graph_of}
-use Rattle.greedy_router.proofs.Adding.{adds_more, sent_fewer}
-use Rattle.greedy_router.proofs.Differing.{path_differs}
+use Rattle.greedy_router.{proofs.Adding.{adds_more, sent_fewer}, proofs.Differing.path_differs}
 use Rattle.greedy_router.proofs.routes.route_demand.Goals as goal
 
 pub send-requires-clause-distinct : goal.send-requires-clause-distinct

@@ -1,7 +1,6 @@
 use Rattle.std.proofs.Common.{◌≡◌, ◌+◌}
 use Rattle.plan_terms.specs.Terms.{Joins, graph_of}
-use Rattle.greedy_router.specs.inner.Drafts.{Adds}
-use Rattle.greedy_router.specs.inner.FullLinks.{positives}
+use Rattle.greedy_router.{specs.inner.Drafts.Adds, specs.inner.FullLinks.positives}
 use Rattle.greedy_router.proofs.routes.route_demand.Given as goal
 
 -- paths are searched for in the graph of the beginning, and flows of the demand have been added

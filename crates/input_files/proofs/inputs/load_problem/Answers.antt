@@ -1,6 +1,5 @@
 use Rattle.net_core.proofs.Library.{err_from_is_err_and}
-use Rattle.input_files.specs.Stops.{named}
-use Rattle.input_files.proofs.Stopping.{failures_end, model_ends}
+use Rattle.input_files.{specs.Stops.named, proofs.Stopping.{failures_end, model_ends}}
 use Rattle.input_files.proofs.inputs.load_problem.Goals as goal
 
 pub returns-in_err-model-clause-ends : goal.returns-in_err-model-clause-ends

@@ -4,9 +4,7 @@ use Rattle.simplex_law.specs.Terms.{dot}
 use Rattle.simplex_core.specs.Terms.{nums_at}
 use Rattle.checked_fraction.specs.Terms.{num}
 use Rattle.key_rows.specs.Terms.{demand_in, key_links, key_name, column_name, left_uses, IsNameWithin}
-use Rattle.key_paths.proofs.Exchanging.{shaped, rest_less, value_high, value_less, next_entering}
-use Rattle.key_paths.proofs.Holding.{rest_low, shaped_here, has_key, key_short}
-use Rattle.key_paths.proofs.Named.{short_links}
+use Rattle.key_paths.{proofs.Exchanging.{shaped, rest_less, value_high, value_less, next_entering}, proofs.Holding.{rest_low, shaped_here, has_key, key_short}, proofs.Named.short_links}
 use Rattle.key_paths.proofs.change_key.change_key.Goals as goal
 
 pub swap_roles-requires-clause-rest : goal.swap_roles-requires-clause-rest

@@ -2,8 +2,7 @@ use Rattle.std.proofs.Common.{◌≡◌, ◌≤◌, ◌^◌, length, unsigned_ab
 use Rattle.net_core.proofs.Library.{w128, ints}
 use Rattle.checked_fraction.specs.Terms.{num, IsNarrow}
 use Rattle.simplex_law.specs.Terms.{dot}
-use Rattle.simplex_core.specs.Terms.{nums_at}
-use Rattle.simplex_core.proofs.RowsRead.{numbers_at, width_at}
+use Rattle.simplex_core.{specs.Terms.nums_at, proofs.RowsRead.{numbers_at, width_at}}
 use Rattle.key_rows.specs.Terms.{key_links, left_uses, IsNameWithin, IsShortPath}
 use Rattle.key_paths.proofs.change_key.row_product.Goals as goal
 

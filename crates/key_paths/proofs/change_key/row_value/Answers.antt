@@ -1,8 +1,7 @@
 use Rattle.std.proofs.Common.{◌≡◌, ◌<◌, ◌^◌, ◌≤ℤ◌, length, pos, unsigned_abs, ap, sym, ◌∙◌, subst, arith, slice_get}
 use Rattle.checked_fraction.specs.Terms.{num, IsNarrow}
 use Rattle.simplex_law.specs.Terms.{dot}
-use Rattle.simplex_core.specs.Terms.{nums_of, nums_at}
-use Rattle.simplex_core.proofs.RowsRead.{numbers_at, width_at}
+use Rattle.simplex_core.{specs.Terms.{nums_of, nums_at}, proofs.RowsRead.{numbers_at, width_at}}
 use Rattle.key_paths.proofs.change_key.row_value.Goals as goal
 
 here : (c : goal.After-items-2) → c.nums.result.now ≡ nums_of (slice_get c.args.keyed.now.rows c.args.i)

@@ -1,10 +1,7 @@
 use Rattle.std.proofs.Common.{◌≡◌, ◌∙◌, ◌<◌, length, subst, sym, arith, to_z, of_z}
 use Rattle.net_core.proofs.Library.{w128, ints, ForSome}
-use Rattle.key_paths.specs.inner.Entering.{Enters}
 use Rattle.key_rows.specs.Terms.{IsRoom, IsFirstOfRoles, HaveColumnProducts, demand_in, key_links, IsNameWithin}
-use Rattle.key_paths.specs.inner.Gaining.{cost_at}
-use Rattle.key_paths.specs.declared.turns.Turn.TheVariants.{Wide}
-use Rattle.key_paths.proofs.Picking.{new_shaped, new_key, new_bounds, new_values, new_row_values, new_priced, ends_wide, ends_unbounded, ends_turned}
+use Rattle.key_paths.{specs.inner.Entering.Enters, specs.inner.Gaining.cost_at, specs.declared.turns.Turn.TheVariants.Wide, proofs.Picking.{new_shaped, new_key, new_bounds, new_values, new_row_values, new_priced, ends_wide, ends_unbounded, ends_turned}}
 use Rattle.key_paths.proofs.entering.enter.Goals as goal
 
 pub leaving-requires-clause-shaped : goal.leaving-requires-clause-shaped

@@ -1,6 +1,5 @@
 use Rattle.std.proofs.Common.{◌≡◌, ◌+◌, ◌-◌, length, subst, sym, arith}
-use Rattle.key_paths.specs.inner.Held.{HasPriced}
-use Rattle.key_paths.specs.inner.Outcomes.{TurnsAt}
+use Rattle.key_paths.{specs.inner.Held.HasPriced, specs.inner.Outcomes.TurnsAt}
 use Rattle.key_paths.proofs.entering.turn_at.Goals as goal
 
 pub turn_at_key-requires-clause-enters : goal.turn_at_key-requires-clause-enters

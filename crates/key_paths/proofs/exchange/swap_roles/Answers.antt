@@ -1,9 +1,8 @@
 use Rattle.std.proofs.Common.{◌≡◌, ◌+◌, ◌+ℤ◌, ◌*ℤ◌, length, get_or, slice_get, sym, ap, ◌∙◌, subst, arith}
 use Rattle.checked_fraction.specs.Terms.{num}
-use Rattle.key_rows.specs.Terms.{path_uses, links_in, key_name}
-use Rattle.key_paths.specs.inner.Turning.{key_takes, AreSwapped}
+use Rattle.key_rows.{specs.Terms.{path_uses, links_in, key_name}, proofs.Shifting.given_and_taken}
 use Rattle.key_law.specs.Terms.{swap}
-use Rattle.key_rows.proofs.Shifting.{given_and_taken}
+use Rattle.key_paths.specs.inner.Turning.{key_takes, AreSwapped}
 use Rattle.key_paths.proofs.exchange.swap_roles.Goals as goal
 
 pub returns-clause-swapped : goal.returns-clause-swapped

@@ -1,9 +1,7 @@
 use Rattle.std.proofs.Common.{◌≡◌, length, slice_get, Some, ap, sym, ◌∙◌, subst}
 use Rattle.net_core.proofs.Library.{slice_get-get_or}
-use Rattle.simplex_core.specs.Terms.{IsLeastMultiple, HaveNoMultiple}
-use Rattle.simplex_core.proofs.Multiples.{denominator_first, denominator_next, denominator_none}
-use Rattle.key_paths.specs.inner.Ends.{row_den}
-use Rattle.key_paths.proofs.Ending.{row_den_at}
+use Rattle.simplex_core.{specs.Terms.{IsLeastMultiple, HaveNoMultiple}, proofs.Multiples.{denominator_first, denominator_next, denominator_none}}
+use Rattle.key_paths.{specs.inner.Ends.row_den, proofs.Ending.row_den_at}
 use Rattle.key_paths.proofs.finish.common_of_all.Goals as goal
 
 pub loop-i-init : goal.loop-i-init

@@ -1,6 +1,6 @@
 use Rattle.std.proofs.Common.{length}
-use Rattle.key_paths.specs.inner.Ends.{row_den}
 use Rattle.simplex_core.specs.Terms.{IsDenominator}
+use Rattle.key_paths.specs.inner.Ends.{row_den}
 use Rattle.key_paths.proofs.finish.end_of.Goals as goal
 
 pub returns-in_default : goal.returns-in_default

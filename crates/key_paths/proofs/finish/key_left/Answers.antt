@@ -1,9 +1,8 @@
 use Rattle.std.proofs.Common.{◌≡◌, ◌<◌, ◌*◌, ◌/◌, ◌^◌, length, slice_get, get_or, Some, pos, unsigned_abs, ◌*ℤ◌, ap, sym, ◌∙◌, subst, arith}
 use Rattle.net_core.proofs.Library.{slice_get-get_or}
 use Rattle.simplex_core.specs.Terms.{den_of}
-use Rattle.key_paths.specs.inner.Ends.{shares}
 use Rattle.key_rows.specs.Terms.{amounts, times_taken}
-use Rattle.key_paths.proofs.Ending.{own_is, takes_less, left_next}
+use Rattle.key_paths.{specs.inner.Ends.shares, proofs.Ending.{own_is, takes_less, left_next}}
 use Rattle.key_paths.proofs.finish.key_left.Goals as goal
 
 own_taken : (c : goal.After-own_over-own) → pos c.own_over-own.result ≡ times_taken c.args.keyed.now.owners (shares c.args.keyed.now.rows c.args.all) c.args.demand c.loop-i.i *ℤ amounts c.args.keyed.now.values c.loop-i.i

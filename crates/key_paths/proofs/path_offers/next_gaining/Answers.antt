@@ -1,7 +1,6 @@
 use Rattle.std.proofs.Common.{All, length, ◌-◌, sym, subst}
 use Rattle.plan_terms.specs.Terms.{graph_of}
-use Rattle.key_paths.specs.inner.Gaining.{IsCarrier}
-use Rattle.key_paths.proofs.Carried.{all_at, all_left}
+use Rattle.key_paths.{specs.inner.Gaining.IsCarrier, proofs.Carried.{all_at, all_left}}
 use Rattle.key_paths.proofs.path_offers.next_gaining.Goals as goal
 
 pub still_gains-requires-clause-carrier : goal.still_gains-requires-clause-carrier

@@ -1,8 +1,7 @@
 use Rattle.std.proofs.Common.{◌≡◌, ap, arith, length, refl, subst}
 use Rattle.net_core.proofs.Library.{slice_get_read}
 use Rattle.plan_terms.specs.Terms.{graph_of}
-use Rattle.key_paths.specs.inner.Gaining.{AreOffers, Offers}
-use Rattle.key_paths.proofs.Carried.{offers_more}
+use Rattle.key_paths.{specs.inner.Gaining.{AreOffers, Offers}, proofs.Carried.offers_more}
 use Rattle.key_paths.proofs.path_offers.offers_of.Goals as goal
 
 pub loop-k-preserved : goal.loop-k-preserved

@@ -2,10 +2,7 @@ use Rattle.std.proofs.Common.{◌∙◌, MatchOption, subst, sym, refl}
 use Rattle.plan_terms.specs.Terms.{graph_of}
 use Rattle.route_law.proofs.Lemmas.{route_packing}
 use Rattle.key_rows.specs.Terms.{IsRoom}
-use Rattle.key_paths.specs.inner.Gaining.{IsGaining, NoneGains}
-use Rattle.key_paths.proofs.Answering.{keyed_answer}
-use Rattle.key_paths.proofs.Fitting.{apart_places, fitting}
-use Rattle.key_paths.proofs.Looping.{at_start, has_gaining, at_next, some_role_limits, wide_evidence, turn_falls}
+use Rattle.key_paths.{specs.inner.Gaining.{IsGaining, NoneGains}, proofs.Answering.keyed_answer, proofs.Fitting.{apart_places, fitting}, proofs.Looping.{at_start, has_gaining, at_next, some_role_limits, wide_evidence, turn_falls}}
 use Rattle.key_paths.proofs.solver.solved.Goals as goal
 
 pub loop-keyed-init : goal.loop-keyed-init

@@ -3,8 +3,7 @@ use Rattle.plan_terms.specs.Terms.{graph_of}
 use Rattle.route_law.specs.Terms.{route_rows, route_bound}
 use Rattle.simplex_law.specs.Terms.{left_over}
 use Rattle.key_rows.specs.Terms.{IsRoom}
-use Rattle.key_paths.specs.inner.Gaining.{IsCarrier}
-use Rattle.key_paths.proofs.Looping.{IsAt, whole_price}
+use Rattle.key_paths.{specs.inner.Gaining.IsCarrier, proofs.Looping.{IsAt, whole_price}}
 use Rattle.key_paths.proofs.solver.solved.Given as goal
 
 -- the basis is one of the program that gaining steps reach

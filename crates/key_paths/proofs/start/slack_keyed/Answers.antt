@@ -1,10 +1,8 @@
 use Rattle.std.proofs.Common.{◌≡◌, ◌∙◌, pos, length, replicate, subst, sym, ap, arith, ◌≤ℤ◌}
 use Rattle.checked_fraction.specs.Terms.{num}
 use Rattle.plan_terms.specs.Terms.{graph_of}
-use Rattle.route_law.specs.Terms.{route_bound}
-use Rattle.route_law.proofs.Lemmas.{bound_nonneg}
-use Rattle.simplex_core.specs.Terms.{AtEach, IsUnit}
-use Rattle.simplex_core.proofs.Starts.{zeros_length}
+use Rattle.route_law.{specs.Terms.route_bound, proofs.Lemmas.bound_nonneg}
+use Rattle.simplex_core.{specs.Terms.{AtEach, IsUnit}, proofs.Starts.zeros_length}
 use Rattle.key_rows.specs.declared.keyed.Keyed.{Keyed}
 use Rattle.key_paths.proofs.Slacks.{number_at, start_of}
 use Rattle.key_paths.proofs.start.slack_keyed.Goals as goal

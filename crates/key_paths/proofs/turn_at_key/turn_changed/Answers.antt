@@ -1,11 +1,7 @@
 use Rattle.std.proofs.Common.{◌<◌, ◌+◌, length, sym, ap, subst, arith, inl}
-use Rattle.key_law.specs.Terms.{swap}
-use Rattle.key_law.proofs.Lemmas.{swap_first}
+use Rattle.key_law.{specs.Terms.swap, proofs.Lemmas.swap_first}
 use Rattle.key_rows.specs.Terms.{IsRoom}
-use Rattle.key_paths.specs.inner.Outcomes.{wide_spread, IsWideBasis, ComesOf, TurnsAt}
-use Rattle.key_paths.proofs.Holding.{held_names}
-use Rattle.key_paths.proofs.KeyEvidence.{spread_wide}
-use Rattle.key_paths.proofs.KeyLeaving.{same_priced, priced_here}
+use Rattle.key_paths.{specs.inner.Outcomes.{wide_spread, IsWideBasis, ComesOf, TurnsAt}, proofs.Holding.held_names, proofs.KeyEvidence.spread_wide, proofs.KeyLeaving.{same_priced, priced_here}}
 use Rattle.key_paths.proofs.turn_at_key.turn_changed.Goals as goal
 
 pub turn_row-requires-clause-enters : goal.turn_row-requires-clause-enters

@@ -2,11 +2,8 @@ use Rattle.std.proofs.Common.{◌≡◌, ℕ, ◌<◌, ◌≤◌, ◌+◌, ◌^�
 use Rattle.checked_fraction.specs.Terms.{num}
 use Rattle.net_core.proofs.Library.{ints}
 use Rattle.simplex_law.specs.Terms.{put}
-use Rattle.key_paths.specs.inner.Held.{IsWideNext}
 use Rattle.key_rows.specs.Terms.{amounts, links_in, path_uses, key_name, key_dual}
-use Rattle.key_paths.proofs.Holding.{rest_low, key_once, amount_low}
-use Rattle.key_paths.proofs.KeyTurning.{low, name_once, value_high, taken_low, key_wide, next_held}
-use Rattle.key_paths.proofs.Moving.{moved_by, less_by}
+use Rattle.key_paths.{specs.inner.Held.IsWideNext, proofs.Holding.{rest_low, key_once, amount_low}, proofs.KeyTurning.{low, name_once, value_high, taken_low, key_wide, next_held}, proofs.Moving.{moved_by, less_by}}
 use Rattle.key_paths.proofs.turn_key.turn_key.Goals as goal
 
 pub returns-in_default-clause-wide : goal.returns-in_default-clause-wide

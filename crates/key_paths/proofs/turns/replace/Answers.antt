@@ -4,9 +4,7 @@ use Rattle.plan_terms.specs.Terms.{Row as RowOf}
 use Rattle.simplex_law.specs.Terms.{dot, put}
 use Rattle.simplex_core.specs.Terms.{nums_at, IsRectangle}
 use Rattle.key_rows.specs.Terms.{amounts, key_name, key_dual}
-use Rattle.key_paths.specs.inner.Outcomes.{IsWideBasis}
-use Rattle.key_paths.proofs.RowTurning.{turn_wide, shaped, rest_less, value_high, value_less, value_kept, demand_wide, next_held}
-use Rattle.key_paths.proofs.Holding.{has_key, shaped_here}
+use Rattle.key_paths.{specs.inner.Outcomes.IsWideBasis, proofs.RowTurning.{turn_wide, shaped, rest_less, value_high, value_less, value_kept, demand_wide, next_held}, proofs.Holding.{has_key, shaped_here}}
 use Rattle.key_paths.proofs.turns.replace.Goals as goal
 
 pub returns-in-Err-clause-turned : goal.returns-in-Err-clause-turned

@@ -1,8 +1,7 @@
 use Rattle.std.proofs.Common.{◌≡◌, ◌<◌, ◌⊎◌, length, Some, inl, subst, arith}
 use Rattle.checked_fraction.specs.Terms.{num}
 use Rattle.simplex_law.specs.Terms.{IsWide}
-use Rattle.simplex_core.specs.Terms.{IsNarrowOver, FindsWideProduct}
-use Rattle.simplex_core.proofs.Divided.{has_pivot}
+use Rattle.simplex_core.{specs.Terms.{IsNarrowOver, FindsWideProduct}, proofs.Divided.has_pivot}
 use Rattle.key_paths.proofs.RowTurning.{pivot, product_wide}
 use Rattle.key_paths.proofs.turns.turn_row.Goals as goal
 

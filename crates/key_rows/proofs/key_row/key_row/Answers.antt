@@ -1,7 +1,6 @@
 use Rattle.std.proofs.Common.{◌≡◌, ◌≤◌, ◌^◌, unsigned_abs, length, ap, sym, subst, refl, inr, ◌∙◌, arith}
 use Rattle.checked_fraction.specs.Terms.{num, IsReduced, IsTooWide}
-use Rattle.key_rows.specs.KeyRows.{less_rows}
-use Rattle.key_rows.proofs.Rows.{reduced_of, wide_of, done_of, failed_of}
+use Rattle.key_rows.{specs.KeyRows.less_rows, proofs.Rows.{reduced_of, wide_of, done_of, failed_of}}
 use Rattle.key_rows.proofs.key_row.key_row.Goals as goal
 
 pub lower-requires-clause-equal : goal.lower-requires-clause-equal

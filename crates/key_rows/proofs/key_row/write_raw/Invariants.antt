@@ -1,6 +1,5 @@
 use Rattle.std.proofs.Common.{length}
-use Rattle.key_rows.specs.KeyRows.{less_rows}
-use Rattle.key_rows.specs.inner.Written.{AreRaw}
+use Rattle.key_rows.{specs.KeyRows.less_rows, specs.inner.Written.AreRaw}
 use Rattle.key_rows.proofs.key_row.write_raw.Given as goal
 
 -- the numbers so far

@@ -1,6 +1,5 @@
 use Rattle.std.proofs.Common.{◌≡◌, length, drop, ap, sym, subst, ◌∙◌, take_at}
-use Rattle.key_rows.specs.KeyRows.{less_rows}
-use Rattle.key_rows.specs.inner.Written.{AreRaw}
+use Rattle.key_rows.{specs.KeyRows.less_rows, specs.inner.Written.AreRaw}
 use Rattle.key_rows.proofs.key_row.write_raw_list.Goals as goal
 
 pub write_raw-requires-clause-room : goal.write_raw-requires-clause-room

@@ -1,8 +1,7 @@
 use Rattle.std.proofs.Common.{◌≡◌, ◌<◌, ◌≤◌, ◌^◌, ◌∙◌, ap, length, pos, slice_set, subst, sym, to_z, of_z, unsigned_abs, w64, arith, ⊎_elim, get_or-set_same, get_or-set_other}
 use Rattle.net_core.proofs.Library.{cases_eq, ints}
 use Rattle.checked_fraction.specs.Terms.{num, IsNarrow}
-use Rattle.key_rows.specs.Names.{IsShortPath, key_name, key_dual, links_in}
-use Rattle.key_rows.proofs.Listing.{each_more}
+use Rattle.key_rows.{specs.Names.{IsShortPath, key_name, key_dual, links_in}, proofs.Listing.each_more}
 use Rattle.key_rows.proofs.keys.renew_duals.Goals as goal
 
 pub next_dual-requires : goal.next_dual-requires

@@ -2,8 +2,7 @@ use Rattle.std.proofs.Common.{◌≡◌, ◌<◌, ◌≤◌, ◌^◌, length, to
 use Rattle.net_core.proofs.Library.{w128, ints, slice_get-get_or}
 use Rattle.simplex_law.specs.Terms.{dot}
 use Rattle.simplex_core.specs.Terms.{nums_at}
-use Rattle.key_rows.specs.Names.{left_uses}
-use Rattle.key_rows.proofs.Listing.{each_more, product_at}
+use Rattle.key_rows.{specs.Names.left_uses, proofs.Listing.{each_more, product_at}}
 use Rattle.key_rows.proofs.keys.write_products.Goals as goal
 
 pub loop-i-preserved : goal.loop-i-preserved

@@ -1,6 +1,5 @@
 use Rattle.std.proofs.Common.{◌≡◌, Bool, true, false, IsTrue, not, get_or, inr, refl, subst}
-use Rattle.key_rows.specs.inner.Tried.{IsSeen}
-use Rattle.key_rows.proofs.Trying.{no_more}
+use Rattle.key_rows.{specs.inner.Tried.IsSeen, proofs.Trying.no_more}
 use Rattle.key_rows.proofs.ratio_test.is_to_be_tried.Goals as goal
 
 flipped : (t : Bool) → not t ≡ false → IsTrue t

@@ -1,9 +1,6 @@
 use Rattle.std.proofs.Common.{◌-◌, ◌⊎◌, subst, sym, arith}
 use Rattle.net_core.proofs.Library.{IfErr-weaker}
-use Rattle.key_rows.specs.KeyTests.{IsWideTest}
-use Rattle.key_rows.specs.inner.Candidates.{IsKeyCandidate, IsWideRowTest}
-use Rattle.key_rows.specs.Names.{own_entry}
-use Rattle.key_rows.proofs.WideTests.{row_test, pair_test, placed_positive, placed_key}
+use Rattle.key_rows.{specs.KeyTests.IsWideTest, specs.inner.Candidates.{IsKeyCandidate, IsWideRowTest}, specs.Names.own_entry, proofs.WideTests.{row_test, pair_test, placed_positive, placed_key}}
 use Rattle.key_rows.proofs.ratio_test.key_before.Goals as goal
 
 pub returns-then-best-links-clause-wide : goal.returns-then-best-links-clause-wide

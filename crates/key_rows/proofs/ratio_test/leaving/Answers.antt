@@ -1,10 +1,5 @@
 use Rattle.std.proofs.Common.{ℕ, ℤ, length, subst}
-use Rattle.key_rows.specs.FirstRoles.{IsFirstOfRoles}
-use Rattle.key_rows.specs.KeyRows.{HaveValues}
-use Rattle.key_rows.specs.Names.{demand_in, key_links}
-use Rattle.key_rows.specs.inner.Orders.{IsBestRow}
-use Rattle.key_rows.specs.inner.Tried.{role_in}
-use Rattle.key_rows.proofs.Trying.{best_first_of_rows}
+use Rattle.key_rows.{specs.FirstRoles.IsFirstOfRoles, specs.KeyRows.HaveValues, specs.Names.{demand_in, key_links}, specs.inner.Orders.IsBestRow, specs.inner.Tried.role_in, proofs.Trying.best_first_of_rows}
 use Rattle.key_rows.proofs.ratio_test.leaving.Goals as goal
 
 pub with_keys-requires-clause-first : goal.with_keys-requires-clause-first

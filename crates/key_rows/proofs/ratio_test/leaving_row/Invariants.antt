@@ -1,7 +1,6 @@
 use Rattle.std.proofs.Common.{ℕ, ℤ, length}
 use Rattle.net_core.proofs.Library.{ForSome}
-use Rattle.key_rows.specs.KeyRows.{HaveValues}
-use Rattle.key_rows.specs.inner.Orders.{IsPlacedRow, IsBestRow}
+use Rattle.key_rows.{specs.KeyRows.HaveValues, specs.inner.Orders.{IsPlacedRow, IsBestRow}}
 use Rattle.key_rows.proofs.ratio_test.leaving_row.Given as goal
 
 -- the first of the rows so far

@@ -1,6 +1,5 @@
 use Rattle.std.proofs.Common.{length, subst}
-use Rattle.key_rows.specs.inner.Orders.{IsRowCandidate}
-use Rattle.key_rows.proofs.Bests.{better_next}
+use Rattle.key_rows.{specs.inner.Orders.IsRowCandidate, proofs.Bests.better_next}
 use Rattle.key_rows.proofs.ratio_test.next_row.Goals as goal
 
 pub returns-clause-first : goal.returns-clause-first

@@ -1,10 +1,7 @@
 use Rattle.std.proofs.Common.{◌≡◌, ◌+◌, ◌≤◌, ◌^◌, ℤ, pos, unsigned_abs, length, get_or, to_z, of_z, sym, subst, ◌∙◌, arith}
 use Rattle.net_core.proofs.Library.{w128, ints}
 use Rattle.checked_fraction.specs.Terms.{num, IsNarrow}
-use Rattle.key_rows.specs.KeyRows.{amounts, left_over_rows}
-use Rattle.key_rows.specs.KeyTests.{product_over}
-use Rattle.key_rows.specs.inner.Candidates.{value_over}
-use Rattle.key_rows.proofs.Testing.{weight_positive, tested}
+use Rattle.key_rows.{specs.KeyRows.{amounts, left_over_rows}, specs.KeyTests.product_over, specs.inner.Candidates.value_over, proofs.Testing.{weight_positive, tested}}
 use Rattle.key_rows.proofs.ratio_test.weighed_candidate.Goals as goal
 
 pub step_of-requires-clause-low : goal.step_of-requires-clause-low

@@ -1,9 +1,6 @@
 use Rattle.std.proofs.Common.{◌≡◌, Ok, Err, w64, to_z, of_z, inl, inr, refl, sym, subst, ◌∙◌, arith}
 use Rattle.net_core.proofs.Library.{ints, IfOk-weaker, err_from_is_err_and}
-use Rattle.key_rows.proofs.WideTests.{key_test}
-use Rattle.key_rows.specs.KeyTests.{IsWideTest}
-use Rattle.key_rows.specs.Names.{own_entry}
-use Rattle.key_rows.specs.inner.Candidates.{IsJoined, IsKeyTest, IsWithKey}
+use Rattle.key_rows.{proofs.WideTests.key_test, specs.KeyTests.IsWideTest, specs.Names.own_entry, specs.inner.Candidates.{IsJoined, IsKeyTest, IsWithKey}}
 use Rattle.key_rows.proofs.ratio_test.with_key.Goals as goal
 
 pub joined-requires-clause-rivals : goal.joined-requires-clause-rivals

@@ -1,9 +1,6 @@
 use Rattle.std.proofs.Common.{◌≡◌, ◌+◌, ◌⊎◌, length, get_or, subst, IfOk}
 use Rattle.net_core.proofs.Library.{ForSome, IfOk-weaker}
-use Rattle.key_rows.specs.FirstRoles.{IsFirstOfRoles}
-use Rattle.key_rows.specs.inner.Candidates.{IsPlacedCandidate, IsWithKey}
-use Rattle.key_rows.specs.inner.Tried.{role_in, IsTried}
-use Rattle.key_rows.proofs.Trying.{fewer, key_more, placed_more, tried_more, tried_no_more}
+use Rattle.key_rows.{specs.FirstRoles.IsFirstOfRoles, specs.inner.Candidates.{IsPlacedCandidate, IsWithKey}, specs.inner.Tried.{role_in, IsTried}, proofs.Trying.{fewer, key_more, placed_more, tried_more, tried_no_more}}
 use Rattle.key_rows.proofs.ratio_test.with_key_of_row.Goals as goal
 
 pub returns-then-not-is_to_be_tried-clause-first : goal.returns-then-not-is_to_be_tried-clause-first

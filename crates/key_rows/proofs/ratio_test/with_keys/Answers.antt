@@ -1,7 +1,5 @@
 use Rattle.std.proofs.Common.{◌≡◌, length, subst, arith}
-use Rattle.key_rows.specs.FirstRoles.{IsFirstOfRoles}
-use Rattle.key_rows.specs.inner.Tried.{role_in, IsTried}
-use Rattle.key_rows.proofs.Trying.{all_first}
+use Rattle.key_rows.{specs.FirstRoles.IsFirstOfRoles, specs.inner.Tried.{role_in, IsTried}, proofs.Trying.all_first}
 use Rattle.key_rows.proofs.ratio_test.with_keys.Goals as goal
 
 pub loop-i-init : goal.loop-i-init

@@ -1,9 +1,6 @@
-use Rattle.net_core.proofs.Library.{ForSome}
 use Rattle.std.proofs.Common.{length}
-use Rattle.key_rows.specs.Bases.{IsRoom}
-use Rattle.key_rows.specs.FirstRoles.{IsFirstOfRoles}
-use Rattle.key_rows.specs.inner.Candidates.{IsPlacedCandidate}
-use Rattle.key_rows.specs.inner.Tried.{role_in, IsTried}
+use Rattle.net_core.proofs.Library.{ForSome}
+use Rattle.key_rows.{specs.Bases.IsRoom, specs.FirstRoles.IsFirstOfRoles, specs.inner.Candidates.IsPlacedCandidate, specs.inner.Tried.{role_in, IsTried}}
 use Rattle.key_rows.proofs.ratio_test.with_keys.Given as goal
 
 -- the first of the rows and of the keys that the rows so far touch

@@ -1,10 +1,6 @@
 use Rattle.std.proofs.Common.{◌≡◌, ◌<◌, ◌+◌, Some, length, sym, ◌∙◌, ◌⊎◌}
 use Rattle.net_core.proofs.Library.{ForSome, IfOk-weaker}
-use Rattle.key_rows.specs.FirstRoles.{IsFirstOfRoles}
-use Rattle.key_rows.specs.Names.{demand_in}
-use Rattle.key_rows.specs.inner.Candidates.{IsPlacedCandidate, IsWithKey}
-use Rattle.key_rows.specs.inner.Tried.{role_in, IsTried}
-use Rattle.key_rows.proofs.Trying.{fewer, key_more, placed_more, with_own, without_own}
+use Rattle.key_rows.{specs.FirstRoles.IsFirstOfRoles, specs.Names.demand_in, specs.inner.Candidates.{IsPlacedCandidate, IsWithKey}, specs.inner.Tried.{role_in, IsTried}, proofs.Trying.{fewer, key_more, placed_more, with_own, without_own}}
 use Rattle.key_rows.proofs.ratio_test.with_own_key.Goals as goal
 
 pub returns-in-Some-clause-placed : goal.returns-in-Some-clause-placed

@@ -1,9 +1,7 @@
 use Rattle.std.proofs.Common.{◌≡◌, ◌<◌, ◌^◌, ◌+ℤ◌, ◌*ℤ◌, length, get_or, unsigned_abs, to_z, of_z, arith}
-use Rattle.net_core.proofs.Library.{w128, ints}
+use Rattle.net_core.{proofs.Library.{w128, ints}, specs.declared.ids.LinkId.LinkId}
 use Rattle.checked_fraction.specs.Terms.{num}
-use Rattle.net_core.specs.declared.ids.LinkId.{LinkId}
-use Rattle.key_rows.proofs.Paths.{link_inside}
-use Rattle.key_rows.proofs.Shifting.{shift_more, bound_more, uses_end, shifted}
+use Rattle.key_rows.{proofs.Paths.link_inside, proofs.Shifting.{shift_more, bound_more, uses_end, shifted}}
 use Rattle.key_rows.proofs.rest.shift.Goals as goal
 
 pub loop-link-preserved : goal.loop-link-preserved

@@ -1,8 +1,7 @@
 use Rattle.std.proofs.Common.{◌≡◌, w64, to_z, of_z, ◌∙◌, arith}
 use Rattle.net_core.proofs.Library.{ints}
 use Rattle.checked_fraction.specs.Terms.{num}
-use Rattle.key_rows.specs.Names.{path_uses}
-use Rattle.key_rows.proofs.Shifting.{shifted_back}
+use Rattle.key_rows.{specs.Names.path_uses, proofs.Shifting.shifted_back}
 use Rattle.key_rows.proofs.rest.shift_back_list.Goals as goal
 
 pub returns-clause-each : goal.returns-clause-each

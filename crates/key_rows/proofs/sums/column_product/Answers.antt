@@ -1,8 +1,7 @@
 use Rattle.std.proofs.Common.{◌≡◌, length, to_z, of_z, ◌∙◌, arith}
 use Rattle.net_core.proofs.Library.{w128, ints}
 use Rattle.checked_fraction.specs.Terms.{num}
-use Rattle.key_rows.specs.Names.{uses, path_uses}
-use Rattle.key_rows.proofs.Products.{left_product}
+use Rattle.key_rows.{specs.Names.{uses, path_uses}, proofs.Products.left_product}
 use Rattle.key_rows.proofs.sums.column_product.Goals as goal
 
 pub returns-clause-value : goal.returns-clause-value

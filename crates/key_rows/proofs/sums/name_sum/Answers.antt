@@ -1,8 +1,7 @@
 use Rattle.std.proofs.Common.{◌≡◌, length, to_z, of_z, sym, subst, ◌∙◌, arith, refl}
 use Rattle.net_core.proofs.Library.{w128, ints}
 use Rattle.checked_fraction.specs.Terms.{num}
-use Rattle.simplex_law.specs.Terms.{dot}
-use Rattle.simplex_law.proofs.Lemmas.{dot-unit}
+use Rattle.simplex_law.{specs.Terms.dot, proofs.Lemmas.dot-unit}
 use Rattle.key_rows.specs.Names.{uses, IsNameWithin}
 use Rattle.key_rows.proofs.sums.name_sum.Goals as goal
 

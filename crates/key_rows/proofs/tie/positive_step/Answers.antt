@@ -2,10 +2,7 @@ use Rattle.std.proofs.Common.{◌≡◌, ◌+ℤ◌, ◌*ℤ◌, length, w64, to
 use Rattle.net_core.proofs.Library.{w128, ints}
 use Rattle.checked_fraction.specs.Terms.{num}
 use Rattle.simplex_law.specs.Terms.{dot}
-use Rattle.key_rows.specs.Names.{left_uses}
-use Rattle.key_rows.specs.inner.Candidates.{lowered_step, IsWideRowTest}
-use Rattle.key_rows.proofs.Stepping.{step_positive, step_lowered}
-use Rattle.key_rows.proofs.WideTests.{wide_row}
+use Rattle.key_rows.{specs.Names.left_uses, specs.inner.Candidates.{lowered_step, IsWideRowTest}, proofs.Stepping.{step_positive, step_lowered}, proofs.WideTests.wide_row}
 use Rattle.key_rows.proofs.tie.positive_step.Goals as goal
 
 pub returns-in-Ok-clause-positive : goal.returns-in-Ok-clause-positive

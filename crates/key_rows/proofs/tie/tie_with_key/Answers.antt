@@ -1,7 +1,6 @@
 use Rattle.std.proofs.Common.{◌≡◌, length, to_z, of_z, sym, ap, ◌∙◌, subst, arith}
 use Rattle.net_core.proofs.Library.{w128, ints}
-use Rattle.key_rows.specs.inner.Candidates.{IsLowered}
-use Rattle.key_rows.proofs.Stepping.{decided}
+use Rattle.key_rows.{specs.inner.Candidates.IsLowered, proofs.Stepping.decided}
 use Rattle.key_rows.proofs.tie.tie_with_key.Goals as goal
 
 pub returns-clause-tie : goal.returns-clause-tie

@@ -2,8 +2,7 @@ use Rattle.std.proofs.Common.{◌≡◌, pos, length, to_z, of_z, slice_get, Som
 use Rattle.net_core.proofs.Library.{w128, ints, slice_get-get_or, err_from_is_err_and}
 use Rattle.checked_fraction.specs.Terms.{num, IsNarrow}
 use Rattle.simplex_core.specs.Terms.{nums_of}
-use Rattle.key_rows.specs.inner.Candidates.{IsLowered, IsWideRowTest}
-use Rattle.key_rows.proofs.Stepping.{decided}
+use Rattle.key_rows.{specs.inner.Candidates.{IsLowered, IsWideRowTest}, proofs.Stepping.decided}
 use Rattle.key_rows.proofs.tie.tie_with_row.Goals as goal
 
 pub returns-clause-tie : goal.returns-clause-tie

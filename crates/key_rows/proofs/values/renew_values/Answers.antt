@@ -2,8 +2,7 @@ use Rattle.std.proofs.Common.{◌≡◌, ◌≢◌, ◌<◌, ◌^◌, ◌∙◌,
 use Rattle.net_core.proofs.Library.{cases_eq}
 use Rattle.checked_fraction.specs.Terms.{num}
 use Rattle.simplex_law.specs.Terms.{dot}
-use Rattle.simplex_core.specs.Terms.{nums_at}
-use Rattle.simplex_core.proofs.RowsRead.{numbers_at}
+use Rattle.simplex_core.{specs.Terms.nums_at, proofs.RowsRead.numbers_at}
 use Rattle.key_rows.specs.KeyRows.{amounts}
 use Rattle.key_rows.proofs.values.renew_values.Goals as goal
 

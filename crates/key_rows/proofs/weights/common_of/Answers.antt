@@ -1,9 +1,7 @@
 use Rattle.std.proofs.Common.{◌≡◌, length, slice_get, Some, ap, sym, ◌∙◌, subst}
 use Rattle.net_core.proofs.Library.{slice_get-get_or}
-use Rattle.simplex_core.specs.Terms.{IsLeastMultiple, HaveNoMultiple}
-use Rattle.simplex_core.proofs.Multiples.{denominator_first, denominator_next, denominator_none}
-use Rattle.key_rows.specs.KeyRows.{own_den}
-use Rattle.key_rows.proofs.Weighing.{own_den_row}
+use Rattle.simplex_core.{specs.Terms.{IsLeastMultiple, HaveNoMultiple}, proofs.Multiples.{denominator_first, denominator_next, denominator_none}}
+use Rattle.key_rows.{specs.KeyRows.own_den, proofs.Weighing.own_den_row}
 use Rattle.key_rows.proofs.weights.common_of.Goals as goal
 
 pub loop-i-init : goal.loop-i-init

@@ -1,6 +1,5 @@
 use Rattle.std.proofs.Common.{◌+◌, arith}
-use Rattle.key_rows.specs.KeyRows.{amounts}
-use Rattle.key_rows.proofs.Left.{left_more, own_fits, left_after, left_next}
+use Rattle.key_rows.{specs.KeyRows.amounts, proofs.Left.{left_more, own_fits, left_after, left_next}}
 use Rattle.key_rows.proofs.weights.key_value.Goals as goal
 
 pub taken-left-requires-clause-fits : goal.taken-left-requires-clause-fits

@@ -1,7 +1,6 @@
 use Rattle.std.proofs.Common.{◌-ℤ◌, ap, sym, ◌∙◌, arith, ◌*ℤ◌}
 use Rattle.checked_fraction.specs.Terms.{num}
-use Rattle.key_rows.specs.KeyRows.{times_taken}
-use Rattle.key_rows.proofs.Left.{left_more}
+use Rattle.key_rows.{specs.KeyRows.times_taken, proofs.Left.left_more}
 use Rattle.key_rows.proofs.weights.step_of.Goals as goal
 
 pub loop-i-preserved : goal.loop-i-preserved

@@ -1,8 +1,7 @@
 use Rattle.std.proofs.Common.{◌≡◌, length, drop, pos, w64, to_z, ap, sym, subst, ◌∙◌, arith, take_at}
 use Rattle.net_core.proofs.Library.{ints}
 use Rattle.checked_fraction.specs.Terms.{num, IsNarrow}
-use Rattle.key_rows.specs.KeyRows.{AreWeights}
-use Rattle.key_rows.proofs.Weighing.{weights_of}
+use Rattle.key_rows.{specs.KeyRows.AreWeights, proofs.Weighing.weights_of}
 use Rattle.key_rows.proofs.weights.weigh.Goals as goal
 
 pub write_weights-requires-clause-count : goal.write_weights-requires-clause-count

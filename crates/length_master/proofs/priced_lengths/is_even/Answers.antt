@@ -1,7 +1,6 @@
 use Rattle.std.proofs.Common.{length, subst, sym}
 use Rattle.checked_fraction.specs.Terms.{num}
-use Rattle.length_master.specs.inner.Slots.{IsSlotInside}
-use Rattle.length_master.proofs.Slots.{slack_even}
+use Rattle.length_master.{specs.inner.Slots.IsSlotInside, proofs.Slots.slack_even}
 use Rattle.length_master.proofs.priced_lengths.is_even.Goals as goal
 
 pub returns-in-Slack : goal.returns-in-Slack

@@ -1,5 +1,4 @@
-use Rattle.std.proofs.Common.{◌≡◌, map}
-use Rattle.std.specs.List.{range_with_len}
+use Rattle.std.{proofs.Common.{◌≡◌, map}, specs.List.range_with_len}
 use Rattle.length_master.specs.inner.Capacities.{given_at}
 use Rattle.length_master.proofs.wide_share.capacities_at.Given as goal
 

@@ -1,7 +1,6 @@
 use Rattle.std.proofs.Common.{◌<◌, refl, subst, sym}
 use Rattle.net_core.proofs.Networks.{modules_sound}
-use Rattle.length_master.specs.WideShares.{AreLeastCaps}
-use Rattle.length_master.proofs.WideShares.{least_caps, ones_are}
+use Rattle.length_master.{specs.WideShares.AreLeastCaps, proofs.WideShares.{least_caps, ones_are}}
 use Rattle.length_master.proofs.wide_share.least_caps.Goals as goal
 
 pub returns : goal.returns

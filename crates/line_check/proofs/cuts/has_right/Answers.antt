@@ -1,6 +1,5 @@
 use Rattle.std.proofs.Common.{ℕ, List, Err, ap, ◌∙◌, subst, sym, eqb-true, eq-eqb}
-use Rattle.plan_terms.proofs.Lemmas.{right_once}
-use Rattle.plan_terms.specs.Terms.{graph_in, Joins, case_of, AreKept, IsRight}
+use Rattle.plan_terms.{proofs.Lemmas.right_once, specs.Terms.{graph_in, Joins, case_of, AreKept, IsRight}}
 use Rattle.plan_checker.proofs.KeptLengths.{keeps_same, kept_not_zero}
 use Rattle.line_check.proofs.cuts.has_right.Goals as goal
 

@@ -1,8 +1,5 @@
 use Rattle.std.proofs.Common.{◌≡◌, ◌+◌, subst, sym, ◌∙◌}
-use Rattle.line_check.specs.Inequalities.{module_number}
-use Rattle.line_check.specs.Testing.{weighed}
-use Rattle.line_check.specs.inner.Dividing.{AreDividedCoefs, AreLinkCoefs}
-use Rattle.line_check.proofs.DividedCoefs.{link_more, number_at}
+use Rattle.line_check.{specs.Inequalities.module_number, specs.Testing.weighed, specs.inner.Dividing.{AreDividedCoefs, AreLinkCoefs}, proofs.DividedCoefs.{link_more, number_at}}
 use Rattle.line_check.proofs.divided_line.all_coefs.Goals as goal
 
 pub loop-e-preserved : goal.loop-e-preserved

@@ -1,11 +1,6 @@
 use Rattle.std.proofs.Common.{◌≡◌, ℕ, ◌<◌, ◌^◌, false, length, ap, subst, sym, ◌∙◌, arith}
 use Rattle.net_core.proofs.Library.{false≢true}
-use Rattle.line_check.specs.Inequalities.{summed_need}
-use Rattle.line_check.specs.Lines.{divided_up}
-use Rattle.line_check.specs.Testing.{weighed}
-use Rattle.line_check.specs.declared.inequality.Inequality.{Inequality}
-use Rattle.line_check.specs.inner.Dividing.{AreDividedCoefs}
-use Rattle.line_check.proofs.DividedTold.{divided_made, divided_need, divided_prices, terms_told}
+use Rattle.line_check.{specs.Inequalities.summed_need, specs.Lines.divided_up, specs.Testing.weighed, specs.declared.inequality.Inequality.Inequality, specs.inner.Dividing.AreDividedCoefs, proofs.DividedTold.{divided_made, divided_need, divided_prices, terms_told}}
 use Rattle.line_check.proofs.divided_line.divided_line.Goals as goal
 
 pub returns-then-not-are_sound : goal.returns-then-not-are_sound

@@ -1,9 +1,5 @@
 use Rattle.std.proofs.Common.{◌≡◌, ℕ, ◌+◌, ◌<◌, ◌^◌, min, ap, subst, sym, ◌∙◌, arith}
-use Rattle.line_check.specs.Inequalities.{module_price}
-use Rattle.line_check.specs.Lines.{divided_up}
-use Rattle.line_check.specs.Testing.{weighed}
-use Rattle.line_check.specs.inner.Dividing.{AreLinkCoefs, divided_coef}
-use Rattle.line_check.proofs.DividedCoefs.{module_more}
+use Rattle.line_check.{specs.Inequalities.module_price, specs.Lines.divided_up, specs.Testing.weighed, specs.inner.Dividing.{AreLinkCoefs, divided_coef}, proofs.DividedCoefs.module_more}
 use Rattle.line_check.proofs.divided_line.link_coefs.Goals as goal
 
 pub loop-m-preserved : goal.loop-m-preserved

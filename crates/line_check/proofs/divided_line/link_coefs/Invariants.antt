@@ -1,5 +1,4 @@
-use Rattle.line_check.specs.Testing.{weighed}
-use Rattle.line_check.specs.inner.Dividing.{AreLinkCoefs}
+use Rattle.line_check.{specs.Testing.weighed, specs.inner.Dividing.AreLinkCoefs}
 use Rattle.line_check.proofs.divided_line.link_coefs.Given as goal
 
 -- the coefficients so far

@@ -1,7 +1,5 @@
 use Rattle.std.proofs.Common.{◌≡◌, ◌+◌, ◌<◌, ⊎_elim, arith, subst, sym}
-use Rattle.line_check.specs.Lines.{GivesSome}
-use Rattle.line_check.specs.inner.Tables.{AreKindsTo}
-use Rattle.line_check.proofs.KindsSoFar.{all_kinds, given_low, no_kinds, one_kind_more}
+use Rattle.line_check.{specs.Lines.GivesSome, specs.inner.Tables.AreKindsTo, proofs.KindsSoFar.{all_kinds, given_low, no_kinds, one_kind_more}}
 use Rattle.line_check.proofs.kinds.kinds_of.Goals as goal
 
 pub loop-last-init : goal.loop-last-init

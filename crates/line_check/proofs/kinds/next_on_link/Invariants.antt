@@ -1,6 +1,5 @@
 use Rattle.std.proofs.Common.{◌≡◌, ℕ, ◌<◌, ◌≤◌, ◌⊎◌}
-use Rattle.line_check.specs.Lines.{capped}
-use Rattle.line_check.specs.inner.Tables.{GivesOn}
+use Rattle.line_check.{specs.Lines.capped, specs.inner.Tables.GivesOn}
 use Rattle.line_check.proofs.kinds.next_on_link.Given as goal
 
 -- the least of the modules so far

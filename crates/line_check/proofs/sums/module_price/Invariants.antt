@@ -1,6 +1,5 @@
 use Rattle.std.proofs.Common.{◌≡◌, ◌-◌, ◌^◌, min, take}
-use Rattle.line_check.specs.Inequalities.{module_price}
-use Rattle.line_check.specs.Testing.{weighed}
+use Rattle.line_check.{specs.Inequalities.module_price, specs.Testing.weighed}
 use Rattle.line_check.proofs.sums.module_price.Given as goal
 
 -- the sum over the lines so far

@@ -1,6 +1,5 @@
 use Rattle.std.proofs.Common.{◌≡◌, ◌-◌, ◌^◌, min, take}
-use Rattle.line_check.specs.Inequalities.{summed_need}
-use Rattle.line_check.specs.Testing.{weighed}
+use Rattle.line_check.{specs.Inequalities.summed_need, specs.Testing.weighed}
 use Rattle.line_check.proofs.sums.summed_need.Given as goal
 
 -- the sum over the lines so far

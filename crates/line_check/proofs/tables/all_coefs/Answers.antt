@@ -1,8 +1,6 @@
 use Rattle.std.proofs.Common.{ℕ, [], ◌∷◌, ◌++◌, ◌∙◌, ap, arith, map, sym, zip}
 use Rattle.net_core.proofs.Library.{map-range_with_len_more, range_with_len}
-use Rattle.line_check.specs.Inequalities.{module_number}
-use Rattle.line_check.specs.Lines.{capped, weight_of}
-use Rattle.line_check.proofs.KindsSoFar.{module_number_is}
+use Rattle.line_check.{specs.Inequalities.module_number, specs.Lines.{capped, weight_of}, proofs.KindsSoFar.module_number_is}
 use Rattle.line_check.proofs.tables.all_coefs.Goals as goal
 
 pub loop-e-preserved : goal.loop-e-preserved

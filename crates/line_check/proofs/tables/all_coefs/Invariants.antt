@@ -1,7 +1,5 @@
-use Rattle.std.proofs.Common.{◌≡◌, map, zip}
-use Rattle.std.specs.List.{range_with_len}
-use Rattle.line_check.specs.Inequalities.{module_number}
-use Rattle.line_check.specs.Lines.{capped, weight_of}
+use Rattle.std.{proofs.Common.{◌≡◌, map, zip}, specs.List.range_with_len}
+use Rattle.line_check.{specs.Inequalities.module_number, specs.Lines.{capped, weight_of}}
 use Rattle.line_check.proofs.tables.all_coefs.Given as goal
 
 -- the weights of the links so far

@@ -1,7 +1,6 @@
 use Rattle.std.proofs.Common.{◌∙◌}
 use Rattle.plan_terms.specs.Terms.{case_of}
-use Rattle.line_check.proofs.KindsSoFar.{module_number_is}
-use Rattle.line_check.proofs.TableParts.{spared_more}
+use Rattle.line_check.{proofs.KindsSoFar.module_number_is, proofs.TableParts.spared_more}
 use Rattle.line_check.proofs.tables.is_spared.Goals as goal
 
 pub loop-e-preserved : goal.loop-e-preserved

@@ -1,7 +1,6 @@
 use Rattle.std.proofs.Common.{◌≡◌, ℕ, ◌<◌}
 use Rattle.plan_terms.specs.Terms.{case_of}
-use Rattle.line_check.specs.Inequalities.{module_number}
-use Rattle.line_check.specs.Lines.{NeverFails, capped}
+use Rattle.line_check.{specs.Inequalities.module_number, specs.Lines.{NeverFails, capped}}
 use Rattle.line_check.proofs.tables.is_spared.Given as goal
 
 -- none of the links so far

@@ -1,9 +1,7 @@
 use Rattle.std.proofs.Common.{ℕ, List, ◌∙◌, ap, arith, slice_index, zip}
 use Rattle.net_core.proofs.Library.{Contains-get_or, get_or_default}
 use Rattle.plan_terms.specs.Terms.{Link}
-use Rattle.line_check.specs.Inequalities.{table_of}
-use Rattle.line_check.specs.Lines.{capped, weight_of}
-use Rattle.line_check.proofs.TableParts.{with_coefs}
+use Rattle.line_check.{specs.Inequalities.table_of, specs.Lines.{capped, weight_of}, proofs.TableParts.with_coefs}
 use Rattle.line_check.proofs.tables.line_by_kinds.Goals as goal
 
 pub least_weights-requires-clause-positive : goal.least_weights-requires-clause-positive

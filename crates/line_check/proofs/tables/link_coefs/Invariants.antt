@@ -1,5 +1,4 @@
-use Rattle.std.proofs.Common.{◌≡◌, map, zip}
-use Rattle.std.specs.List.{range_with_len}
+use Rattle.std.{proofs.Common.{◌≡◌, map, zip}, specs.List.range_with_len}
 use Rattle.line_check.specs.Lines.{capped, weight_of}
 use Rattle.line_check.proofs.tables.link_coefs.Given as goal
 

@@ -1,8 +1,7 @@
 use Rattle.std.proofs.Common.{◌≡◌, ◌<◌, ◌∙◌, List, ℕ, length, subst, sym}
 use Rattle.net_core.proofs.Library.{both_ways}
 use Rattle.plan_terms.specs.Terms.{Link, case_of}
-use Rattle.line_check.specs.Lines.{AreKinds}
-use Rattle.line_check.proofs.TableParts.{not_paired}
+use Rattle.line_check.{specs.Lines.AreKinds, proofs.TableParts.not_paired}
 use Rattle.line_check.proofs.tables.table_line.Goals as goal
 
 pub returns-then-not-are_paired : goal.returns-then-not-are_paired

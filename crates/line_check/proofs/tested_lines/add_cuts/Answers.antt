@@ -1,8 +1,6 @@
 use Rattle.std.proofs.Common.{◌+◌, inl, List, map, subst, sym, take}
 use Rattle.plan_terms.specs.Terms.{CutLine, case_of}
-use Rattle.line_check.specs.Testing.{AreTested, IsTestedAs}
-use Rattle.line_check.specs.declared.tested_lines.Tested.{Tested}
-use Rattle.line_check.proofs.TestedMore.{cut_more}
+use Rattle.line_check.{specs.Testing.{AreTested, IsTestedAs}, specs.declared.tested_lines.Tested.Tested, proofs.TestedMore.cut_more}
 use Rattle.line_check.proofs.tested_lines.add_cuts.Goals as goal
 
 pub loop-cut-preserved : goal.loop-cut-preserved

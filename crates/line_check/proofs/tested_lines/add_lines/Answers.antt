@@ -1,9 +1,6 @@
 use Rattle.std.proofs.Common.{◌+◌, inr, List, ◌++◌, map, subst, sym, take}
 use Rattle.plan_terms.specs.Terms.{case_of}
-use Rattle.line_check.specs.Testing.{AreTested, IsTestedAs}
-use Rattle.line_check.specs.declared.line.Line.{Line}
-use Rattle.line_check.specs.declared.tested_lines.Tested.{Tested}
-use Rattle.line_check.proofs.TestedMore.{line_more}
+use Rattle.line_check.{specs.Testing.{AreTested, IsTestedAs}, specs.declared.line.Line.Line, specs.declared.tested_lines.Tested.Tested, proofs.TestedMore.line_more}
 use Rattle.line_check.proofs.tested_lines.add_lines.Goals as goal
 
 pub loop-line-preserved : goal.loop-line-preserved

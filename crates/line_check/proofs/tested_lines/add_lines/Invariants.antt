@@ -1,7 +1,6 @@
 use Rattle.std.proofs.Common.{inr, ◌++◌, List, map, take}
 use Rattle.plan_terms.specs.Terms.{case_of}
-use Rattle.line_check.specs.Lines.{Source}
-use Rattle.line_check.specs.Testing.{AreTested}
+use Rattle.line_check.{specs.Lines.Source, specs.Testing.AreTested}
 use Rattle.line_check.proofs.tested_lines.add_lines.Given as goal
 
 -- the lines so far, after any that were tested before

@@ -1,9 +1,6 @@
 use Rattle.std.proofs.Common.{List, MatchOption, false, subst, ◌∙◌}
 use Rattle.plan_terms.specs.Terms.{Link, case_of}
-use Rattle.line_check.specs.Lines.{IsDividedLine}
-use Rattle.line_check.specs.Testing.{names_by}
-use Rattle.line_check.specs.declared.inequality.Inequality.{Inequality}
-use Rattle.line_check.proofs.SourcesTold.{divided_result}
+use Rattle.line_check.{specs.Lines.IsDividedLine, specs.Testing.names_by, specs.declared.inequality.Inequality.Inequality, proofs.SourcesTold.divided_result}
 use Rattle.line_check.proofs.tested_lines.tested_divided.Goals as goal
 
 pub returns : goal.returns

@@ -1,6 +1,5 @@
 use Rattle.std.proofs.Common.{subst}
-use Rattle.line_maker.specs.inner.Candidates.{IsNarrowSum}
-use Rattle.line_maker.proofs.Making.{coarse_more}
+use Rattle.line_maker.{specs.inner.Candidates.IsNarrowSum, proofs.Making.coarse_more}
 use Rattle.line_maker.proofs.coarse.push_coarse.Goals as goal
 
 pub returns-clause-lines : goal.returns-clause-lines

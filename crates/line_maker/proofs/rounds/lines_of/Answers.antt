@@ -1,5 +1,4 @@
-use Rattle.std.proofs.Common.{All, ap, arith, length, subst}
-use Rattle.std.specs.Vec.Iter.{into_iter_items}
+use Rattle.std.{proofs.Common.{All, ap, arith, length, subst}, specs.Vec.Iter.into_iter_items}
 use Rattle.net_core.proofs.Library.{All-tail}
 use Rattle.line_maker.specs.inner.Candidates.{IsSumCandidate}
 use Rattle.line_maker.proofs.rounds.lines_of.Goals as goal

@@ -1,7 +1,5 @@
-use Rattle.std.proofs.Common.{◌≡◌, ◌≤◌, All, length}
-use Rattle.std.specs.Vec.Iter.{into_iter_items, into_iter_len}
-use Rattle.line_maker.specs.Made.{IsMadeLine}
-use Rattle.line_maker.specs.inner.Candidates.{IsSumCandidate}
+use Rattle.std.{proofs.Common.{◌≡◌, ◌≤◌, All, length}, specs.Vec.Iter.{into_iter_items, into_iter_len}}
+use Rattle.line_maker.{specs.Made.IsMadeLine, specs.inner.Candidates.IsSumCandidate}
 use Rattle.line_maker.proofs.rounds.lines_of.Given as goal
 
 -- the lines so far, and the candidates that are left

@@ -2,8 +2,7 @@ use Rattle.std.proofs.Common.{◌≡◌, ◌∙◌, [], ◌∷◌, Some, ap, ari
 use Rattle.plan_terms.specs.Terms.{Notes, Case}
 use Rattle.plan_report.specs.Terms.{Outcome, Report}
 use Rattle.acceptance.specs.Terms.{IsTranscript}
-use Rattle.lone_plan.specs.LonePlans.{plan_commands}
-use Rattle.lone_plan.proofs.Alone.{has_one, planned, refused}
+use Rattle.lone_plan.{specs.LonePlans.plan_commands, proofs.Alone.{has_one, planned, refused}}
 use Rattle.lone_plan.proofs.lone.lone_of.Goals as goal
 
 -- the first of the outcomes is all of them

@@ -1,8 +1,7 @@
 use Rattle.std.proofs.Common.{[], length, get_or, subst}
 use Rattle.net_core.proofs.Library.{slice_get-get_or}
 use Rattle.plan_terms.specs.Terms.{CutLine}
-use Rattle.master_bound.specs.inner.Bests.{IsBestBelow}
-use Rattle.master_bound.proofs.Greatest.{best_of_all}
+use Rattle.master_bound.{specs.inner.Bests.IsBestBelow, proofs.Greatest.best_of_all}
 use Rattle.master_bound.proofs.best.best_own.Goals as goal
 
 pub returns-clause-best : goal.returns-clause-best

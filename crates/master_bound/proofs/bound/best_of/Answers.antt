@@ -1,6 +1,5 @@
 use Rattle.std.proofs.Common.{arith}
-use Rattle.master_bound.proofs.Certifying.{best_of_none}
-use Rattle.master_bound.proofs.Networks.{network_modules}
+use Rattle.master_bound.{proofs.Certifying.best_of_none, proofs.Networks.network_modules}
 use Rattle.master_bound.proofs.bound.best_of.Goals as goal
 
 pub returns : goal.returns

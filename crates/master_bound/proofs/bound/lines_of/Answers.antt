@@ -1,13 +1,7 @@
 use Rattle.std.proofs.Common.{◌/◌, [], arith, get_or, inl, inr, length, sym, ◌∙◌}
 use Rattle.net_core.proofs.Library.{false≢true}
 use Rattle.master_law.proofs.Lines.{lines_none}
-use Rattle.master_bound.proofs.Amounts.{all_narrow, wide_place}
-use Rattle.master_bound.specs.Answers.{lines_of}
-use Rattle.master_bound.specs.Optima.{IsMasterOptimum}
-use Rattle.master_bound.proofs.Certifying.{best_of_lines, few_lines, narrow_nums, some_den}
-use Rattle.master_bound.proofs.Lowest.{common_some}
-use Rattle.master_bound.proofs.Networks.{network_few, network_modules}
-use Rattle.master_bound.proofs.Optima.{listed, wide_value}
+use Rattle.master_bound.{proofs.Amounts.{all_narrow, wide_place}, specs.Answers.lines_of, specs.Optima.IsMasterOptimum, proofs.Certifying.{best_of_lines, few_lines, narrow_nums, some_den}, proofs.Lowest.common_some, proofs.Networks.{network_few, network_modules}, proofs.Optima.{listed, wide_value}}
 use Rattle.master_bound.proofs.bound.lines_of.Goals as goal
 
 pub has_wide-requires : goal.has_wide-requires

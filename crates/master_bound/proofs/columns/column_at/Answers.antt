@@ -1,8 +1,7 @@
 use Rattle.std.proofs.Common.{◌≡◌, ℤ, Some, ap, arith, length, of_z, refl, slice_index_or, sym, to_z, w64, ◌∙◌, slice_get}
 use Rattle.checked_fraction.specs.Terms.{IsNarrow}
-use Rattle.master_bound.specs.declared.rating.Rating.{Rating}
 use Rattle.net_core.proofs.Library.{ints, slice_get_read}
-use Rattle.master_bound.proofs.Entering.{column_of_cut, rated}
+use Rattle.master_bound.{specs.declared.rating.Rating.Rating, proofs.Entering.{column_of_cut, rated}}
 use Rattle.master_bound.proofs.columns.column_at.Goals as goal
 
 pub returns : goal.returns

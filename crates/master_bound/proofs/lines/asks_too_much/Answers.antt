@@ -1,6 +1,5 @@
 use Rattle.std.proofs.Common.{arith}
-use Rattle.master_bound.specs.declared.answer.Multiplier.{Multiplier}
-use Rattle.master_bound.proofs.Asked.{asked_before}
+use Rattle.master_bound.{specs.declared.answer.Multiplier.Multiplier, proofs.Asked.asked_before}
 use Rattle.master_bound.proofs.lines.asks_too_much.Goals as goal
 
 pub returns-then-asked-clause-yes : goal.returns-then-asked-clause-yes

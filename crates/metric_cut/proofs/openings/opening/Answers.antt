@@ -1,9 +1,7 @@
 use Rattle.std.proofs.Common.{All, List, map, subst, sym}
 use Rattle.net_core.proofs.Library.{IfOk-weaker}
 use Rattle.plan_terms.specs.Terms.{graph, AreOpening}
-use Rattle.metric_cut.specs.Cuts.{IsCutOf}
-use Rattle.metric_cut.specs.declared.cut.Cut.{Cut}
-use Rattle.metric_cut.proofs.KeptCuts.{are_opening, opening_cuts}
+use Rattle.metric_cut.{specs.Cuts.IsCutOf, specs.declared.cut.Cut.Cut, proofs.KeptCuts.{are_opening, opening_cuts}}
 use Rattle.metric_cut.proofs.openings.opening.Goals as goal
 
 pub returns-clause-each : goal.returns-clause-each

@@ -1,6 +1,5 @@
 use Rattle.std.proofs.Common.{ℕ, ◌*◌, ◌^◌, get_or, arith}
-use Rattle.plan_terms.specs.Terms.{Link}
-use Rattle.plan_terms.proofs.Lemmas.{product_below}
+use Rattle.plan_terms.{specs.Terms.Link, proofs.Lemmas.product_below}
 use Rattle.metric_cut.proofs.Pairs.{sum_more}
 use Rattle.metric_cut.proofs.own_bounds.fixed_along.Goals as goal
 

@@ -1,6 +1,5 @@
 use Rattle.std.proofs.Common.{◌≡◌, ◌⊎◌, Any}
-use Rattle.metric_cut.specs.inner.Ratios.{IsNoGreater, IsRatioOf, IsSmall}
-use Rattle.metric_cut.proofs.Leasts.{IsLeastBefore}
+use Rattle.metric_cut.{specs.inner.Ratios.{IsNoGreater, IsRatioOf, IsSmall}, proofs.Leasts.IsLeastBefore}
 use Rattle.metric_cut.proofs.ratio.link_ratio.Given as goal
 
 -- the least so far

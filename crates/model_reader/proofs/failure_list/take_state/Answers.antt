@@ -1,7 +1,5 @@
-use Rattle.text_kit.specs.Terms.{Parenthesis, no_fault}
-use Rattle.text_kit.proofs.Lemmas.{list_turn}
-use Rattle.model_reader.specs.FailuresReading.{state_at}
-use Rattle.model_reader.proofs.FailureLaws.{state_some}
+use Rattle.text_kit.{specs.Terms.{Parenthesis, no_fault}, proofs.Lemmas.list_turn}
+use Rattle.model_reader.{specs.FailuresReading.state_at, proofs.FailureLaws.state_some}
 use Rattle.model_reader.proofs.failure_list.take_state.Goals as goal
 
 pub returns-clause-turn : goal.returns-clause-turn

@@ -1,7 +1,6 @@
 use Rattle.std.proofs.Common.{◌≡◌, drop}
 use Rattle.net_core.specs.Terms.{are_same}
-use Rattle.model_reader.specs.Models.{key_word}
-use Rattle.model_reader.specs.ModelReading.{first_key}
+use Rattle.model_reader.{specs.Models.key_word, specs.ModelReading.first_key}
 use Rattle.model_reader.proofs.model_file.first_of.Given as goal
 
 -- no key so far has the word

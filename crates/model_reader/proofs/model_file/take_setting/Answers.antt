@@ -1,7 +1,5 @@
-use Rattle.text_kit.specs.Terms.{TheEnd}
-use Rattle.text_kit.proofs.Lemmas.{list_turn}
-use Rattle.model_reader.specs.ModelReading.{missing, setting_at}
-use Rattle.model_reader.proofs.ModelLaws.{setting_some}
+use Rattle.text_kit.{specs.Terms.TheEnd, proofs.Lemmas.list_turn}
+use Rattle.model_reader.{specs.ModelReading.{missing, setting_at}, proofs.ModelLaws.setting_some}
 use Rattle.model_reader.proofs.model_file.take_setting.Goals as goal
 
 pub returns-clause-turn : goal.returns-clause-turn

@@ -1,10 +1,7 @@
 use Rattle.std.proofs.Common.{◌≡◌, ◌∙◌, ◌+◌, Some, ap, arith, get_or, length, refl, slice_get, subst, sym, length-set}
 use Rattle.net_core.proofs.Library.{false≢true, slice_get_read, slice_get_within}
-use Rattle.module_choice.specs.inner.Cheapest.{AreCheapest}
-use Rattle.module_choice.specs.inner.Routes.{AlikeAreCovered}
-use Rattle.module_choice.proofs.SameModules.{TheseAreCovered, covered_set, these_set, these_skip}
+use Rattle.module_choice.{specs.inner.Cheapest.AreCheapest, specs.inner.Routes.AlikeAreCovered, proofs.SameModules.{TheseAreCovered, covered_set, these_set, these_skip}, proofs.alike.cover_by_table.Goals.{then-has_modules+in_ok-counts, else-has_modules}}
 use Rattle.module_choice.proofs.alike.cover_by_table.Goals as goal
-use Rattle.module_choice.proofs.alike.cover_by_table.Goals.{then-has_modules+in_ok-counts, else-has_modules}
 
 pub loop-e-preserved : goal.loop-e-preserved
 loop-e-preserved c =

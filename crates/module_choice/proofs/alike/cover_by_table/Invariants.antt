@@ -1,7 +1,6 @@
 use Rattle.std.proofs.Common.{◌≡◌, List, length}
 use Rattle.plan_terms.specs.Terms.{Module}
-use Rattle.module_choice.specs.inner.Routes.{AlikeAreCovered}
-use Rattle.module_choice.proofs.SameModules.{TheseAreCovered}
+use Rattle.module_choice.{specs.inner.Routes.AlikeAreCovered, proofs.SameModules.TheseAreCovered}
 use Rattle.module_choice.proofs.alike.cover_by_table.Given as goal
 
 -- the links so far that have the modules are covered, and those that were covered still are

@@ -1,10 +1,8 @@
 use Rattle.std.proofs.Common.{◌≡◌, ◌∙◌, ◌+◌, Some, ap, arith, length, refl, slice_get, subst, sym}
 use Rattle.net_core.proofs.Library.{slice_get_read, slice_get_within, all_written}
 use Rattle.plan_terms.specs.Terms.{Link}
-use Rattle.module_choice.specs.inner.Routes.{AlikeAreCovered}
-use Rattle.module_choice.proofs.SameModules.{AllCovered, covered_again, covered_next, needs_covered}
+use Rattle.module_choice.{specs.inner.Routes.AlikeAreCovered, proofs.SameModules.{AllCovered, covered_again, covered_next, needs_covered}, proofs.alike.cover_each.Goals.{then-not-has_earlier+in_ok-cover_alike, else-not-has_earlier}}
 use Rattle.module_choice.proofs.alike.cover_each.Goals as goal
-use Rattle.module_choice.proofs.alike.cover_each.Goals.{then-not-has_earlier+in_ok-cover_alike, else-not-has_earlier}
 
 pub loop-e-preserved : goal.loop-e-preserved
 loop-e-preserved c =

@@ -1,6 +1,5 @@
 use Rattle.std.proofs.Common.{◌<◌, ◌^◌, All, IfOk, ap, arith, get_or, subst, sym}
-use Rattle.module_choice.specs.Coverings.{CoverNeeds}
-use Rattle.module_choice.proofs.SameModules.{all_loads_covered, needs_small}
+use Rattle.module_choice.{specs.Coverings.CoverNeeds, proofs.SameModules.{all_loads_covered, needs_small}}
 use Rattle.module_choice.proofs.alike.cover_links.Goals as goal
 
 pub cover_each-requires-clause-small : goal.cover_each-requires-clause-small

@@ -1,9 +1,8 @@
 use Rattle.std.proofs.Common.{◌+◌, ◌<◌, arith, get_or, length, refl, subst, sym}
 use Rattle.net_core.proofs.Library.{slice_get-get_or}
 use Rattle.plan_terms.specs.Terms.{Module}
-use Rattle.module_choice.proofs.Choices.{IsBestSoFar, IsEnough, best_moves, best_of_all, best_stays}
+use Rattle.module_choice.{proofs.Choices.{IsBestSoFar, IsEnough, best_moves, best_of_all, best_stays}, proofs.covers.best_kind.Goals.{then-cost_of, else-cost_of}}
 use Rattle.module_choice.proofs.covers.best_kind.Goals as goal
-use Rattle.module_choice.proofs.covers.best_kind.Goals.{then-cost_of, else-cost_of}
 
 abbrev nothing : Module
 nothing = record { capacity = 0; cost = 0 }

@@ -1,7 +1,6 @@
 use Rattle.std.proofs.Common.{◌∙◌, ap, subst}
 use Rattle.plan_terms.specs.Terms.{link_cost}
-use Rattle.module_choice.specs.inner.Cheapest.{AreCheapest}
-use Rattle.module_choice.proofs.Setups.{cheapest_covering}
+use Rattle.module_choice.{specs.inner.Cheapest.AreCheapest, proofs.Setups.cheapest_covering}
 use Rattle.module_choice.proofs.covers.cover.Goals as goal
 
 pub returns : goal.returns

@@ -1,10 +1,6 @@
 use Rattle.std.proofs.Common.{◌≡◌, ◌*◌, ◌<◌, ◌-◌, ◌≤◌, IfOk, Some, arith, get_or, length, slice_get, subst}
 use Rattle.net_core.proofs.Library.{slice_get-get_or}
-use Rattle.module_choice.specs.declared.tables.Entry.{Entry}
-use Rattle.module_choice.specs.inner.Tables.{AreTaken}
-use Rattle.module_choice.proofs.Choices.{answers_also}
-use Rattle.module_choice.proofs.LeastCosts.{nothing}
-use Rattle.module_choice.proofs.Steps.{many_steps, table_cheapest}
+use Rattle.module_choice.{specs.declared.tables.Entry.Entry, specs.inner.Tables.AreTaken, proofs.Choices.answers_also, proofs.LeastCosts.nothing, proofs.Steps.{many_steps, table_cheapest}}
 use Rattle.module_choice.proofs.covers.cover_by.Goals as goal
 
 pub cover_by_kind-requires-clause-many : goal.cover_by_kind-requires-clause-many

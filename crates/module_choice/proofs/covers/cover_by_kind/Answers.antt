@@ -1,6 +1,5 @@
 use Rattle.std.proofs.Common.{subst, sym}
-use Rattle.module_choice.specs.inner.Cheapest.{AreCheapest}
-use Rattle.module_choice.proofs.Choices.{answers_also, best_cheapest}
+use Rattle.module_choice.{specs.inner.Cheapest.AreCheapest, proofs.Choices.{answers_also, best_cheapest}}
 use Rattle.module_choice.proofs.covers.cover_by_kind.Goals as goal
 
 pub returns : goal.returns

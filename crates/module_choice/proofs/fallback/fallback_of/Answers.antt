@@ -1,8 +1,7 @@
 use Rattle.std.proofs.Common.{◌≡◌, ◌<◌, ◌≤◌, ◌∙◌, ◌+◌, All, Some, ap, arith, get_or, length, slice_get, slice_index, subst, sym}
 use Rattle.net_core.proofs.Library.{slice_get_within}
 use Rattle.plan_terms.specs.Terms.{IsModule, case_of, raised}
-use Rattle.module_choice.specs.inner.Routes.{AreCovered, AreRouted}
-use Rattle.module_choice.proofs.Falling.{covered_narrow, covered_shape, falls, fixed_small, modules_sound, raised_positive, unserved}
+use Rattle.module_choice.{specs.inner.Routes.{AreCovered, AreRouted}, proofs.Falling.{covered_narrow, covered_shape, falls, fixed_small, modules_sound, raised_positive, unserved}}
 use Rattle.module_choice.proofs.fallback.fallback_of.Goals as goal
 
 pub route_states-requires-clause-long : goal.route_states-requires-clause-long

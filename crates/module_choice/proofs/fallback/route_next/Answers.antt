@@ -1,9 +1,8 @@
 use Rattle.std.proofs.Common.{◌≡◌, ◌∙◌, ◌+◌, List, ◌<◌, ◌^◌, ℕ, All, ap, arith, get_or, length, subst, sym}
 use Rattle.plan_terms.specs.Terms.{graph_in, Joins, case_of, Flow, LinkId, IsLeastRouting}
-use Rattle.module_choice.specs.inner.Routes.{AreRouted, weight}
-use Rattle.module_choice.proofs.Carrying.{few_flows, flows_small, least_flows, links_known, network_links, routed_more}
-use Rattle.module_choice.proofs.fallback.route_next.Goals as goal
 use Rattle.net_core.proofs.Networks.{few_nodes}
+use Rattle.module_choice.{specs.inner.Routes.{AreRouted, weight}, proofs.Carrying.{few_flows, flows_small, least_flows, links_known, network_links, routed_more}}
+use Rattle.module_choice.proofs.fallback.route_next.Goals as goal
 
 pub route_state-requires-clause-long : goal.route_state-requires-clause-long
 route_state-requires-clause-long c = c.requires.long c.len.result

@@ -1,6 +1,5 @@
 use Rattle.std.proofs.Common.{◌≡◌, ◌∷◌, ◌++◌, [], ◌∙◌, ap, arith, length, length-append, subst, sym}
-use Rattle.module_choice.specs.inner.Tables.{AreLeastCosts, IsNextEntry}
-use Rattle.module_choice.proofs.LeastCosts.{nothing, table_more, table_start}
+use Rattle.module_choice.{specs.inner.Tables.{AreLeastCosts, IsNextEntry}, proofs.LeastCosts.{nothing, table_more, table_start}}
 use Rattle.module_choice.proofs.tables.least_costs.Goals as goal
 
 pub loop-init : goal.loop-init

@@ -1,8 +1,7 @@
 use Rattle.std.proofs.Common.{◌+◌, arith, subst, sym}
 use Rattle.plan_terms.specs.Terms.{Module}
-use Rattle.module_prices.proofs.UnitCosts.{IsCheapestSoFar, cheapest_moves, cheapest_stays}
+use Rattle.module_prices.{proofs.UnitCosts.{IsCheapestSoFar, cheapest_moves, cheapest_stays}, proofs.cheapest.cheapest.Goals.{then-crossed, else-crossed}}
 use Rattle.module_prices.proofs.cheapest.cheapest.Goals as goal
-use Rattle.module_prices.proofs.cheapest.cheapest.Goals.{then-crossed, else-crossed}
 
 abbrev nothing : Module
 nothing = record { capacity = 0; cost = 0 }

@@ -1,8 +1,7 @@
 use Rattle.std.proofs.Common.{◌∙◌, ap, length, refl, subst, sym}
 use Rattle.net_core.proofs.Library.{slice_get_read}
 use Rattle.plan_terms.specs.Terms.{Link}
-use Rattle.module_prices.specs.inner.Dearest.{IsDearer}
-use Rattle.module_prices.proofs.UnitCosts.{dearest_more}
+use Rattle.module_prices.{specs.inner.Dearest.IsDearer, proofs.UnitCosts.dearest_more}
 use Rattle.module_prices.proofs.lengths.dearest.Goals as goal
 
 pub loop-e-preserved : goal.loop-e-preserved

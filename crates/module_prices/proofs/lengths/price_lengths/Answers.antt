@@ -1,7 +1,6 @@
 use Rattle.std.proofs.Common.{◌∙◌, length, subst}
 use Rattle.net_core.proofs.Library.{IfOk-weaker}
-use Rattle.module_prices.specs.inner.Dearest.{ArePriced, IsDearestSoFar}
-use Rattle.module_prices.proofs.UnitCosts.{priced_lengths}
+use Rattle.module_prices.{specs.inner.Dearest.{ArePriced, IsDearestSoFar}, proofs.UnitCosts.priced_lengths}
 use Rattle.module_prices.proofs.lengths.price_lengths.Goals as goal
 
 pub returns-clause-prices : goal.returns-clause-prices

@@ -1,5 +1,4 @@
-use Rattle.std.proofs.Common.{rules}
-use Rattle.std.proofs.lemmas.List.Edits.{map_over_more}
+use Rattle.std.{proofs.Common.rules, proofs.lemmas.List.Edits.map_over_more}
 use Rattle.net_core.specs.Settled.{without_setup}
 use Rattle.net_core.proofs.network.drop_setups.Goals as goal
 

@@ -1,6 +1,5 @@
 use Rattle.std.proofs.Common.{◌≡◌, [], take, drop}
-use Rattle.net_core.specs.Tests.{first_fault}
-use Rattle.net_core.specs.Network.{nodes_tests}
+use Rattle.net_core.{specs.Tests.first_fault, specs.Network.nodes_tests}
 use Rattle.net_core.proofs.network.first_node_fault.Given as goal
 
 -- the nodes so far have passed their tests

@@ -1,6 +1,5 @@
 use Rattle.std.proofs.Common.{◌≡◌, [], take, drop}
-use Rattle.net_core.specs.Tests.{first_fault}
-use Rattle.net_core.specs.States.{all_listed_tests}
+use Rattle.net_core.{specs.Tests.first_fault, specs.States.all_listed_tests}
 use Rattle.net_core.proofs.states.states_fault.Given as goal
 
 -- the states so far have passed their tests

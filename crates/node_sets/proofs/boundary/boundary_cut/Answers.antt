@@ -2,8 +2,7 @@ use Rattle.std.proofs.Common.{ap, cond, length, subst, ◌∙◌}
 use Rattle.net_core.proofs.Library.{length-map}
 use Rattle.plan_terms.specs.Terms.{graph_of, Link, Keeps}
 use Rattle.metric_cut.specs.Cuts.{IsCutOf, MayKeepCut}
-use Rattle.node_sets.specs.Boundaries.{boundary_lengths, crosses_boundary}
-use Rattle.node_sets.specs.inner.Members.{is_in}
+use Rattle.node_sets.{specs.Boundaries.{boundary_lengths, crosses_boundary}, specs.inner.Members.is_in}
 use Rattle.node_sets.proofs.boundary.boundary_cut.Goals as goal
 
 -- what the surviving graph gives is what it keeps of the lengths

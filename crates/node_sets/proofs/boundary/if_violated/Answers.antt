@@ -1,8 +1,7 @@
 use Rattle.net_core.proofs.Networks.{few_links}
 use Rattle.plan_terms.specs.Terms.{graph_of}
 use Rattle.metric_cut.proofs.Keepings.{kept_have_bound}
-use Rattle.node_sets.specs.inner.Members.{is_in}
-use Rattle.node_sets.proofs.Boundaries.{boundary_priced}
+use Rattle.node_sets.{specs.inner.Members.is_in, proofs.Boundaries.boundary_priced}
 use Rattle.node_sets.proofs.boundary.if_violated.Goals as goal
 
 pub returns-then-branch : goal.returns-then-branch

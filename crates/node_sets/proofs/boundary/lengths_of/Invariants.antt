@@ -1,6 +1,5 @@
 use Rattle.std.proofs.Common.{◌≡◌, take}
-use Rattle.node_sets.specs.Boundaries.{boundary_lengths}
-use Rattle.node_sets.specs.inner.Members.{is_in}
+use Rattle.node_sets.{specs.Boundaries.boundary_lengths, specs.inner.Members.is_in}
 use Rattle.node_sets.proofs.boundary.lengths_of.Given as goal
 
 -- the lengths so far are those of the links so far

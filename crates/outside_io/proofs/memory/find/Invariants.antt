@@ -1,6 +1,5 @@
 use Rattle.std.proofs.Common.{◌≡◌, drop}
-use Rattle.outside_io.specs.Outside.{content}
-use Rattle.outside_io.specs.Held.{files_of}
+use Rattle.outside_io.{specs.Outside.content, specs.Held.files_of}
 use Rattle.outside_io.proofs.memory.find.Given as goal
 
 -- the content of the name is that in the files from here on

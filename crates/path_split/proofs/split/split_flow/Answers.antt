@@ -1,8 +1,6 @@
 use Rattle.std.proofs.Common.{◌≡◌, ap, subst, arith, length}
 use Rattle.plan_terms.specs.Terms.{NodeId}
-use Rattle.path_split.specs.Balances.{IsFirstUnbalanced}
-use Rattle.path_split.specs.inner.Legs.{IsFirstUneven}
-use Rattle.path_split.proofs.Ending.{even_balanced, first_unbalanced, legs_few, legs_known, match_none, match_some, whole_split}
+use Rattle.path_split.{specs.Balances.IsFirstUnbalanced, specs.inner.Legs.IsFirstUneven, proofs.Ending.{even_balanced, first_unbalanced, legs_few, legs_known, match_none, match_some, whole_split}}
 use Rattle.path_split.proofs.split.split_flow.Goals as goal
 
 pub first_uneven-requires-clause-known : goal.first_uneven-requires-clause-known

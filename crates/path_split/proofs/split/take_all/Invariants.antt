@@ -1,6 +1,5 @@
 use Rattle.std.proofs.Common.{◌≡◌, ◌+◌, length, sum_by}
-use Rattle.path_split.specs.inner.Legs.{IsStar}
-use Rattle.path_split.specs.inner.Remains.{Remains, live}
+use Rattle.path_split.{specs.inner.Legs.IsStar, specs.inner.Remains.{Remains, live}}
 use Rattle.path_split.proofs.split.take_all.Given as goal
 
 -- what is left is balanced for what is left of the need

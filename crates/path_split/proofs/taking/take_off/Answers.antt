@@ -1,7 +1,6 @@
 use Rattle.std.proofs.Common.{ap, sym, ◌∙◌}
 use Rattle.net_core.proofs.Library.{at_drop_more}
-use Rattle.path_split.specs.inner.Trails.{less}
-use Rattle.path_split.proofs.Lessening.{enough_step}
+use Rattle.path_split.{specs.inner.Trails.less, proofs.Lessening.enough_step}
 use Rattle.path_split.proofs.taking.take_off.Goals as goal
 
 pub loop-k-preserved : goal.loop-k-preserved

@@ -1,6 +1,5 @@
 use Rattle.std.proofs.Common.{◌≡◌, ◌↔◌, ℕ, ◌<◌, count_by, get_or, length, not, true, false}
-use Rattle.path_split.specs.inner.Legs.{IsStar}
-use Rattle.path_split.specs.inner.Trails.{Has, IsWalk, froms}
+use Rattle.path_split.{specs.inner.Legs.IsStar, specs.inner.Trails.{Has, IsWalk, froms}}
 use Rattle.path_split.proofs.walk.find_walk.Given as goal
 
 -- a walk so far, of which the nodes that it leaves were seen

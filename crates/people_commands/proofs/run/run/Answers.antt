@@ -1,9 +1,7 @@
 use Rattle.std.proofs.Common.{◌≡◌, [], Err, inl, refl}
 use Rattle.check_answers.specs.declared.status.Status.TheVariants.{Done, NoMemory}
+use Rattle.people_commands.{specs.Endings.{EndsForPeople, memory_message}, proofs.Causing.{told_ends, told_fails}, proofs.Nothing.takes_nothing}
 use Rattle.people_files.specs.declared.stop.Halt.TheVariants as halt
-use Rattle.people_commands.specs.Endings.{EndsFront, memory_message}
-use Rattle.people_commands.proofs.Causing.{told_ends, told_fails}
-use Rattle.people_commands.proofs.Nothing.{takes_nothing}
 use Rattle.people_commands.proofs.run.run.Goals as goal
 
 pub returns-in-Err-NoMemory-clause-outcome : goal.returns-in-Err-NoMemory-clause-outcome
@@ -37,7 +35,7 @@ returns-in-Err-Told-clause-outcome g c =
       told.status,
       [],
       told.message,
-      told_ends (EndsFront c.args.words.now (g.S.Shelf.files c.args.shelf.now)) answer told is c.answer_words.ensures.ends,
+      told_ends (EndsForPeople c.args.words.now (g.S.Shelf.files c.args.shelf.now)) answer told is c.answer_words.ensures.ends,
       record { same = shelf.same; later = shelf.later; counted = λ failed. shelf.counted (told_fails answer told is failed) },
       inl (refl, takes_nothing (g.K.Sink.taken c.args.out.now), rw c.items-in-Err-Told.ensures at c.tell.ensures.tells),
     )

@@ -2,9 +2,8 @@ use Rattle.std.proofs.Common.{subst, sym, MatchResult}
 use Rattle.view_text.specs.Terms.{problem_case}
 use Rattle.people_views.specs.Terms.{IsFormOf}
 use Rattle.people_files.specs.Endings.{Halts}
-use Rattle.people_words.specs.AskedFronts.{asked_form}
-use Rattle.people_commands.specs.Endings.{AsksForm, LacksForm}
-use Rattle.people_commands.proofs.Viewing.{form_named, form_pictured}
+use Rattle.people_words.specs.AskedCommands.{asked_form}
+use Rattle.people_commands.{specs.Endings.{AsksForm, LacksForm}, proofs.Viewing.{form_named, form_pictured}}
 use Rattle.people_commands.proofs.view.form_of.Goals as goal
 
 pub returns-in-State : goal.returns-in-State

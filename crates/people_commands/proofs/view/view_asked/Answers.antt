@@ -1,11 +1,9 @@
 use Rattle.std.proofs.Common.{[], arith, inl, inr, refl}
 use Rattle.net_core.proofs.Library.{err_from_is_err_and}
 use Rattle.view_text.specs.Terms.{problem_case}
-use Rattle.people_files.specs.FrontInputs.{named_case}
-use Rattle.people_files.proofs.Causing.{front_map, halt_map}
-use Rattle.people_words.specs.AskedFronts.{asked_form}
-use Rattle.people_commands.specs.Endings.{LacksForm, ViewsAsked, ViewsFile}
-use Rattle.people_commands.proofs.Viewing.{lacks_read}
+use Rattle.people_files.{specs.CaseInputs.named_case, proofs.Causing.{cause_map, halt_map}}
+use Rattle.people_words.specs.AskedCommands.{asked_form}
+use Rattle.people_commands.{specs.Endings.{LacksForm, ViewsAsked, ViewsFile}, proofs.Viewing.lacks_read}
 use Rattle.people_commands.proofs.view.view_asked.Goals as goal
 
 pub returns-in_err-form-clause-ends : goal.returns-in_err-form-clause-ends
@@ -36,6 +34,6 @@ returns-clause-ends g c =
     let words = c.args.words.now in
     let network = (named_case words.case).files.network in
     let form = c.in_ok-form.form in
-    front_map (ViewsFile files form network words.report.now (problem_case problem) problem.net.notes)
+    cause_map (ViewsFile files form network words.report.now (problem_case problem) problem.net.notes)
     (ViewsAsked files (asked_form words.form) network words.report.now (problem_case problem) problem.net.notes) c.view_file.result
     (λ s t m ends. inr (form, c.in_ok-form.ensures.0, ends)) c.view_file.ensures.ends

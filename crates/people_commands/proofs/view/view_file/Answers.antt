@@ -2,11 +2,9 @@ use Rattle.std.proofs.Common.{[], inl, inr, refl}
 use Rattle.net_core.proofs.Library.{err_from_is_err_and}
 use Rattle.view_text.specs.Terms.{problem_case}
 use Rattle.input_files.specs.Inputs.{report_limit}
-use Rattle.people_files.specs.Messages.{FailsAtFetch}
-use Rattle.people_files.proofs.Causing.{front_map, halt_map}
+use Rattle.people_files.{specs.Messages.FailsAtFetch, proofs.Causing.{cause_map, halt_map}}
 use Rattle.people_views.specs.Terms.{EndsReport}
-use Rattle.people_commands.specs.Endings.{ViewsFile}
-use Rattle.people_commands.proofs.Viewing.{view_read}
+use Rattle.people_commands.{specs.Endings.ViewsFile, proofs.Viewing.view_read}
 use Rattle.people_commands.proofs.view.view_file.Goals as goal
 
 pub returns-in_err-bytes-clause-ends : goal.returns-in_err-bytes-clause-ends
@@ -23,7 +21,7 @@ returns-clause-ends g c =
     let files = g.S.Shelf.files c.args.shelf.now in
     let problem = c.args.problem.now in
     let bytes = c.in_ok-bytes.bytes in
-    front_map (EndsReport c.args.form c.args.network.now c.args.name.now (problem_case problem) problem.net.notes bytes)
+    cause_map (EndsReport c.args.form c.args.network.now c.args.name.now (problem_case problem) problem.net.notes bytes)
     (ViewsFile files c.args.form c.args.network.now c.args.name.now (problem_case problem) problem.net.notes) c.view_report.result
     (λ s t m ends. inr (bytes, c.in_ok-bytes.ensures.found, ends)) (rw c.items.ensures at c.view_report.ensures)
 

@@ -1,9 +1,8 @@
 use Rattle.std.proofs.Common.{[], inl, inr, refl}
 use Rattle.net_core.proofs.Library.{err_from_is_err_and}
 use Rattle.view_text.specs.Terms.{problem_case}
-use Rattle.people_files.specs.FrontInputs.{FailsAtInputs, named_case}
-use Rattle.people_files.proofs.Causing.{front_map, halt_map}
-use Rattle.people_words.specs.AskedFronts.{asked_form}
+use Rattle.people_files.{specs.CaseInputs.{FailsAtInputs, named_case}, proofs.Causing.{cause_map, halt_map}}
+use Rattle.people_words.specs.AskedCommands.{asked_form}
 use Rattle.people_commands.specs.Endings.{EndsView, ViewsAsked}
 use Rattle.people_commands.proofs.view.view_files.Goals as goal
 
@@ -23,7 +22,7 @@ returns-clause-ends g c =
     let w = named_case words.case in
     let form = asked_form words.form in
     let problem = c.in_ok-problem.problem in
-    front_map (ViewsAsked files form w.files.network words.report.now (problem_case problem) problem.net.notes)
+    cause_map (ViewsAsked files form w.files.network words.report.now (problem_case problem) problem.net.notes)
     (EndsView files w words.report.now form) c.view_asked.result
     (λ s t m ends. inr (problem.net, problem.demands, problem.states.listed, c.in_ok-problem.ensures.has, ends))
     (rw c.in_ok-problem.ensures.shelf.same at c.view_asked.ensures.ends)

@@ -1,12 +1,9 @@
 use Rattle.std.proofs.Common.{List, codes, ℕ}
-use Rattle.model_reader.specs.Terms.{model_word, model_of, SpellsModel}
-use Rattle.model_reader.specs.declared.model.Model.{Model}
+use Rattle.model_reader.{specs.Terms.{model_word, model_of, SpellsModel}, specs.declared.model.Model.Model}
 use Rattle.check_answers.specs.declared.status.Status.TheVariants.{BadModel}
 use Rattle.fault_messages.specs.Terms.{model_message, AreModelNotes}
 use Rattle.input_files.specs.Refusals.{refusal_line}
-use Rattle.people_files.specs.Messages.{ShowsPlace}
-use Rattle.people_files.proofs.Causing.{not_reading}
-use Rattle.people_files.proofs.Showing.{notes_at, reading_shown}
+use Rattle.people_files.{specs.Messages.ShowsPlace, proofs.Causing.not_reading, proofs.Showing.{notes_at, reading_shown}}
 use Rattle.people_files.proofs.inputs.model_of.Goals as goal
 
 pub returns-in_ok-notes-in-Err-Bad-clause-refused : goal.returns-in_ok-notes-in-Err-Bad-clause-refused

@@ -1,6 +1,5 @@
 use Rattle.net_core.proofs.Library.{err_from_is_err_and}
-use Rattle.people_files.specs.FrontInputs.{named_case}
-use Rattle.people_files.proofs.Loading.{failures_fail, model_fails}
+use Rattle.people_files.{specs.CaseInputs.named_case, proofs.Loading.{failures_fail, model_fails}}
 use Rattle.people_files.proofs.inputs.settled_case.Goals as goal
 
 pub returns-in_err-model-clause-ends : goal.returns-in_err-model-clause-ends

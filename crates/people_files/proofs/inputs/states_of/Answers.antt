@@ -4,9 +4,7 @@ use Rattle.plan_terms.specs.Terms.{Link, States}
 use Rattle.check_answers.specs.declared.status.Status.TheVariants.{BadFailures}
 use Rattle.fault_messages.specs.Terms.{failures_message, AreFailuresNotes}
 use Rattle.input_files.specs.Refusals.{refusal_line}
-use Rattle.people_files.specs.Messages.{ShowsPlace}
-use Rattle.people_files.proofs.Causing.{not_reading}
-use Rattle.people_files.proofs.Showing.{notes_at, reading_shown}
+use Rattle.people_files.{specs.Messages.ShowsPlace, proofs.Causing.not_reading, proofs.Showing.{notes_at, reading_shown}}
 use Rattle.people_files.proofs.inputs.states_of.Goals as goal
 
 pub returns-in_ok-notes-in-Err-Bad-clause-refused : goal.returns-in_ok-notes-in-Err-Bad-clause-refused

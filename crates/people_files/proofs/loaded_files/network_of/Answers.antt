@@ -3,9 +3,7 @@ use Rattle.check_answers.specs.declared.status.Status.TheVariants.{BadNetwork}
 use Rattle.sndlib_reader.specs.Kinds.{kind_word}
 use Rattle.fault_messages.specs.Notes.{AreNetworkNotes}
 use Rattle.input_files.specs.Refusals.{refusal_line}
-use Rattle.people_files.specs.Messages.{ShowsPlace}
-use Rattle.people_files.proofs.Causing.{not_reading}
-use Rattle.people_files.proofs.Showing.{network_shown, notes_at}
+use Rattle.people_files.{specs.Messages.ShowsPlace, proofs.Causing.not_reading, proofs.Showing.{network_shown, notes_at}}
 use Rattle.people_files.proofs.loaded_files.network_of.Goals as goal
 
 pub returns-in_ok-notes-in-Err-Bad-clause-refused : goal.returns-in_ok-notes-in-Err-Bad-clause-refused

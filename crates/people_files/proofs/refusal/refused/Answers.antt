@@ -1,7 +1,6 @@
 use Rattle.std.proofs.Common.{◌≡◌, ℕ, List, refl}
 use Rattle.input_files.specs.Refusals.{refusal_line}
-use Rattle.people_files.specs.Messages.{ShowsPlace}
-use Rattle.people_files.proofs.Causing.{told_so}
+use Rattle.people_files.{specs.Messages.ShowsPlace, proofs.Causing.told_so}
 use Rattle.people_files.proofs.refusal.refused.Goals as goal
 
 pub returns : goal.returns

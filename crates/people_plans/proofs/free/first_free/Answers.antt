@@ -1,8 +1,7 @@
-use Rattle.std.proofs.Common.{◌≡◌, ◌∙◌, ◌+◌, ◌<◌, ◌++◌, true, false, [], ◌∷◌, All, ap, arith, length, refl, subst, sym, take}
-use Rattle.std.proofs.lemmas.List.{take_all, take_more}
+use Rattle.std.{proofs.Common.{◌≡◌, ◌∙◌, ◌+◌, ◌<◌, ◌++◌, true, false, [], ◌∷◌, All, ap, arith, length, refl, subst, sym, take}, proofs.lemmas.List.{take_all, take_more}}
 use Rattle.net_core.proofs.Library.{slice_get_read, All-push}
 use Rattle.plan_terms.specs.Terms.{Link, Module}
-use Rattle.people_plans.specs.FrontPlans.{IsDearLink}
+use Rattle.people_plans.specs.PlansForPeople.{IsDearLink}
 use Rattle.people_plans.proofs.free.first_free.Goals as goal
 
 pub loop-link-preserved : goal.loop-link-preserved

@@ -1,5 +1,5 @@
 use Rattle.std.proofs.Common.{All, take}
-use Rattle.people_plans.specs.FrontPlans.{IsDearLink}
+use Rattle.people_plans.specs.PlansForPeople.{IsDearLink}
 use Rattle.people_plans.proofs.free.first_free.Given as goal
 
 -- all modules of the links so far cost something

@@ -1,8 +1,6 @@
-use Rattle.std.proofs.Common.{◌≡◌, [], inl}
-use Rattle.std.proofs.lemmas.Result.{IfOk-weaker}
+use Rattle.std.{proofs.Common.{◌≡◌, [], inl}, proofs.lemmas.Result.IfOk-weaker}
 use Rattle.check_answers.specs.declared.status.Status.TheVariants.{BadNetwork}
-use Rattle.people_plans.specs.FrontPlans.{free_link_message}
-use Rattle.people_plans.specs.declared.answer.PlanAnswer.{PlanAnswer}
+use Rattle.people_plans.{specs.PlansForPeople.free_link_message, specs.declared.answer.PlanAnswer.PlanAnswer}
 use Rattle.people_plans.proofs.plans.plan_for_people.Goals as goal
 
 pub returns-in-Some : goal.returns-in-Some

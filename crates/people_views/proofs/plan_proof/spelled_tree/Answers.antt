@@ -1,18 +1,13 @@
 use Rattle.std.proofs.Common.{◌≡◌, ℕ, [], Err, Result, codes, refl, subst, sym}
-use Rattle.text_kit.specs.Terms.{AnswersAs}
-use Rattle.text_kit.specs.declared.refusal.Refusal.{Refusal}
+use Rattle.text_kit.{specs.Terms.AnswersAs, specs.declared.refusal.Refusal.Refusal}
 use Rattle.plan_report.specs.Terms.{known_to}
-use Rattle.report_words.specs.Terms.{report_kind_word}
-use Rattle.report_words.specs.declared.fault.ReportKind.{ReportKind}
-use Rattle.tree_reader.specs.ReadingTrees.{Gives, tree_at}
-use Rattle.tree_reader.specs.Trees.{SpellsTree}
-use Rattle.tree_reader.specs.declared.tree.ReadTree.{ReadTree}
+use Rattle.report_words.{specs.Terms.report_kind_word, specs.declared.fault.ReportKind.ReportKind}
+use Rattle.tree_reader.{specs.ReadingTrees.{Gives, tree_at}, specs.Trees.SpellsTree, specs.declared.tree.ReadTree.ReadTree}
 use Rattle.check_answers.specs.declared.status.Status.TheVariants.{BadReport}
 use Rattle.fault_messages.specs.ReportMessages.{proof_message}
 use Rattle.view_text.specs.Terms.{problem_case}
+use Rattle.people_files.{proofs.Showing.fault_shown, specs.Messages.HasNoNotes}
 use Rattle.people_views.specs.ProofLines.{SpellsPlanTree, lines_begin}
-use Rattle.people_files.proofs.Showing.{fault_shown}
-use Rattle.people_files.specs.Messages.{HasNoNotes}
 use Rattle.people_views.proofs.plan_proof.spelled_tree.Goals as goal
 
 -- reading a tree ends with a refusal

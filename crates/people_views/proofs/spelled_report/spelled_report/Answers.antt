@@ -1,9 +1,7 @@
 use Rattle.std.proofs.Common.{◌≡◌, Err, Result, codes, subst}
-use Rattle.text_kit.specs.Terms.{AnswersAs, Fails}
-use Rattle.text_kit.specs.declared.refusal.Refusal.{Refusal}
+use Rattle.text_kit.{specs.Terms.{AnswersAs, Fails}, specs.declared.refusal.Refusal.Refusal}
 use Rattle.plan_report.specs.Terms.{SpellsReport, known_of, Report}
-use Rattle.report_words.specs.Terms.{report_kind_word}
-use Rattle.report_words.specs.declared.fault.ReportKind.{ReportKind}
+use Rattle.report_words.{specs.Terms.report_kind_word, specs.declared.fault.ReportKind.ReportKind}
 use Rattle.report_reader.specs.ReadingReport.{report_of}
 use Rattle.check_answers.specs.declared.status.Status.TheVariants.{BadReport}
 use Rattle.fault_messages.specs.Terms.{AreReportNotes, report_message}

@@ -1,7 +1,6 @@
 use Rattle.std.proofs.Common.{codes}
 use Rattle.text_kit.proofs.Lemmas.{on_ok}
-use Rattle.people_views.specs.StateForms.{state_hint}
-use Rattle.people_views.proofs.Joined.{three_joined}
+use Rattle.people_views.{specs.StateForms.state_hint, proofs.Joined.three_joined}
 use Rattle.people_views.proofs.states.put_unknown.Goals as goal
 
 pub returns : goal.returns

@@ -2,14 +2,14 @@ use Rattle.std.proofs.Common.{◌≡◌, [], inl, inr, refl}
 use Rattle.net_core.proofs.Library.{err_from_is_err_and}
 use Rattle.check_answers.specs.declared.status.Status.TheVariants.{Rejected}
 use Rattle.view_text.specs.Terms.{problem_case}
-use Rattle.people_files.proofs.Causing.{front_map, halt_map}
+use Rattle.people_files.proofs.Causing.{cause_map, halt_map}
 use Rattle.people_views.specs.ReportEnds.{TellsFinding, ViewsAccepted, ViewsReport}
 use Rattle.people_views.proofs.views.checked_view.Goals as goal
 
 pub returns : goal.returns
 returns c =
     let problem = c.args.problem.now in
-    front_map (ViewsAccepted c.args.form c.args.network.now c.args.name.now (problem_case problem) c.args.report.now c.args.bytes.now)
+    cause_map (ViewsAccepted c.args.form c.args.network.now c.args.name.now (problem_case problem) c.args.report.now c.args.bytes.now)
     (ViewsReport c.args.form c.args.network.now c.args.name.now (problem_case problem) problem.net.notes c.args.report.now c.args.bytes.now)
     c.accepted_view.result (λ s text message ends. inr (c.in_ok-accept.ensures.accepted, ends)) c.accepted_view.ensures
 

@@ -2,7 +2,7 @@ use Rattle.std.proofs.Common.{◌≡◌, [], inl, inr, refl}
 use Rattle.net_core.proofs.Library.{err_from_is_err_and}
 use Rattle.check_answers.specs.declared.status.Status.TheVariants.{BadReport}
 use Rattle.view_text.specs.Terms.{problem_case}
-use Rattle.people_files.proofs.Causing.{front_map, halt_map}
+use Rattle.people_files.proofs.Causing.{cause_map, halt_map}
 use Rattle.people_views.specs.ReportEnds.{EndsReport, ShowsReportFault, ViewsReport}
 use Rattle.people_views.proofs.views.view_report.Goals as goal
 
@@ -10,7 +10,7 @@ pub returns : goal.returns
 returns c =
     let problem = c.args.problem.now in
     let r = c.in_ok-report.report in
-    front_map (ViewsReport c.args.form c.args.network.now c.args.name.now (problem_case problem) problem.net.notes r c.args.bytes.now)
+    cause_map (ViewsReport c.args.form c.args.network.now c.args.name.now (problem_case problem) problem.net.notes r c.args.bytes.now)
     (EndsReport c.args.form c.args.network.now c.args.name.now (problem_case problem) problem.net.notes c.args.bytes.now)
     c.checked_view.result (λ s text message ends. inr (r, c.in_ok-report.ensures.spelled, ends)) c.checked_view.ensures
 

@@ -1,9 +1,7 @@
 use Rattle.std.proofs.Common.{◌∙◌, map, sym}
 use Rattle.net_core.proofs.Library.{false≢true}
-use Rattle.people_words.specs.inner.Causes.{given_option}
-use Rattle.people_words.proofs.WordCommands.{no_word_command}
+use Rattle.people_words.{specs.inner.Causes.given_option, proofs.WordCommands.no_word_command, proofs.command.word_command.Goals.{else-is_word-via-then-is_word+else-takes_options, else-is_word-via-else-is_word, else-is_word-2-via-then-is_word-2+else-takes_options-2, else-is_word-2-via-else-is_word-2, else-is_word-3-via-then-is_word-3+else-takes_options-3, else-is_word-3-via-else-is_word-3}}
 use Rattle.people_words.proofs.command.word_command.Goals as goal
-use Rattle.people_words.proofs.command.word_command.Goals.{else-is_word-via-then-is_word+else-takes_options, else-is_word-via-else-is_word, else-is_word-2-via-then-is_word-2+else-takes_options-2, else-is_word-2-via-else-is_word-2, else-is_word-3-via-then-is_word-3+else-takes_options-3, else-is_word-3-via-else-is_word-3}
 
 pub returns-then-takes_options-2 : goal.returns-then-takes_options-2
 returns-then-takes_options-2 c = (c.is_word-2.ensures.0 c.if-is_word-2.true, c.takes_options-then-is_word-2.ensures.0 c.if-takes_options-2.true, c.in_ok-plan.ensures)

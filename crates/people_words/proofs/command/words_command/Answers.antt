@@ -1,6 +1,5 @@
 use Rattle.std.proofs.Common.{map, string_bytes}
-use Rattle.people_words.specs.inner.Causes.{given_names, given_options}
-use Rattle.people_words.proofs.GivenCommands.{parts_given}
+use Rattle.people_words.{specs.inner.Causes.{given_names, given_options}, proofs.GivenCommands.parts_given}
 use Rattle.people_words.proofs.command.words_command.Goals as goal
 
 pub returns-in-Ok-Some : goal.returns-in-Ok-Some

@@ -1,8 +1,6 @@
 use Rattle.std.proofs.Common.{◌≡◌, ◌∙◌, ◌+◌, ◌∷◌, List, String, ap, drop, map, refl, string_bytes, subst, sym, Global}
 use Rattle.net_core.proofs.Library.{at_drop_more, drop_all}
-use Rattle.people_words.specs.declared.given.Awaited.TheVariants.{Word, Names}
-use Rattle.people_words.specs.inner.Causes.{ReadsOn, given_names, given_options}
-use Rattle.people_words.proofs.Reading.{are_all, leads_word}
+use Rattle.people_words.{specs.declared.given.Awaited.TheVariants.{Word, Names}, specs.inner.Causes.{ReadsOn, given_names, given_options}, proofs.Reading.{are_all, leads_word}}
 use Rattle.people_words.proofs.given.given_by.Goals as goal
 
 pub loop-word-preserved : goal.loop-word-preserved

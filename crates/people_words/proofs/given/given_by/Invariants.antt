@@ -1,6 +1,5 @@
 use Rattle.std.proofs.Common.{drop, map, string_bytes}
-use Rattle.people_words.specs.declared.given.Awaited.TheVariants.{Word}
-use Rattle.people_words.specs.inner.Causes.{ReadsOn, given_names, given_options}
+use Rattle.people_words.{specs.declared.given.Awaited.TheVariants.Word, specs.inner.Causes.{ReadsOn, given_names, given_options}}
 use Rattle.people_words.proofs.given.given_by.Given as goal
 
 -- the words so far give what is given, and then those that are left come

@@ -1,6 +1,5 @@
 use Rattle.std.proofs.Common.{[], ◌∷◌, refl, sym, append-nil}
-use Rattle.people_words.specs.inner.Causes.{given_names, given_option, given_options}
-use Rattle.people_words.proofs.Reading.{names_lead, one_more}
+use Rattle.people_words.{specs.inner.Causes.{given_names, given_option, given_options}, proofs.Reading.{names_lead, one_more}}
 use Rattle.people_words.proofs.given.take.Goals as goal
 
 pub returns-in_ok-push-in-Value : goal.returns-in_ok-push-in-Value

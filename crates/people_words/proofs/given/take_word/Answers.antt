@@ -1,6 +1,5 @@
 use Rattle.std.proofs.Common.{[], ◌∷◌, inr, sym, append-nil}
-use Rattle.people_words.specs.inner.Causes.{given_names, given_option, given_options}
-use Rattle.people_words.proofs.Reading.{end_leads, flag_leads, name_leads, one_more, valued_back}
+use Rattle.people_words.{specs.inner.Causes.{given_names, given_option, given_options}, proofs.Reading.{end_leads, flag_leads, name_leads, one_more, valued_back}}
 use Rattle.people_words.proofs.given.take_word.Goals as goal
 
 pub returns-in_ok-push-in-Name : goal.returns-in_ok-push-in-Name

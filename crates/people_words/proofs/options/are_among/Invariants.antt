@@ -1,6 +1,5 @@
 use Rattle.std.proofs.Common.{◌≡◌, drop, map}
-use Rattle.people_words.specs.GivenWords.{are_among}
-use Rattle.people_words.specs.inner.Causes.{given_option}
+use Rattle.people_words.{specs.GivenWords.are_among, specs.inner.Causes.given_option}
 use Rattle.people_words.proofs.options.are_among.Given as goal
 
 -- all are among these where those that are left are

@@ -1,6 +1,5 @@
 use Rattle.std.proofs.Common.{◌≡◌, drop, map}
-use Rattle.people_words.specs.GivenWords.{are_once}
-use Rattle.people_words.specs.inner.Causes.{given_option}
+use Rattle.people_words.{specs.GivenWords.are_once, specs.inner.Causes.given_option}
 use Rattle.people_words.proofs.options.are_once.Given as goal
 
 -- each is given once at most where those that are left are

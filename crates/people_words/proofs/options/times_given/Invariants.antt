@@ -1,6 +1,5 @@
 use Rattle.std.proofs.Common.{◌≡◌, ◌≤◌, ◌+◌, drop, map}
-use Rattle.people_words.specs.GivenWords.{times_given}
-use Rattle.people_words.specs.inner.Causes.{given_option}
+use Rattle.people_words.{specs.GivenWords.times_given, specs.inner.Causes.given_option}
 use Rattle.people_words.proofs.options.times_given.Given as goal
 
 -- with the times among those that are left it is all times

@@ -1,6 +1,5 @@
 use Rattle.std.proofs.Common.{◌≡◌, drop, map}
-use Rattle.people_words.specs.GivenWords.{value_given}
-use Rattle.people_words.specs.inner.Causes.{given_option}
+use Rattle.people_words.{specs.GivenWords.value_given, specs.inner.Causes.given_option}
 use Rattle.people_words.proofs.options.value_given.Given as goal
 
 -- the value is that among those that are left

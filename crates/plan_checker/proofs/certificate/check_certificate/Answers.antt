@@ -1,7 +1,6 @@
 use Rattle.std.proofs.Common.{List, All, OnOk, ◌<◌, ◌^◌, ◌∙◌, subst}
 use Rattle.plan_terms.specs.Terms.{graph_in, Joins, case_of, AreKept, IsRight, given, raw_value, IsBound, IsLowest}
-use Rattle.plan_types.specs.Terms.{lines_of_certificate}
-use Rattle.plan_types.specs.declared.certificate.CertLine.{CertLine}
+use Rattle.plan_types.{specs.Terms.lines_of_certificate, specs.declared.certificate.CertLine.CertLine}
 use Rattle.plan_checker.proofs.Certifying.{certified_by}
 use Rattle.plan_checker.proofs.certificate.check_certificate.Goals as goal
 

@@ -1,12 +1,7 @@
 use Rattle.std.proofs.Common.{◌≡◌, ◌∙◌, ℕ, List, Option, None, Some, subst}
 use Rattle.plan_terms.specs.Terms.{Link}
-use Rattle.plan_types.specs.Terms.{lines_of_certificate}
-use Rattle.plan_types.specs.declared.certificate.CertLine.{CertLine}
-use Rattle.plan_checker.specs.Certified.{IsOverpriced}
-use Rattle.plan_checker.specs.inner.Lines.{certified}
-use Rattle.plan_checker.specs.inner.Tests.{IsFirstPair}
-use Rattle.plan_checker.specs.declared.place.Place.{Place}
-use Rattle.plan_checker.proofs.Telling.{no_price}
+use Rattle.plan_types.{specs.Terms.lines_of_certificate, specs.declared.certificate.CertLine.CertLine}
+use Rattle.plan_checker.{specs.Certified.IsOverpriced, specs.inner.Lines.certified, specs.inner.Tests.IsFirstPair, specs.declared.place.Place.Place, proofs.Telling.no_price}
 use Rattle.plan_checker.proofs.certificate.check_prices.Goals as goal
 
 -- what a search found of lent links and lines holds of those that they are lent from

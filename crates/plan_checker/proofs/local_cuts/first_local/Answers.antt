@@ -2,8 +2,7 @@ use Rattle.std.proofs.Common.{refl}
 use Rattle.net_core.proofs.Library.{false≢true}
 use Rattle.plan_terms.specs.Terms.{graph_in, case_of, AreKept}
 use Rattle.plan_types.specs.declared.certificate.CertLine.{CertLine}
-use Rattle.plan_checker.specs.Certified.{IsLocalCut}
-use Rattle.plan_checker.proofs.Places.{all_held, each_more, none_at_all, none_more}
+use Rattle.plan_checker.{specs.Certified.IsLocalCut, proofs.Places.{all_held, each_more, none_at_all, none_more}}
 use Rattle.plan_checker.proofs.local_cuts.first_local.Goals as goal
 
 pub loop-i-preserved : goal.loop-i-preserved

@@ -1,7 +1,6 @@
 use Rattle.std.proofs.Common.{ℕ, ◌<◌}
 use Rattle.plan_terms.specs.Terms.{graph_in, case_of, AreKept}
-use Rattle.plan_checker.specs.Certified.{IsLocalCut}
-use Rattle.plan_checker.specs.Places.{HoldsAt}
+use Rattle.plan_checker.{specs.Certified.IsLocalCut, specs.Places.HoldsAt}
 use Rattle.plan_checker.proofs.local_cuts.first_local.Given as goal
 
 -- the lines so far are allowed

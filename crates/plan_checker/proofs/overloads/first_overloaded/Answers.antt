@@ -1,8 +1,7 @@
 use Rattle.std.proofs.Common.{subst, sym}
 use Rattle.plan_terms.specs.Terms.{load}
 use Rattle.module_choice.specs.inner.Routes.{weight}
-use Rattle.plan_checker.specs.inner.Mixed.{AreMixed}
-use Rattle.plan_checker.proofs.FlowSums.{mixed_same}
+use Rattle.plan_checker.{specs.inner.Mixed.AreMixed, proofs.FlowSums.mixed_same}
 use Rattle.plan_checker.proofs.overloads.first_overloaded.Goals as goal
 
 pub returns : goal.returns

@@ -1,11 +1,7 @@
 use Rattle.std.proofs.Common.{ℕ, ◌≡◌, ◌*◌, ◌<◌, List, subst, sym, arith}
 use Rattle.plan_terms.specs.Terms.{case_of, Routing, load}
-use Rattle.plan_checker.specs.Carried.{IsOverloaded}
-use Rattle.plan_checker.specs.Places.{HoldsAt}
 use Rattle.module_choice.specs.inner.Routes.{weight}
-use Rattle.plan_checker.specs.inner.Tests.{IsFirstPlace}
-use Rattle.plan_checker.proofs.Carrying.{loads_are}
-use Rattle.plan_checker.proofs.Places.{groups_more, held_here, held_within, holds_here}
+use Rattle.plan_checker.{specs.Carried.IsOverloaded, specs.Places.HoldsAt, specs.inner.Tests.IsFirstPlace, proofs.Carrying.loads_are, proofs.Places.{groups_more, held_here, held_within, holds_here}}
 use Rattle.plan_checker.proofs.overloads.overloaded.Goals as goal
 
 -- link j is overloaded by a routing

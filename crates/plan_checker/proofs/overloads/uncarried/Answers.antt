@@ -1,9 +1,6 @@
 use Rattle.std.proofs.Common.{ℕ, ◌≢◌, ◌*◌, List, subst, arith}
 use Rattle.plan_terms.specs.Terms.{case_of, Demand, Routing, sent}
-use Rattle.plan_checker.specs.Carried.{IsUncarried}
-use Rattle.plan_checker.specs.Places.{HoldsAt, IsLeastPlace}
-use Rattle.plan_checker.specs.inner.Tests.{IsFirstPlace}
-use Rattle.plan_checker.proofs.Places.{groups_more, held_here, held_within, holds_here}
+use Rattle.plan_checker.{specs.Carried.IsUncarried, specs.Places.{HoldsAt, IsLeastPlace}, specs.inner.Tests.IsFirstPlace, proofs.Places.{groups_more, held_here, held_within, holds_here}}
 use Rattle.plan_checker.proofs.overloads.uncarried.Goals as goal
 
 -- demand j isn't carried by a routing

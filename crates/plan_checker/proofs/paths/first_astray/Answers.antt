@@ -1,7 +1,6 @@
 use Rattle.std.proofs.Common.{refl}
 use Rattle.plan_terms.specs.Terms.{Joins, graph_of}
-use Rattle.plan_checker.specs.Carried.{FollowsPath}
-use Rattle.plan_checker.proofs.Places.{all_held, each_more, none_at_all, none_more}
+use Rattle.plan_checker.{specs.Carried.FollowsPath, proofs.Places.{all_held, each_more, none_at_all, none_more}}
 use Rattle.plan_checker.proofs.paths.first_astray.Goals as goal
 
 pub loop-f-preserved : goal.loop-f-preserved

@@ -1,7 +1,6 @@
 use Rattle.std.proofs.Common.{ℕ, ◌<◌}
 use Rattle.plan_terms.specs.Terms.{Joins, graph_of}
-use Rattle.plan_checker.specs.Carried.{FollowsPath}
-use Rattle.plan_checker.specs.Places.{HoldsAt}
+use Rattle.plan_checker.{specs.Carried.FollowsPath, specs.Places.HoldsAt}
 use Rattle.plan_checker.proofs.paths.first_astray.Given as goal
 
 -- the flows so far follow paths

@@ -1,8 +1,6 @@
 use Rattle.std.proofs.Common.{subst, sym}
 use Rattle.plan_terms.specs.Terms.{case, case_of}
-use Rattle.plan_checker.specs.PlanFindings.{HoldsDemandsDiffer, own_findings}
-use Rattle.plan_checker.specs.inner.Tests.{TellFirst}
-use Rattle.plan_checker.proofs.Firsts.{told_later}
+use Rattle.plan_checker.{specs.PlanFindings.{HoldsDemandsDiffer, own_findings}, specs.inner.Tests.TellFirst, proofs.Firsts.told_later}
 use Rattle.plan_checker.proofs.plan.check_instance.Goals as goal
 
 pub check_own-requires-clause-demands : goal.check_own-requires-clause-demands

@@ -2,8 +2,7 @@ use Rattle.std.proofs.Common.{List, Some, ◌≡◌, slice_get, subst, sym}
 use Rattle.plan_terms.specs.Terms.{case_of, Routing, capacities}
 use Rattle.plan_report.specs.Terms.{known_to, AreRoutingsInForm}
 use Rattle.module_choice.proofs.Pairs.{capacities_long}
-use Rattle.plan_checker.proofs.Carrying.{carries_by}
-use Rattle.plan_checker.proofs.Firsts.{on_ok}
+use Rattle.plan_checker.{proofs.Carrying.carries_by, proofs.Firsts.on_ok}
 use Rattle.plan_checker.proofs.plan.check_own.Goals as goal
 
 pub returns-clause-sound : goal.returns-clause-sound

@@ -1,5 +1,4 @@
-use Rattle.plan_terms.specs.Terms.{case}
-use Rattle.plan_terms.proofs.Lemmas.{weak_duality}
+use Rattle.plan_terms.{specs.Terms.case, proofs.Lemmas.weak_duality}
 use Rattle.plan_types.specs.Terms.{lines_of_certificate}
 use Rattle.plan_checker.proofs.plan.check_plan.Goals as goal
 

@@ -1,5 +1,4 @@
-use Rattle.std.proofs.Math.Nat.{div-lt_iff_lt-mul}
-use Rattle.std.proofs.lemmas.Bool.{lt-ltb, ltb-true}
+use Rattle.std.{proofs.Math.Nat.div-lt_iff_lt-mul, proofs.lemmas.Bool.{lt-ltb, ltb-true}}
 use Rattle.plan_checker.proofs.prices.is_overpriced.Goals as goal
 
 pub returns : goal.returns

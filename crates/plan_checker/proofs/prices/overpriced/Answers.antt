@@ -1,9 +1,6 @@
 use Rattle.std.proofs.Common.{ℕ, ◌*◌, ◌<◌, List, get_or, subst, arith}
 use Rattle.plan_terms.specs.Terms.{Link, Module, price}
-use Rattle.plan_checker.specs.Certified.{IsOverpriced}
-use Rattle.plan_checker.specs.Places.{HoldsAt, IsLeastPlace}
-use Rattle.plan_checker.specs.inner.Lines.{certified}
-use Rattle.plan_checker.proofs.Places.{groups_more, held_read, held_within, holds_read}
+use Rattle.plan_checker.{specs.Certified.IsOverpriced, specs.Places.{HoldsAt, IsLeastPlace}, specs.inner.Lines.certified, proofs.Places.{groups_more, held_read, held_within, holds_read}}
 use Rattle.plan_checker.proofs.prices.overpriced.Goals as goal
 
 -- the price of module m is more than its cost

@@ -1,6 +1,5 @@
 use Rattle.std.proofs.Common.{ℕ, ◌<◌}
-use Rattle.plan_checker.specs.Certified.{IsOverpriced}
-use Rattle.plan_checker.specs.inner.Lines.{certified}
+use Rattle.plan_checker.{specs.Certified.IsOverpriced, specs.inner.Lines.certified}
 use Rattle.plan_checker.proofs.prices.overpriced.Given as goal
 
 -- the prices of the modules of the links so far are within their costs

@@ -1,11 +1,8 @@
 use Rattle.std.proofs.Common.{◌∙◌, subst, sym}
-use Rattle.plan_terms.specs.Terms.{graph_in, Joins, case_of, IsRight}
+use Rattle.plan_terms.{specs.Terms.{graph_in, Joins, case_of, IsRight}, proofs.Lemmas.right_once}
 use Rattle.plan_types.specs.declared.certificate.CertLine.{CertLine}
-use Rattle.plan_checker.specs.Certified.{HasStaleRight}
-use Rattle.plan_checker.proofs.Places.{all_held, each_read, none_at_all, none_read}
-use Rattle.plan_checker.proofs.Telling.{no_right}
+use Rattle.plan_checker.{specs.Certified.HasStaleRight, proofs.Places.{all_held, each_read, none_at_all, none_read}, proofs.Telling.no_right}
 use Rattle.plan_checker.proofs.rights.check_rights.Goals as goal
-use Rattle.plan_terms.proofs.Lemmas.{right_once}
 
 pub loop-i-preserved : goal.loop-i-preserved
 loop-i-preserved c =

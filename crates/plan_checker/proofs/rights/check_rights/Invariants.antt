@@ -1,7 +1,6 @@
 use Rattle.std.proofs.Common.{ℕ, ◌<◌}
 use Rattle.plan_terms.specs.Terms.{graph_in, Joins, case_of, IsRight}
-use Rattle.plan_checker.specs.Certified.{HasStaleRight}
-use Rattle.plan_checker.specs.Places.{HoldsAt}
+use Rattle.plan_checker.{specs.Certified.HasStaleRight, specs.Places.HoldsAt}
 use Rattle.plan_checker.proofs.rights.check_rights.Given as goal
 
 -- the lines so far have the right sides of their cuts

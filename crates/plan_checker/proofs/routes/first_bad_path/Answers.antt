@@ -1,9 +1,7 @@
 use Rattle.std.proofs.Common.{ℕ, All, List, get_or, subst, arith}
 use Rattle.net_core.proofs.Library.{slice_get_within}
 use Rattle.plan_terms.specs.Terms.{graph_in, Joins, case_of, Demand, Flow, Routing}
-use Rattle.plan_checker.specs.Carried.{FollowsPath, HasBadPath}
-use Rattle.plan_checker.specs.Places.{HoldsAt, IsLeastPlace}
-use Rattle.plan_checker.proofs.Places.{each_read, groups_more, held_at, held_read, held_within, holds_read}
+use Rattle.plan_checker.{specs.Carried.{FollowsPath, HasBadPath}, specs.Places.{HoldsAt, IsLeastPlace}, proofs.Places.{each_read, groups_more, held_at, held_read, held_within, holds_read}}
 use Rattle.plan_checker.proofs.routes.first_bad_path.Goals as goal
 
 pub loop-s-preserved : goal.loop-s-preserved

@@ -1,7 +1,6 @@
 use Rattle.std.proofs.Common.{ℕ, ◌<◌, All}
 use Rattle.plan_terms.specs.Terms.{graph_in, Joins, case_of}
-use Rattle.plan_checker.specs.Carried.{FollowsPath, HasBadPath}
-use Rattle.plan_checker.specs.Places.{HoldsAt}
+use Rattle.plan_checker.{specs.Carried.{FollowsPath, HasBadPath}, specs.Places.HoldsAt}
 use Rattle.plan_checker.proofs.routes.first_bad_path.Given as goal
 
 -- the flows of the states so far follow paths

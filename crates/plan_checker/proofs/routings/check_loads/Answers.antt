@@ -1,10 +1,7 @@
 use Rattle.std.proofs.Common.{ℕ, List, Option, None, Some, ◌≡◌, ◌∙◌, ap, length, subst}
 use Rattle.plan_terms.specs.Terms.{Routing}
-use Rattle.plan_checker.specs.Carried.{IsOverloaded}
-use Rattle.plan_checker.specs.inner.Tests.{IsFirstPair}
-use Rattle.plan_checker.specs.declared.place.Place.{Place}
 use Rattle.module_choice.proofs.Pairs.{capacities_long}
-use Rattle.plan_checker.proofs.Telling.{no_overloaded}
+use Rattle.plan_checker.{specs.Carried.IsOverloaded, specs.inner.Tests.IsFirstPair, specs.declared.place.Place.Place, proofs.Telling.no_overloaded}
 use Rattle.plan_checker.proofs.routings.check_loads.Goals as goal
 
 pub overloaded-requires-clause-count : goal.overloaded-requires-clause-count

@@ -1,8 +1,6 @@
 use Rattle.std.proofs.Common.{subst}
 use Rattle.plan_terms.specs.Terms.{case_of}
-use Rattle.plan_checker.specs.Carried.{IsUncarried}
-use Rattle.plan_checker.specs.inner.Tests.{IsFirstPair}
-use Rattle.plan_checker.proofs.Telling.{no_uncarried}
+use Rattle.plan_checker.{specs.Carried.IsUncarried, specs.inner.Tests.IsFirstPair, proofs.Telling.no_uncarried}
 use Rattle.plan_checker.proofs.routings.check_sums.Goals as goal
 
 pub returns-clause-told : goal.returns-clause-told

@@ -1,6 +1,5 @@
 use Rattle.std.proofs.Common.{◌^◌, inl, inr, refl, subst, sym, ◌∙◌, arith}
-use Rattle.plan_terms.specs.Terms.{IsUnitPair}
-use Rattle.plan_terms.proofs.Lemmas.{product_below}
+use Rattle.plan_terms.{specs.Terms.IsUnitPair, proofs.Lemmas.product_below}
 use Rattle.module_prices.proofs.UnitPairs.{pair_small}
 use Rattle.plan_checker.proofs.share.share_of.Goals as goal
 

@@ -1,8 +1,7 @@
 use Rattle.std.proofs.Common.{List, [], ◌∷◌, ℕ, ◌+◌, ◌<◌, ◌^◌, All, get_or, subst, sym, arith}
 use Rattle.net_core.proofs.Library.{All-append, All-from_recursion}
 use Rattle.plan_terms.specs.Terms.{Link}
-use Rattle.plan_checker.specs.Shares.{IsShareOf}
-use Rattle.plan_checker.proofs.SharesKept.{GivesBefore, share_all, share_more}
+use Rattle.plan_checker.{specs.Shares.IsShareOf, proofs.SharesKept.{GivesBefore, share_all, share_more}}
 use Rattle.plan_checker.proofs.share.whole_share.Goals as goal
 
 pub loop-e-preserved : goal.loop-e-preserved

@@ -1,7 +1,6 @@
 use Rattle.std.proofs.Common.{take, subst, ◌+◌, ◌*◌}
 use Rattle.module_choice.specs.inner.Routes.{times, weight}
-use Rattle.plan_checker.specs.inner.Mixed.{AreMixed}
-use Rattle.plan_checker.proofs.FlowSums.{mixed_same, weight_more}
+use Rattle.plan_checker.{specs.inner.Mixed.AreMixed, proofs.FlowSums.{mixed_same, weight_more}}
 use Rattle.plan_checker.proofs.sums.add_loads.Goals as goal
 
 pub loop-f-preserved : goal.loop-f-preserved

@@ -1,8 +1,7 @@
 use Rattle.std.proofs.Common.{take, subst, ◌+◌, ◌*◌, take_all}
 use Rattle.plan_terms.specs.Terms.{LinkId}
 use Rattle.module_choice.specs.inner.Routes.{times}
-use Rattle.plan_checker.specs.inner.Mixed.{AreMixed}
-use Rattle.plan_checker.proofs.FlowSums.{mixed_same, times_more}
+use Rattle.plan_checker.{specs.inner.Mixed.AreMixed, proofs.FlowSums.{mixed_same, times_more}}
 use Rattle.plan_checker.proofs.sums.add_path.Goals as goal
 
 abbrev first_link : LinkId

@@ -1,6 +1,5 @@
 use Rattle.std.proofs.Common.{◌≢◌, ℕ, ◌*◌, ◌<◌}
-use Rattle.plan_checker.specs.Places.{HoldsAt}
-use Rattle.plan_checker.specs.inner.Mixed.{AreMixed}
+use Rattle.plan_checker.{specs.Places.HoldsAt, specs.inner.Mixed.AreMixed}
 use Rattle.plan_checker.proofs.sums.first_other.Given as goal
 
 -- the sums so far are the needs

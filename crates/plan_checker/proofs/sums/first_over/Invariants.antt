@@ -1,6 +1,5 @@
 use Rattle.std.proofs.Common.{ℕ, ◌*◌, ◌<◌}
-use Rattle.plan_checker.specs.Places.{HoldsAt}
-use Rattle.plan_checker.specs.inner.Mixed.{AreMixed}
+use Rattle.plan_checker.{specs.Places.HoldsAt, specs.inner.Mixed.AreMixed}
 use Rattle.plan_checker.proofs.sums.first_over.Given as goal
 
 -- the loads so far are within the numbers

@@ -1,11 +1,7 @@
 use Rattle.std.proofs.Common.{Option, IfNone, refl, subst}
 use Rattle.net_core.proofs.Library.{false≢true}
 use Rattle.plan_terms.specs.Terms.{case_of}
-use Rattle.plan_checker.specs.Carried.{IsOverloaded, IsUncarried}
-use Rattle.plan_checker.specs.inner.Routes.{FollowPaths}
-use Rattle.plan_checker.specs.declared.place.Place.{Place}
-use Rattle.plan_checker.proofs.Carrying.{carried_by, not_over, not_unmet}
-use Rattle.plan_checker.proofs.Firsts.{none_pair, some_pair}
+use Rattle.plan_checker.{specs.Carried.{IsOverloaded, IsUncarried}, specs.inner.Routes.FollowPaths, specs.declared.place.Place.Place, proofs.Carrying.{carried_by, not_over, not_unmet}, proofs.Firsts.{none_pair, some_pair}}
 use Rattle.plan_checker.proofs.tight.are_carried.Goals as goal
 
 pub returns-in-Some-unmet : goal.returns-in-Some-unmet

@@ -1,8 +1,7 @@
 use Rattle.std.proofs.Common.{List, ℕ, ◌↔◌, IfOk, IsTrue, ◌∙◌, refl, subst}
 use Rattle.net_core.proofs.Library.{false≢true, modules_sound}
 use Rattle.plan_terms.specs.Terms.{case_of, Link, Routing}
-use Rattle.plan_checker.specs.Shares.{AreCarried, GivesShare}
-use Rattle.plan_checker.proofs.SharesKept.{not_tight, tight_by}
+use Rattle.plan_checker.{specs.Shares.{AreCarried, GivesShare}, proofs.SharesKept.{not_tight, tight_by}}
 use Rattle.plan_checker.proofs.tight.is_tight.Goals as goal
 
 pub returns-then-not-costs_raw : goal.returns-then-not-costs_raw

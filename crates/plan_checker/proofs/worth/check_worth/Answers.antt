@@ -1,7 +1,6 @@
 use Rattle.std.proofs.Common.{◌≡◌, ◌<◌, ◌^◌, refl, subst, sym, arith}
 use Rattle.plan_terms.specs.Terms.{IsBound, IsLowest, asked, given, raw_value}
-use Rattle.plan_checker.specs.inner.Lines.{certified}
-use Rattle.plan_checker.proofs.Telling.{no_bound, no_raw, no_wide}
+use Rattle.plan_checker.{specs.inner.Lines.certified, proofs.Telling.{no_bound, no_raw, no_wide}}
 use Rattle.plan_checker.proofs.worth.check_worth.Goals as goal
 
 pub returns-clause-told : goal.returns-clause-told

@@ -2,9 +2,7 @@ use Rattle.std.proofs.Common.{◌≡◌, ◌≢◌, subst, sym}
 use Rattle.net_core.proofs.Library.{IfOk-weaker}
 use Rattle.plan_terms.specs.Terms.{case_of}
 use Rattle.flow_import.specs.declared.fault.ImportFault.TheVariants.{NoMemory}
-use Rattle.plan_import.specs.ImportedPlans.{IsImportEnding}
-use Rattle.plan_import.specs.declared.ending.ImportEnding.TheVariants.{Faulty}
-use Rattle.plan_import.proofs.Endings.{fault_told, imported_report}
+use Rattle.plan_import.{specs.ImportedPlans.IsImportEnding, specs.declared.ending.ImportEnding.TheVariants.Faulty, proofs.Endings.{fault_told, imported_report}}
 use Rattle.plan_import.proofs.ending.import_into.Goals as goal
 
 pub returns-in-Ok : goal.returns-in-Ok

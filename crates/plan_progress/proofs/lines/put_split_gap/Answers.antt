@@ -1,6 +1,6 @@
 use Rattle.text_kit.proofs.Lemmas.{on_ok}
-use Rattle.plan_progress.specs.ProgressLines.{split_costs, split_rest}
 use Rattle.view_cells.proofs.Lemmas.{appended}
+use Rattle.plan_progress.specs.ProgressLines.{split_costs, split_rest}
 use Rattle.plan_progress.proofs.lines.put_split_gap.Goals as goal
 
 pub returns : goal.returns

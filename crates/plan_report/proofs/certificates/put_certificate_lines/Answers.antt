@@ -1,6 +1,6 @@
 use Rattle.std.proofs.Common.{[], arith}
-use Rattle.plan_report.specs.Items.{certificate_line_items}
 use Rattle.text_kit.proofs.Lemmas.{adds_all, adds_next}
+use Rattle.plan_report.specs.Items.{certificate_line_items}
 use Rattle.plan_report.proofs.certificates.put_certificate_lines.Goals as goal
 
 pub loop-line-preserved : goal.loop-line-preserved

@@ -1,6 +1,6 @@
 use Rattle.std.proofs.Common.{take, flat_map}
-use Rattle.plan_report.specs.Items.{certificate_line_items}
 use Rattle.text_kit.specs.Terms.{AddsItems}
+use Rattle.plan_report.specs.Items.{certificate_line_items}
 use Rattle.plan_report.proofs.certificates.put_certificate_lines.Given as goal
 
 abbrev pub invariant-loop-line : goal.invariant-loop-line

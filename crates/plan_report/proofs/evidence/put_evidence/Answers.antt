@@ -1,6 +1,5 @@
-use Rattle.plan_report.specs.Forms.{IsMasterEvidenceInForm, IsRouteEvidenceInForm}
-use Rattle.plan_report.specs.inner.Naming.{known_in}
 use Rattle.text_kit.proofs.Lemmas.{on_ok, adds_then}
+use Rattle.plan_report.{specs.Forms.{IsMasterEvidenceInForm, IsRouteEvidenceInForm}, specs.inner.Naming.known_in}
 use Rattle.plan_report.proofs.evidence.put_evidence.Goals as goal
 
 pub put_route_kind-requires : goal.put_route_kind-requires

@@ -1,7 +1,6 @@
 use Rattle.std.proofs.Common.{◌∷◌, [], arith}
-use Rattle.text_kit.specs.Terms.{Opening}
+use Rattle.text_kit.{specs.Terms.Opening, proofs.Lemmas.{adds_list, adds_next}}
 use Rattle.plan_report.specs.Items.{route_column_items}
-use Rattle.text_kit.proofs.Lemmas.{adds_list, adds_next}
 use Rattle.plan_report.proofs.evidence.put_route_basis.Goals as goal
 
 pub loop-column-preserved : goal.loop-column-preserved

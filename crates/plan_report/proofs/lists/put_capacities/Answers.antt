@@ -1,6 +1,5 @@
 use Rattle.std.proofs.Common.{◌∷◌, [], arith}
-use Rattle.text_kit.specs.Terms.{Whole, Opening}
-use Rattle.text_kit.proofs.Lemmas.{adds_list, adds_more}
+use Rattle.text_kit.{specs.Terms.{Whole, Opening}, proofs.Lemmas.{adds_list, adds_more}}
 use Rattle.plan_report.proofs.lists.put_capacities.Goals as goal
 
 pub loop-n-preserved : goal.loop-n-preserved

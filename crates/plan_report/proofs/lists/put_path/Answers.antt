@@ -1,6 +1,5 @@
 use Rattle.std.proofs.Common.{◌∷◌, [], arith}
-use Rattle.text_kit.specs.Terms.{Verbatim, Opening}
-use Rattle.text_kit.proofs.Lemmas.{adds_list, adds_more}
+use Rattle.text_kit.{specs.Terms.{Verbatim, Opening}, proofs.Lemmas.{adds_list, adds_more}}
 use Rattle.plan_terms.specs.Terms.{link_name}
 use Rattle.plan_report.proofs.lists.put_path.Goals as goal
 

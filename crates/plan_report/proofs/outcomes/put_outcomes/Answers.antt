@@ -1,8 +1,6 @@
 use Rattle.std.proofs.Common.{◌∷◌, [], arith}
-use Rattle.text_kit.specs.Terms.{Opening}
-use Rattle.plan_report.specs.Items.{outcome_items}
-use Rattle.plan_report.specs.inner.Naming.{known_in}
-use Rattle.text_kit.proofs.Lemmas.{adds_list, adds_next}
+use Rattle.text_kit.{specs.Terms.Opening, proofs.Lemmas.{adds_list, adds_next}}
+use Rattle.plan_report.{specs.Items.outcome_items, specs.inner.Naming.known_in}
 use Rattle.plan_report.proofs.outcomes.put_outcomes.Goals as goal
 
 pub loop-outcome-preserved : goal.loop-outcome-preserved

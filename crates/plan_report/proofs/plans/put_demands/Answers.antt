@@ -1,7 +1,6 @@
 use Rattle.std.proofs.Common.{◌∷◌, [], arith}
-use Rattle.text_kit.specs.Terms.{Opening}
+use Rattle.text_kit.{specs.Terms.Opening, proofs.Lemmas.{adds_list, adds_next}}
 use Rattle.plan_report.specs.Items.{demand_items}
-use Rattle.text_kit.proofs.Lemmas.{adds_list, adds_next}
 use Rattle.plan_report.proofs.plans.put_demands.Goals as goal
 
 pub loop-demand-preserved : goal.loop-demand-preserved

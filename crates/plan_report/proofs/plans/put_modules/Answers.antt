@@ -1,8 +1,7 @@
 use Rattle.std.proofs.Common.{arith, zip}
 use Rattle.net_core.proofs.Library.{length-zip}
-use Rattle.plan_report.specs.Items.{modules_items}
 use Rattle.text_kit.proofs.Lemmas.{adds_list}
-use Rattle.plan_report.proofs.Putting.{adds_pair}
+use Rattle.plan_report.{specs.Items.modules_items, proofs.Putting.adds_pair}
 use Rattle.plan_report.proofs.plans.put_modules.Goals as goal
 
 pub loop-e-preserved : goal.loop-e-preserved

@@ -1,6 +1,6 @@
 use Rattle.std.proofs.lemmas.Slice.Zip.{AllZip-long}
-use Rattle.plan_report.proofs.Forms.{writable_demands}
 use Rattle.text_kit.proofs.Lemmas.{on_ok, adds_then}
+use Rattle.plan_report.proofs.Forms.{writable_demands}
 use Rattle.plan_report.proofs.plans.put_plan.Goals as goal
 
 pub put_demands-requires : goal.put_demands-requires

@@ -1,6 +1,5 @@
 use Rattle.std.proofs.Common.{arith}
-use Rattle.plan_report.specs.Items.{pool_line_items}
-use Rattle.plan_report.proofs.Putting.{adds_numbered, adds_numbered_list}
+use Rattle.plan_report.{specs.Items.pool_line_items, proofs.Putting.{adds_numbered, adds_numbered_list}}
 use Rattle.plan_report.proofs.pool.put_pool.Goals as goal
 
 pub loop-i-preserved : goal.loop-i-preserved

@@ -1,7 +1,5 @@
 use Rattle.std.proofs.Common.{arith}
-use Rattle.plan_report.specs.Items.{routing_items}
-use Rattle.plan_report.specs.inner.Naming.{known_in}
-use Rattle.plan_report.proofs.Putting.{adds_numbered, adds_numbered_list}
+use Rattle.plan_report.{specs.Items.routing_items, specs.inner.Naming.known_in, proofs.Putting.{adds_numbered, adds_numbered_list}}
 use Rattle.plan_report.proofs.routings.put_routings.Goals as goal
 
 pub loop-i-preserved : goal.loop-i-preserved

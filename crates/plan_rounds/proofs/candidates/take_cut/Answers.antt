@@ -1,9 +1,6 @@
 use Rattle.net_core.proofs.Library.{∥∥₁_elim, ∥∥₁_map, props}
 use Rattle.plan_terms.specs.Terms.{case_of}
-use Rattle.plan_rounds.proofs.Listing.{listed_later, listed_take, takes_put}
-use Rattle.plan_rounds.proofs.OwnPool.{opening_taken}
-use Rattle.plan_rounds.proofs.Results.{on_ok}
-use Rattle.plan_rounds.proofs.Seeing.{goes_none}
+use Rattle.plan_rounds.{proofs.Listing.{listed_later, listed_take, takes_put}, proofs.OwnPool.opening_taken, proofs.Results.on_ok, proofs.Seeing.goes_none}
 use Rattle.plan_rounds.proofs.candidates.take_cut.Goals as goal
 
 pub returns-in_err-line-clause-on : goal.returns-in_err-line-clause-on

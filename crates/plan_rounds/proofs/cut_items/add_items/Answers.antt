@@ -1,5 +1,4 @@
-use Rattle.std.proofs.Common.{◌∙◌, ◌++◌, ◌∷◌, [], ap, arith, length, sym, append-nil, append_assoc}
-use Rattle.std.specs.Vec.Iter.{into_iter_items}
+use Rattle.std.{proofs.Common.{◌∙◌, ◌++◌, ◌∷◌, [], ap, arith, length, sym, append-nil, append_assoc}, specs.Vec.Iter.into_iter_items}
 use Rattle.plan_rounds.proofs.Multiplying.{none_left}
 use Rattle.plan_rounds.proofs.cut_items.add_items.Goals as goal
 

@@ -1,5 +1,4 @@
-use Rattle.std.proofs.Common.{◌≡◌, ◌++◌, length, take}
-use Rattle.std.specs.Vec.Iter.{into_iter_items, into_iter_len}
+use Rattle.std.{proofs.Common.{◌≡◌, ◌++◌, length, take}, specs.Vec.Iter.{into_iter_items, into_iter_len}}
 use Rattle.plan_rounds.proofs.cut_items.add_items.Given as goal
 
 -- those that were put are the first, and the others are left

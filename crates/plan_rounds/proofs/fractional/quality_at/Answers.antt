@@ -1,8 +1,7 @@
 use Rattle.std.proofs.Common.{Option, IfSome, subst}
 use Rattle.net_core.proofs.Library.{∥∥₁_map}
 use Rattle.plan_terms.specs.Terms.{Evidence, case_of}
-use Rattle.plan_rounds.specs.inner.Answered.{IsEvidenceOfState}
-use Rattle.plan_rounds.proofs.Undividing.{whole_evidence}
+use Rattle.plan_rounds.{specs.inner.Answered.IsEvidenceOfState, proofs.Undividing.whole_evidence}
 use Rattle.plan_rounds.proofs.fractional.quality_at.Goals as goal
 
 pub returns-in-Some : goal.returns-in-Some

@@ -1,7 +1,5 @@
 use Rattle.plan_terms.specs.Terms.{graph_in, case_of}
-use Rattle.plan_rounds.proofs.Opening.{state_few, state_opened}
-use Rattle.plan_rounds.proofs.Results.{on_ok}
-use Rattle.plan_rounds.proofs.Seeing.{goes_none}
+use Rattle.plan_rounds.{proofs.Opening.{state_few, state_opened}, proofs.Results.on_ok, proofs.Seeing.goes_none}
 use Rattle.plan_rounds.proofs.openings.open_state.Goals as goal
 
 pub returns-in_err-cuts-clause-on : goal.returns-in_err-cuts-clause-on

@@ -2,10 +2,7 @@ use Rattle.std.proofs.Common.{◌∙◌, ap, arith, subst, sym}
 use Rattle.net_core.proofs.Library.{∥∥₁_elim, ∥∥₁_map, props}
 use Rattle.plan_terms.specs.Terms.{case_of}
 use Rattle.plan_law.proofs.Begun.{opened_none}
-use Rattle.plan_rounds.specs.inner.Listing.{AreFirstSpots}
-use Rattle.plan_rounds.proofs.Listing.{pool_listed}
-use Rattle.plan_rounds.proofs.OwnPool.{pools_both, pools_none}
-use Rattle.plan_rounds.proofs.Seeing.{goes_both, goes_none}
+use Rattle.plan_rounds.{specs.inner.Listing.AreFirstSpots, proofs.Listing.pool_listed, proofs.OwnPool.{pools_both, pools_none}, proofs.Seeing.{goes_both, goes_none}}
 use Rattle.plan_rounds.proofs.openings.open_states.Goals as goal
 
 pub open_state-requires-clause-network : goal.open_state-requires-clause-network

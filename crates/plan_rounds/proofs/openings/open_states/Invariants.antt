@@ -1,8 +1,7 @@
 use Rattle.std.proofs.Common.{◌+◌, ◌*◌, ◌≤◌, [], length}
 use Rattle.plan_terms.specs.Terms.{case_of}
 use Rattle.plan_law.specs.inner.Openings.{IsOpenedTo}
-use Rattle.plan_rounds.specs.inner.Alone.{PoolsOpening}
-use Rattle.plan_rounds.specs.inner.Listing.{AreListed, GoesOn}
+use Rattle.plan_rounds.{specs.inner.Alone.PoolsOpening, specs.inner.Listing.{AreListed, GoesOn}}
 use Rattle.plan_rounds.proofs.openings.open_states.Given as goal
 
 -- the states so far are opened

@@ -1,13 +1,8 @@
+use Rattle.std.{proofs.Common.{◌≡◌, ◌∙◌, All, List, ap, arith, reverse, subst, sym}, proofs.lemmas.List.reverse-reverse}
 use Rattle.net_core.proofs.Library.{∥∥₁_elim, ∥∥₁_map, props, All-tail}
-use Rattle.std.proofs.Common.{◌≡◌, ◌∙◌, All, List, ap, arith, reverse, subst, sym}
-use Rattle.std.proofs.lemmas.List.{reverse-reverse}
 use Rattle.plan_terms.specs.Terms.{graph_in, case_of}
-use Rattle.metric_cut.specs.Cuts.{IsCutOf}
-use Rattle.metric_cut.specs.declared.cut.Cut.{Cut}
-use Rattle.plan_rounds.specs.inner.Listing.{TakesCuts}
-use Rattle.plan_rounds.proofs.Multiplying.{last_first}
-use Rattle.plan_rounds.proofs.OwnPool.{pools_both, pools_none}
-use Rattle.plan_rounds.proofs.Seeing.{goes_both, goes_none}
+use Rattle.metric_cut.{specs.Cuts.IsCutOf, specs.declared.cut.Cut.Cut}
+use Rattle.plan_rounds.{specs.inner.Listing.TakesCuts, proofs.Multiplying.last_first, proofs.OwnPool.{pools_both, pools_none}, proofs.Seeing.{goes_both, goes_none}}
 use Rattle.plan_rounds.proofs.openings.take_cuts.Goals as goal
 
 pub take_cut-requires-clause-network : goal.take_cut-requires-clause-network

@@ -1,8 +1,7 @@
 use Rattle.std.proofs.Common.{List, All, length, reverse}
 use Rattle.plan_terms.specs.Terms.{CutLine, graph_in, case_of}
 use Rattle.metric_cut.specs.Cuts.{IsCutOf}
-use Rattle.plan_rounds.specs.inner.Alone.{PoolsOpening}
-use Rattle.plan_rounds.specs.inner.Listing.{AreListed, GoesOn, TakesCuts}
+use Rattle.plan_rounds.{specs.inner.Alone.PoolsOpening, specs.inner.Listing.{AreListed, GoesOn, TakesCuts}}
 use Rattle.plan_rounds.proofs.openings.take_cuts.Given as goal
 
 -- the cuts that are left

@@ -2,13 +2,8 @@ use Rattle.std.proofs.Common.{◌+◌, ◌≤◌, None, arith, length}
 use Rattle.net_core.proofs.Library.{∥∥₁_elim, ∥∥₁_map, props}
 use Rattle.plan_terms.specs.Terms.{case_of}
 use Rattle.master_law.specs.Terms.{share_caps}
-use Rattle.plan_rounds.proofs.Listing.{listed_later}
 use Rattle.separator.specs.Separators.{cuts_answered}
-use Rattle.plan_rounds.proofs.OwnTurns.{after_told, judged_pool}
-use Rattle.plan_rounds.proofs.Results.{if_ok, on_if}
-use Rattle.plan_rounds.proofs.Seeing.{goes_none}
-use Rattle.plan_rounds.proofs.Sharing.{divided_count, divided_scale}
-use Rattle.plan_rounds.proofs.Turning.{judged_listed, judged_turn, proper, share_gives}
+use Rattle.plan_rounds.{proofs.Listing.listed_later, proofs.OwnTurns.{after_told, judged_pool}, proofs.Results.{if_ok, on_if}, proofs.Seeing.goes_none, proofs.Sharing.{divided_count, divided_scale}, proofs.Turning.{judged_listed, judged_turn, proper, share_gives}}
 use Rattle.plan_rounds.proofs.rounds.ask.Goals as goal
 
 pub judge-requires-clause-positive : goal.judge-requires-clause-positive

@@ -1,10 +1,7 @@
 use Rattle.std.proofs.Common.{inl}
 use Rattle.net_core.proofs.Library.{∥∥₁_elim, ∥∥₁_map, props, modules_sound}
 use Rattle.plan_terms.specs.Terms.{case_of}
-use Rattle.plan_rounds.proofs.Bounding.{have_bounds}
-use Rattle.plan_rounds.proofs.Results.{if_ok}
-use Rattle.plan_rounds.proofs.Seeing.{goes_none}
-use Rattle.plan_rounds.proofs.Turning.{best_at}
+use Rattle.plan_rounds.{proofs.Bounding.have_bounds, proofs.Results.if_ok, proofs.Seeing.goes_none, proofs.Turning.best_at}
 use Rattle.plan_rounds.proofs.rounds.take_turn.Goals as goal
 
 pub best_so_far-requires-clause-right : goal.best_so_far-requires-clause-right

@@ -2,19 +2,8 @@ use Rattle.std.proofs.Common.{◌+◌, ◌-◌, ◌∙◌, ap, inl, inr, Some, N
 use Rattle.net_core.proofs.Library.{∥∥₁_elim, ∥∥₁_map, props, modules_sound}
 use Rattle.plan_terms.specs.Terms.{case_of}
 use Rattle.master_bound.specs.Answers.{IsBestOf}
-use Rattle.plan_rounds.specs.inner.Alone.{IsPoolAfterTurn, IsPoolAsFar}
-use Rattle.plan_rounds.specs.inner.Listing.{AreListed}
-use Rattle.plan_rounds.specs.inner.Turns.{ArePassed, IsTurnOf}
-use Rattle.plan_rounds.specs.declared.candidates.Candidates.{Candidates}
-use Rattle.plan_rounds.specs.declared.rounds.Turn.TheVariants.{Last}
-use Rattle.plan_types.specs.declared.quality.Cause.TheVariants.{Wide}
-use Rattle.plan_types.specs.declared.quality.Quality.TheVariants.{Loose}
-use Rattle.plan_rounds.proofs.Listing.{listed_later}
-use Rattle.plan_rounds.proofs.OwnPool.{alone_before}
-use Rattle.plan_rounds.proofs.Passing.{open_turn, taken_back}
-use Rattle.plan_rounds.proofs.Results.{if_ok, on_if}
-use Rattle.plan_rounds.proofs.Seeing.{goes_both}
-use Rattle.plan_rounds.proofs.Turning.{best_at, wide_turn}
+use Rattle.plan_types.{specs.declared.quality.Cause.TheVariants.Wide, specs.declared.quality.Quality.TheVariants.Loose}
+use Rattle.plan_rounds.{specs.inner.Alone.{IsPoolAfterTurn, IsPoolAsFar}, specs.inner.Listing.AreListed, specs.inner.Turns.{ArePassed, IsTurnOf}, specs.declared.candidates.Candidates.Candidates, specs.declared.rounds.Turn.TheVariants.Last, proofs.Listing.listed_later, proofs.OwnPool.alone_before, proofs.Passing.{open_turn, taken_back}, proofs.Results.{if_ok, on_if}, proofs.Seeing.goes_both, proofs.Turning.{best_at, wide_turn}}
 use Rattle.plan_rounds.proofs.rounds.turn_past_wide.Goals as goal
 
 pub returns-in-Err-clause-on : goal.returns-in-Err-clause-on

@@ -1,14 +1,7 @@
 use Rattle.std.proofs.Common.{◌≡◌, ◌+◌, ◌-◌, ◌≤◌, ap, arith, length, subst, sym, ◌∙◌}
 use Rattle.net_core.proofs.Library.{∥∥₁_elim, ∥∥₁_map, props}
 use Rattle.plan_terms.specs.Terms.{case_of}
-use Rattle.plan_rounds.specs.inner.Alone.{PoolsTurn}
-use Rattle.plan_rounds.specs.inner.Turns.{IsTurnAfter}
-use Rattle.plan_rounds.specs.declared.rounds.Turn.TheVariants.{Further, Last}
-use Rattle.plan_rounds.proofs.OwnPool.{alone_before}
-use Rattle.plan_rounds.proofs.OwnTurns.{pool_begins}
-use Rattle.plan_rounds.proofs.Seeing.{goes_both, goes_none}
-use Rattle.plan_rounds.proofs.Passing.{turn_ends, turn_further, turn_room}
-use Rattle.plan_rounds.proofs.Turning.{working_begins}
+use Rattle.plan_rounds.{specs.inner.Alone.PoolsTurn, specs.inner.Turns.IsTurnAfter, specs.declared.rounds.Turn.TheVariants.{Further, Last}, proofs.OwnPool.alone_before, proofs.OwnTurns.pool_begins, proofs.Seeing.{goes_both, goes_none}, proofs.Passing.{turn_ends, turn_further, turn_room}, proofs.Turning.working_begins}
 use Rattle.plan_rounds.proofs.rounds.turns.Goals as goal
 
 pub loop-candidates-init : goal.loop-candidates-init

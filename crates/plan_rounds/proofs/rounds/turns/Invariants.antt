@@ -2,9 +2,7 @@ use Rattle.std.proofs.Common.{◌≡◌, ◌+◌, ◌-◌, ◌≤◌, List, [], 
 use Rattle.plan_terms.specs.Terms.{CutLine, case_of, IsCut}
 use Rattle.plan_law.specs.WorkedLists.{IsBeginning}
 use Rattle.cut_pool.specs.Terms.{cut_of_line, cuts_of}
-use Rattle.plan_rounds.specs.inner.Alone.{IsAlone, IsPoolOfList}
-use Rattle.plan_rounds.specs.inner.Listing.{AreListed, GoesOn}
-use Rattle.plan_rounds.proofs.Turning.{IsWorking}
+use Rattle.plan_rounds.{specs.inner.Alone.{IsAlone, IsPoolOfList}, specs.inner.Listing.{AreListed, GoesOn}, proofs.Turning.IsWorking}
 use Rattle.plan_rounds.proofs.rounds.turns.Given as goal
 
 -- the room that is left

@@ -3,13 +3,8 @@ use Rattle.net_core.proofs.Library.{∥∥₁_elim, props}
 use Rattle.plan_terms.specs.Terms.{CutLine, case_of}
 use Rattle.cut_pool.specs.Terms.{cut_of_line, cuts_of}
 use Rattle.plan_law.specs.WorkedLists.{IsBeginning}
-use Rattle.separator.specs.Separators.{SeesMore}
-use Rattle.separator.proofs.Seeing.{sees_both, sees_none}
-use Rattle.plan_rounds.specs.WorkedRounds.{IsPoolOf}
-use Rattle.plan_rounds.specs.inner.Alone.{IsAlone, PoolsRounds}
-use Rattle.plan_rounds.proofs.OwnPool.{alone_before}
-use Rattle.plan_rounds.proofs.OwnTurns.{alone_from_none, part_none, pool_none}
-use Rattle.plan_rounds.proofs.Results.{if_ok, on_ok}
+use Rattle.separator.{specs.Separators.SeesMore, proofs.Seeing.{sees_both, sees_none}}
+use Rattle.plan_rounds.{specs.WorkedRounds.IsPoolOf, specs.inner.Alone.{IsAlone, PoolsRounds}, proofs.OwnPool.alone_before, proofs.OwnTurns.{alone_from_none, part_none, pool_none}, proofs.Results.{if_ok, on_ok}}
 use Rattle.plan_rounds.proofs.rounds.work_rounds.Goals as goal
 
 pub returns-in_err-pairs-clause-more : goal.returns-in_err-pairs-clause-more

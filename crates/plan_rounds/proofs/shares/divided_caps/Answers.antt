@@ -1,6 +1,5 @@
 use Rattle.std.proofs.Common.{subst}
-use Rattle.plan_rounds.specs.inner.Sharing.{DividesAll}
-use Rattle.plan_rounds.proofs.Sharing.{divided_caps}
+use Rattle.plan_rounds.{specs.inner.Sharing.DividesAll, proofs.Sharing.divided_caps}
 use Rattle.plan_rounds.proofs.shares.divided_caps.Goals as goal
 
 pub numbers_over-requires-clause-divides : goal.numbers_over-requires-clause-divides

@@ -1,7 +1,6 @@
 use Rattle.std.proofs.Common.{arith, ◌++◌, ◌∷◌, [], ◌≡◌, ◌+◌, ◌*◌, ◌∙◌, get_or, take, subst, sym, take_all}
 use Rattle.plan_terms.specs.Terms.{Link}
-use Rattle.master_law.specs.Terms.{share_capacities}
-use Rattle.master_law.proofs.Capacities.{share_count}
+use Rattle.master_law.{specs.Terms.share_capacities, proofs.Capacities.share_count}
 use Rattle.plan_rounds.proofs.Sharing.{number_more}
 use Rattle.plan_rounds.proofs.shares.share_numbers.Goals as goal
 

@@ -1,12 +1,7 @@
-use Rattle.std.proofs.Common.{◌≡◌, ◌+◌, ⊎_elim, List, [], ◌++◌, ap, length, map, arith, reverse, subst, sym, ◌∙◌}
-use Rattle.std.proofs.lemmas.List.{append-nil, reverse-reverse}
+use Rattle.std.{proofs.Common.{◌≡◌, ◌+◌, ⊎_elim, List, [], ◌++◌, ap, length, map, arith, reverse, subst, sym, ◌∙◌}, proofs.lemmas.List.{append-nil, reverse-reverse}}
 use Rattle.cut_pool.specs.Terms.{cut_of_line}
-use Rattle.separator.specs.Separators.{AreStateAnswers, AreViolatedStates, cuts_answered}
-use Rattle.separator.specs.declared.answers.StateAnswer.{StateAnswer}
-use Rattle.plan_rounds.specs.inner.Answered.{AreSorted}
-use Rattle.plan_rounds.specs.declared.sorted_answers.Answered.{Answered}
-use Rattle.plan_rounds.proofs.Answering.{AreAnswersFrom, AreSomeSorted, answers_all, found_more, answers_rest, answers_some, some_are_sorted, some_begun, some_further, sorted_more, sorted_none}
-use Rattle.plan_rounds.proofs.Multiplying.{last_first, none_left}
+use Rattle.separator.{specs.Separators.{AreStateAnswers, AreViolatedStates, cuts_answered}, specs.declared.answers.StateAnswer.StateAnswer}
+use Rattle.plan_rounds.{specs.inner.Answered.AreSorted, specs.declared.sorted_answers.Answered.Answered, proofs.Answering.{AreAnswersFrom, AreSomeSorted, answers_all, found_more, answers_rest, answers_some, some_are_sorted, some_begun, some_further, sorted_more, sorted_none}, proofs.Multiplying.{last_first, none_left}}
 use Rattle.plan_rounds.proofs.sorted_answers.put_answers.Goals as goal
 
 pub loop-next-init : goal.loop-next-init

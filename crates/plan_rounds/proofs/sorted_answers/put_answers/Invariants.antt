@@ -2,8 +2,7 @@ use Rattle.std.proofs.Common.{◌≡◌, ℕ, List, ◌++◌, length, map, rever
 use Rattle.plan_terms.specs.Terms.{Entry, Caps, Case}
 use Rattle.cut_pool.specs.Terms.{cut_of_line}
 use Rattle.separator.specs.Separators.{AreStateAnswers, AreViolatedStates, cuts_answered}
-use Rattle.plan_rounds.specs.inner.Answered.{AreSorted}
-use Rattle.plan_rounds.proofs.Answering.{AreAnswersFrom, AreSomeSorted}
+use Rattle.plan_rounds.{specs.inner.Answered.AreSorted, proofs.Answering.{AreAnswersFrom, AreSomeSorted}}
 use Rattle.plan_rounds.proofs.sorted_answers.put_answers.Given as goal
 
 -- the answers that are left

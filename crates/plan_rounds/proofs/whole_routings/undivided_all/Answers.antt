@@ -1,5 +1,4 @@
-use Rattle.std.proofs.Common.{◌<◌, ◌*◌, ◌^◌, All, List, ap, arith, length, subst}
-use Rattle.std.specs.Vec.Iter.{into_iter_items}
+use Rattle.std.{proofs.Common.{◌<◌, ◌*◌, ◌^◌, All, List, ap, arith, length, subst}, specs.Vec.Iter.into_iter_items}
 use Rattle.net_core.proofs.Library.{All-tail}
 use Rattle.plan_terms.specs.Terms.{Routing}
 use Rattle.plan_rounds.proofs.Undividing.{IsUnderWay, under_way_more}

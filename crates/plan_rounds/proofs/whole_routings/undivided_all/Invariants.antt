@@ -1,5 +1,4 @@
-use Rattle.std.proofs.Common.{◌≡◌, ◌<◌, ◌*◌, ◌^◌, All, length}
-use Rattle.std.specs.Vec.Iter.{into_iter_items, into_iter_len}
+use Rattle.std.{proofs.Common.{◌≡◌, ◌<◌, ◌*◌, ◌^◌, All, length}, specs.Vec.Iter.{into_iter_items, into_iter_len}}
 use Rattle.plan_rounds.proofs.Undividing.{IsUnderWay}
 use Rattle.plan_rounds.proofs.whole_routings.undivided_all.Given as goal
 

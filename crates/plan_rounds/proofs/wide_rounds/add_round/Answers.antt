@@ -2,12 +2,7 @@ use Rattle.std.proofs.Common.{◌+◌, ◌≤◌, ◌∙◌, length}
 use Rattle.net_core.proofs.Library.{∥∥₁_elim, ∥∥₁_map, props, modules_sound}
 use Rattle.plan_terms.specs.Terms.{case_of}
 use Rattle.separator.specs.Separators.{cuts_answered}
-use Rattle.plan_rounds.proofs.Listing.{listed_later}
-use Rattle.plan_rounds.proofs.OwnTurns.{far_told, pool_as_far}
-use Rattle.plan_rounds.proofs.Passing.{added_listed, added_round, divided_least, least_count, least_of, least_scale}
-use Rattle.plan_rounds.proofs.Results.{if_ok, on_if}
-use Rattle.plan_rounds.proofs.Seeing.{goes_none}
-use Rattle.plan_rounds.proofs.Sharing.{divided_length, divided_scale}
+use Rattle.plan_rounds.{proofs.Listing.listed_later, proofs.OwnTurns.{far_told, pool_as_far}, proofs.Passing.{added_listed, added_round, divided_least, least_count, least_of, least_scale}, proofs.Results.{if_ok, on_if}, proofs.Seeing.goes_none, proofs.Sharing.{divided_length, divided_scale}}
 use Rattle.plan_rounds.proofs.wide_rounds.add_round.Goals as goal
 
 pub returns-in_err-answers-clause-on : goal.returns-in_err-answers-clause-on

@@ -1,13 +1,7 @@
 use Rattle.std.proofs.Common.{◌-◌, ◌∙◌, ap, arith, subst, sym}
 use Rattle.net_core.proofs.Library.{∥∥₁_elim, ∥∥₁_map, props}
 use Rattle.plan_terms.specs.Terms.{case_of}
-use Rattle.plan_rounds.specs.inner.Alone.{IsPoolAsFar}
-use Rattle.plan_rounds.specs.inner.Turns.{AddsRound}
-use Rattle.plan_rounds.proofs.Bounding.{have_bounds}
-use Rattle.plan_rounds.proofs.OwnPool.{alone_before}
-use Rattle.plan_rounds.proofs.OwnTurns.{far_told, pool_worked}
-use Rattle.plan_rounds.proofs.Passing.{extends_added, extends_none, less_room, passed_added, passed_none}
-use Rattle.plan_rounds.proofs.Seeing.{goes_both, goes_none}
+use Rattle.plan_rounds.{specs.inner.Alone.IsPoolAsFar, specs.inner.Turns.AddsRound, proofs.Bounding.have_bounds, proofs.OwnPool.alone_before, proofs.OwnTurns.{far_told, pool_worked}, proofs.Passing.{extends_added, extends_none, less_room, passed_added, passed_none}, proofs.Seeing.{goes_both, goes_none}}
 use Rattle.plan_rounds.proofs.wide_rounds.pass_wide.Goals as goal
 
 pub add_round-requires-clause-network : goal.add_round-requires-clause-network

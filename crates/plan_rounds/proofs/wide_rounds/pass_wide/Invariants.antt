@@ -1,9 +1,7 @@
 use Rattle.std.proofs.Common.{◌≡◌, ◌-◌, length}
 use Rattle.plan_terms.specs.Terms.{case_of}
 use Rattle.cut_pool.specs.Terms.{cuts_of}
-use Rattle.plan_rounds.specs.inner.Alone.{IsAlone, IsPoolOfList}
-use Rattle.plan_rounds.specs.inner.Listing.{AreListed, GoesOn}
-use Rattle.plan_rounds.specs.inner.Turns.{ArePassed, Extends}
+use Rattle.plan_rounds.{specs.inner.Alone.{IsAlone, IsPoolOfList}, specs.inner.Listing.{AreListed, GoesOn}, specs.inner.Turns.{ArePassed, Extends}}
 use Rattle.plan_rounds.proofs.wide_rounds.pass_wide.Given as goal
 
 -- rounds have been added to the list, and the pool is that of the list

@@ -1,9 +1,6 @@
 use Rattle.std.proofs.Common.{◌≤◌, subst, sym}
 use Rattle.plan_terms.specs.Terms.{case_of}
-use Rattle.plan_swaps.specs.declared.kept.Kept.{Kept}
-use Rattle.plan_swaps.specs.Swaps.{IsCheaperPlan}
-use Rattle.plan_swaps.specs.inner.Searching.{AreCarryingCounts}
-use Rattle.plan_swaps.proofs.Swapped.{cheaper_with, plan_carries}
+use Rattle.plan_swaps.{specs.declared.kept.Kept.Kept, specs.Swaps.IsCheaperPlan, specs.inner.Searching.AreCarryingCounts, proofs.Swapped.{cheaper_with, plan_carries}}
 use Rattle.plan_swaps.proofs.cheaper_plan.swap_within.Goals as goal
 
 pub swap_counts-requires-clause-kept : goal.swap_counts-requires-clause-kept

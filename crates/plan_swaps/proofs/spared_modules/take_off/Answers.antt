@@ -1,6 +1,5 @@
 use Rattle.std.proofs.Common.{List, ℕ, subst, sym}
-use Rattle.trim_plan.specs.Trimmed.{AreAtMost}
-use Rattle.trim_plan.proofs.AtMost.{limits_at_most, one_less_at_most, shape_at_most}
+use Rattle.trim_plan.{specs.Trimmed.AreAtMost, proofs.AtMost.{limits_at_most, one_less_at_most, shape_at_most}}
 use Rattle.plan_swaps.proofs.spared_modules.take_off.Goals as goal
 
 pub returns : goal.returns

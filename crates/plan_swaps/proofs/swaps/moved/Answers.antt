@@ -1,6 +1,5 @@
 use Rattle.std.proofs.Common.{List, ℕ, subst, sym}
-use Rattle.trim_plan.specs.Trimmed.{AreAtMost}
-use Rattle.trim_plan.proofs.AtMost.{one_less_at_most, shape_at_most}
+use Rattle.trim_plan.{specs.Trimmed.AreAtMost, proofs.AtMost.{one_less_at_most, shape_at_most}}
 use Rattle.plan_swaps.proofs.swaps.moved.Goals as goal
 
 pub one_more-requires : goal.one_more-requires

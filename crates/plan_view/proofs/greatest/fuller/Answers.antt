@@ -1,7 +1,6 @@
 use Rattle.std.proofs.Common.{refl, slice_index, subst}
 use Rattle.plan_terms.specs.Terms.{load}
-use Rattle.plan_view.specs.Loads.{IsFirstIfAny, IsFirstOfGreatest}
-use Rattle.plan_view.proofs.Firsts.{greatest_next}
+use Rattle.plan_view.{specs.Loads.{IsFirstIfAny, IsFirstOfGreatest}, proofs.Firsts.greatest_next}
 use Rattle.plan_view.proofs.greatest.fuller.Goals as goal
 
 pub returns-then-is_used_less : goal.returns-then-is_used_less

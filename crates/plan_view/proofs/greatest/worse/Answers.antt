@@ -1,6 +1,5 @@
 use Rattle.std.proofs.Common.{refl}
-use Rattle.plan_view.specs.Loads.{den_in, load_in}
-use Rattle.plan_view.proofs.Firsts.{greatest_next}
+use Rattle.plan_view.{specs.Loads.{den_in, load_in}, proofs.Firsts.greatest_next}
 use Rattle.plan_view.proofs.greatest.worse.Goals as goal
 
 pub returns-then-is_less_in : goal.returns-then-is_less_in

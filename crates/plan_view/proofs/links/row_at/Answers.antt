@@ -2,10 +2,7 @@ use Rattle.std.proofs.Common.{◌≡◌, ◌*◌, ◌^◌, ◌<◌, ◌≤◌, L
 use Rattle.net_core.proofs.Library.{IfOk-weaker, slice_get-get_or}
 use Rattle.module_choice.proofs.Pairs.{capacities_long, counts_long}
 use Rattle.plan_terms.specs.Terms.{Link, case_of}
-use Rattle.plan_view.specs.Loads.{den_in, load_in}
-use Rattle.plan_view.specs.Rows.{IsLinkRow, IsRowAt}
-use Rattle.plan_view.proofs.Plans.{capacity_at, capacity_low, den_low, den_positive, few_modules, few_routings, load_fits, load_within, shape_at, sound_modules}
-use Rattle.plan_view.proofs.RowLists.{row_from}
+use Rattle.plan_view.{specs.Loads.{den_in, load_in}, specs.Rows.{IsLinkRow, IsRowAt}, proofs.Plans.{capacity_at, capacity_low, den_low, den_positive, few_modules, few_routings, load_fits, load_within, shape_at, sound_modules}, proofs.RowLists.row_from}
 use Rattle.plan_view.proofs.links.row_at.Goals as goal
 
 pub bounds-items-e : goal.bounds-items-e

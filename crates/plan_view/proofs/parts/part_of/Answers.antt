@@ -1,10 +1,7 @@
 use Rattle.std.proofs.Common.{◌≡◌, ◌-◌, ◌*◌, None, Some, min, sym, ap, subst, ◌∙◌, arith}
 use Rattle.plan_terms.specs.Terms.{raw_value}
 use Rattle.plan_types.specs.Terms.{lines_of_certificate}
-use Rattle.plan_view.specs.Parts.{asked_in_state, given_in_state, paid_by}
-use Rattle.plan_view.specs.Rounding.{IsNearest}
-use Rattle.plan_view.specs.inner.Lines.{asked_among, given_among}
-use Rattle.plan_view.proofs.LineSums.{raw_is}
+use Rattle.plan_view.{specs.Parts.{asked_in_state, given_in_state, paid_by}, specs.Rounding.IsNearest, specs.inner.Lines.{asked_among, given_among}, proofs.LineSums.raw_is}
 use Rattle.plan_view.proofs.parts.part_of.Goals as goal
 
 pub returns : goal.returns

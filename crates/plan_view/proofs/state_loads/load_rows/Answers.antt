@@ -2,10 +2,7 @@ use Rattle.std.proofs.Common.{◌≡◌, List, ℕ, get_or, length, ap, ◌∙�
 use Rattle.net_core.proofs.Library.{IfOk-weaker, few_links}
 use Rattle.module_choice.proofs.Pairs.{capacities_long}
 use Rattle.plan_terms.specs.Terms.{Routing, capacities, case_of}
-use Rattle.plan_view.specs.Loads.{routing_in}
-use Rattle.plan_view.specs.Rows.{AreLoadRows}
-use Rattle.plan_view.proofs.Plans.{low_of, routing_is}
-use Rattle.plan_view.proofs.RowLists.{loads_are}
+use Rattle.plan_view.{specs.Loads.routing_in, specs.Rows.AreLoadRows, proofs.Plans.{low_of, routing_is}, proofs.RowLists.loads_are}
 use Rattle.plan_view.proofs.state_loads.load_rows.Goals as goal
 
 pub rows_of-requires-clause-few : goal.rows_of-requires-clause-few

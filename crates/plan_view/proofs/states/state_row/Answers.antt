@@ -3,11 +3,7 @@ use Rattle.net_core.proofs.Networks.{few_links}
 use Rattle.module_choice.proofs.Pairs.{capacities_long}
 use Rattle.plan_terms.specs.Terms.{Link, Listed, Routing, case_of, raw_value}
 use Rattle.plan_types.specs.Terms.{lines_of_certificate}
-use Rattle.plan_view.specs.Parts.{paid_by}
-use Rattle.plan_view.specs.Rounding.{IsNearest}
-use Rattle.plan_view.specs.Rows.{failed_links}
-use Rattle.plan_view.specs.declared.rows.StateRow.{StateRow}
-use Rattle.plan_view.proofs.Plans.{brought_of, low_of, row_of, small_fixed}
+use Rattle.plan_view.{specs.Parts.paid_by, specs.Rounding.IsNearest, specs.Rows.failed_links, specs.declared.rows.StateRow.StateRow, proofs.Plans.{brought_of, low_of, row_of, small_fixed}}
 use Rattle.plan_view.proofs.states.state_row.Goals as goal
 
 pub fullest_of-fullest-requires-clause-few : goal.fullest_of-fullest-requires-clause-few

@@ -2,8 +2,7 @@ use Rattle.std.proofs.Common.{◌≡◌, ◌^◌, ◌≤◌, List, ℕ, ap, arit
 use Rattle.net_core.proofs.Networks.{few_links}
 use Rattle.module_choice.proofs.Pairs.{capacities_long}
 use Rattle.plan_terms.specs.Terms.{Flow, Routing, case_of, load}
-use Rattle.plan_view.specs.Loads.{routing_in}
-use Rattle.plan_view.proofs.Plans.{load_low, routing_is}
+use Rattle.plan_view.{specs.Loads.routing_in, proofs.Plans.{load_low, routing_is}}
 use Rattle.plan_view.proofs.summary.plan_summary.Goals as goal
 
 pub total_capacity-requires-clause-few : goal.total_capacity-requires-clause-few

@@ -1,8 +1,7 @@
 use Rattle.std.proofs.Common.{List, ◌∙◌, ap, map, subst}
 use Rattle.plan_terms.specs.Terms.{IsBound, Link}
 use Rattle.plan_report.specs.Terms.{CertLine}
-use Rattle.planner.specs.inner.Finishing.{line_at}
-use Rattle.planner.specs.declared.own_bound.CertifiedBound.{CertifiedBound}
+use Rattle.planner.{specs.inner.Finishing.line_at, specs.declared.own_bound.CertifiedBound.CertifiedBound}
 use Rattle.planner.proofs.bound.bound_of_master.Goals as goal
 
 pub returns : goal.returns

@@ -1,5 +1,5 @@
-use Rattle.net_core.proofs.Library.{∥∥₁_map}
 use Rattle.std.proofs.Common.{IfSome, subst}
+use Rattle.net_core.proofs.Library.{∥∥₁_map}
 use Rattle.plan_terms.specs.Terms.{case_of}
 use Rattle.planner.specs.inner.Finishing.{IsShareFor}
 use Rattle.planner.proofs.choose_counts.choose_beside.Goals as goal

@@ -1,5 +1,4 @@
-use Rattle.std.proofs.Common.{inl, inr, refl}
-use Rattle.std.proofs.lemmas.Result.{IfOk-weaker}
+use Rattle.std.{proofs.Common.{inl, inr, refl}, proofs.lemmas.Result.IfOk-weaker}
 use Rattle.planner.proofs.BestBounds.{best_of_cut}
 use Rattle.planner.proofs.own_bound.best_bound.Goals as goal
 

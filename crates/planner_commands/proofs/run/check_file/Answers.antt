@@ -2,10 +2,9 @@ use Rattle.std.proofs.Common.{inl, inr}
 use Rattle.net_core.proofs.Library.{err_from_is_err_and}
 use Rattle.plan_terms.specs.Terms.{case}
 use Rattle.plan_report.specs.Terms.{known_of}
-use Rattle.input_files.specs.Inputs.{RefusesReportFile, StopsAtFile, report_limit}
-use Rattle.planner_commands.specs.Run.{EndsCheck}
+use Rattle.input_files.{specs.Inputs.{RefusesReportFile, StopsAtFile, report_limit}, proofs.Stopping.stop_map}
 use Rattle.check_answers.specs.declared.status.Status.TheVariants.{BadReport}
-use Rattle.input_files.proofs.Stopping.{stop_map}
+use Rattle.planner_commands.specs.Run.{EndsCheck}
 use Rattle.planner_commands.proofs.run.check_file.Goals as goal
 
 pub returns-in_err-report-clause-ends : goal.returns-in_err-report-clause-ends

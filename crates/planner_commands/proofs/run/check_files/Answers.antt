@@ -1,6 +1,5 @@
-use Rattle.planner_commands.specs.Run.{EndsCheck}
 use Rattle.input_files.specs.Stops.{named}
-use Rattle.planner_commands.proofs.Answering.{answer_ends}
+use Rattle.planner_commands.{specs.Run.EndsCheck, proofs.Answering.answer_ends}
 use Rattle.planner_commands.proofs.run.check_files.Goals as goal
 
 pub returns-clause-ends : goal.returns-clause-ends

@@ -1,8 +1,7 @@
 use Rattle.std.proofs.Common.{ap, sym, subst}
 use Rattle.net_core.specs.Terms.{case}
 use Rattle.cut_pool.specs.declared.board.Board.{Board}
-use Rattle.planner.specs.SnapshotPlans.{IsSnapshotIn}
-use Rattle.planner.proofs.SnapshotGiven.{board_snapshot}
+use Rattle.planner.{specs.SnapshotPlans.IsSnapshotIn, proofs.SnapshotGiven.board_snapshot}
 use Rattle.planning_tests.proofs.plans.planned.Goals as goal
 
 pub plan_snapshot-requires-clause-snapshot : goal.plan_snapshot-requires-clause-snapshot

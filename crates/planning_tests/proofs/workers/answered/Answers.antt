@@ -1,6 +1,5 @@
 use Rattle.std.proofs.Common.{refl, subst, sym}
-use Rattle.separation_workers.specs.Callers.{HasSeenHistory}
-use Rattle.separation_workers.proofs.Seen.{seen_after_turn}
+use Rattle.separation_workers.{specs.Callers.HasSeenHistory, proofs.Seen.seen_after_turn}
 use Rattle.planning_tests.proofs.workers.answered.Goals as goal
 
 pub new-separator-requires-clause-seen : goal.new-separator-requires-clause-seen

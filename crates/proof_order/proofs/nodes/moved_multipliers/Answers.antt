@@ -1,7 +1,5 @@
-use Rattle.std.proofs.Common.{ℕ, ap, arith, get_or, length}
-use Rattle.std.specs.Vec.Iter.{into_iter_items}
-use Rattle.proof_order.specs.Orders.{moved_multipliers}
-use Rattle.proof_order.proofs.Moves.{multipliers_more}
+use Rattle.std.{proofs.Common.{ℕ, ap, arith, get_or, length}, specs.Vec.Iter.into_iter_items}
+use Rattle.proof_order.{specs.Orders.moved_multipliers, proofs.Moves.multipliers_more}
 use Rattle.proof_order.proofs.nodes.moved_multipliers.Goals as goal
 
 pub loop-m-preserved : goal.loop-m-preserved

@@ -1,5 +1,4 @@
-use Rattle.std.proofs.Common.{◌≡◌, ◌++◌, get_or, length}
-use Rattle.std.specs.Vec.Iter.{into_iter_items, into_iter_len}
+use Rattle.std.{proofs.Common.{◌≡◌, ◌++◌, get_or, length}, specs.Vec.Iter.{into_iter_items, into_iter_len}}
 use Rattle.proof_order.specs.Orders.{moved_multipliers}
 use Rattle.proof_order.proofs.nodes.moved_multipliers.Given as goal
 

@@ -1,7 +1,6 @@
 use mathlib.Core.Path.{fun_ext}
 use Rattle.std.proofs.Common.{◌≡◌, ◌∙◌, ℕ, List, ap, get_or, map}
-use Rattle.proof_order.specs.Orders.{lines_among, moved_line, moved_node, place_of}
-use Rattle.proof_order.specs.declared.entry.Entry.{Entry}
+use Rattle.proof_order.{specs.Orders.{lines_among, moved_line, moved_node, place_of}, specs.declared.entry.Entry.Entry}
 use Rattle.proof_order.proofs.order.in_order.Goals as goal
 
 pub returns : goal.returns

@@ -1,7 +1,5 @@
-use Rattle.std.proofs.Common.{ℕ, ap, arith, get_or, length, map}
-use Rattle.std.specs.Vec.Iter.{into_iter_items}
-use Rattle.proof_order.specs.Orders.{moved_node}
-use Rattle.proof_order.proofs.Moves.{moved_more}
+use Rattle.std.{proofs.Common.{ℕ, ap, arith, get_or, length, map}, specs.Vec.Iter.into_iter_items}
+use Rattle.proof_order.{specs.Orders.moved_node, proofs.Moves.moved_more}
 use Rattle.proof_order.proofs.order.moved_nodes.Goals as goal
 
 pub loop-node-preserved : goal.loop-node-preserved

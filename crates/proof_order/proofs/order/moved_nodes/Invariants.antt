@@ -1,5 +1,4 @@
-use Rattle.std.proofs.Common.{◌≡◌, ◌++◌, get_or, length, map}
-use Rattle.std.specs.Vec.Iter.{into_iter_items, into_iter_len}
+use Rattle.std.{proofs.Common.{◌≡◌, ◌++◌, get_or, length, map}, specs.Vec.Iter.{into_iter_items, into_iter_len}}
 use Rattle.proof_order.specs.Orders.{moved_node}
 use Rattle.proof_order.proofs.order.moved_nodes.Given as goal
 

@@ -1,7 +1,5 @@
-use Rattle.std.proofs.Common.{ℕ, ap, arith, get_or, length, map}
-use Rattle.std.specs.Vec.Iter.{into_iter_items}
-use Rattle.proof_order.specs.Orders.{cuts_among, lines_among, moved_line}
-use Rattle.proof_order.proofs.Moves.{cuts_on, lines_on}
+use Rattle.std.{proofs.Common.{ℕ, ap, arith, get_or, length, map}, specs.Vec.Iter.into_iter_items}
+use Rattle.proof_order.{specs.Orders.{cuts_among, lines_among, moved_line}, proofs.Moves.{cuts_on, lines_on}}
 use Rattle.proof_order.proofs.order.parted.Goals as goal
 
 pub loop-entry-preserved : goal.loop-entry-preserved

@@ -1,7 +1,5 @@
 use Rattle.std.proofs.Common.{◌∙◌, ◌<◌, List, ap, arith, length, take_all}
-use Rattle.proof_order.specs.Orders.{cuts_among}
-use Rattle.proof_order.specs.declared.entry.Entry.{Entry}
-use Rattle.proof_order.proofs.Placed.{cuts_more}
+use Rattle.proof_order.{specs.Orders.cuts_among, specs.declared.entry.Entry.Entry, proofs.Placed.cuts_more}
 use Rattle.proof_order.proofs.places.cut_number.Goals as goal
 
 pub loop-entry-preserved : goal.loop-entry-preserved

@@ -1,6 +1,5 @@
 use Rattle.std.proofs.Common.{◌∙◌, ◌+◌, ◌<◌, ℕ, ap, arith, if◌then◌else◌, length, refl, subst, sym}
-use Rattle.proof_order.specs.Orders.{cuts_before, is_cut_entry}
-use Rattle.proof_order.proofs.Placed.{ArePlaces, before_few, cuts_more, lines_more, parts_length, place_here, places_push, places_read}
+use Rattle.proof_order.{specs.Orders.{cuts_before, is_cut_entry}, proofs.Placed.{ArePlaces, before_few, cuts_more, lines_more, parts_length, place_here, places_push, places_read}}
 use Rattle.proof_order.proofs.places.places_of.Goals as goal
 
 pub loop-entry-init : goal.loop-entry-init

@@ -1,6 +1,5 @@
 use Rattle.std.proofs.Common.{◌≡◌, ◌+◌, length}
-use Rattle.proof_order.specs.Orders.{cuts_among, cuts_before, lines_before}
-use Rattle.proof_order.proofs.Placed.{ArePlaces}
+use Rattle.proof_order.{specs.Orders.{cuts_among, cuts_before, lines_before}, proofs.Placed.ArePlaces}
 use Rattle.proof_order.proofs.places.places_of.Given as goal
 
 -- the places of the first entries, and those of the next cut and the next line

@@ -3,11 +3,7 @@ use Rattle.plan_terms.specs.Terms.{CutLine, IsCut, case_of}
 use Rattle.net_core.proofs.Library.{length-map}
 use Rattle.plan_types.specs.declared.certificate.CertLine.{CertLine}
 use Rattle.trimmed_report.proofs.Lemmas.{lone_plans_carry}
-use Rattle.proof_report.proofs.Certain.{certified_certain}
-use Rattle.proof_report.proofs.Handing.{handed_long}
-use Rattle.proof_report.proofs.Known.{certificate_few, certified_told, handed_told, lines_shown, own_stand, pool_few}
-use Rattle.proof_report.proofs.Proved.{lined_report_made, routed_plan}
-use Rattle.proof_report.specs.ProvedReports.{certificate_cuts}
+use Rattle.proof_report.{proofs.Certain.certified_certain, proofs.Handing.handed_long, proofs.Known.{certificate_few, certified_told, handed_told, lines_shown, own_stand, pool_few}, proofs.Proved.{lined_report_made, routed_plan}, specs.ProvedReports.certificate_cuts}
 use Rattle.proof_report.proofs.ending.prove_planned.Goals as goal
 
 pub handed_cuts-requires-clause-pool : goal.handed_cuts-requires-clause-pool

@@ -1,9 +1,7 @@
-use Rattle.std.proofs.Common.{◌≡◌, ◌∙◌, ◌+◌, ◌<◌, ◌++◌, List, [], ◌∷◌, ap, arith, get_or, length, map, subst, sym, take}
-use Rattle.std.proofs.lemmas.List.{map_push, take_more}
+use Rattle.std.{proofs.Common.{◌≡◌, ◌∙◌, ◌+◌, ◌<◌, ◌++◌, List, [], ◌∷◌, ap, arith, get_or, length, map, subst, sym, take}, proofs.lemmas.List.{map_push, take_more}}
 use Rattle.plan_terms.specs.Terms.{CutLine}
 use Rattle.plan_types.specs.declared.certificate.CertLine.{CertLine}
-use Rattle.proof_report.specs.ProvedReports.{AreHandedIn}
-use Rattle.proof_report.proofs.Handing.{one_handed}
+use Rattle.proof_report.{specs.ProvedReports.AreHandedIn, proofs.Handing.one_handed}
 use Rattle.proof_report.proofs.handed_cuts.handed_cuts.Goals as goal
 
 pub loop-line-preserved : goal.loop-line-preserved

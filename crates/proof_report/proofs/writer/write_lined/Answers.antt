@@ -6,8 +6,7 @@ use Rattle.trimmed_report.specs.Terms.{whole_report}
 use Rattle.report_comments.proofs.Spelling.{reports_take_comments}
 use Rattle.tree_search.specs.Terms.{Proof}
 use Rattle.tree_lines.specs.TreeLines.{IsToldProof, proof_lines}
-use Rattle.proof_report.specs.ProvedReports.{proof_text, proved_report}
-use Rattle.proof_report.proofs.Told.{proof_told}
+use Rattle.proof_report.{specs.ProvedReports.{proof_text, proved_report}, proofs.Told.proof_told}
 use Rattle.proof_report.proofs.writer.write_lined.Goals as goal
 
 pub write_report-requires : goal.write_report-requires

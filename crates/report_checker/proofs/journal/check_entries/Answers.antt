@@ -1,9 +1,7 @@
 use Rattle.std.proofs.Common.{refl, take}
 use Rattle.plan_terms.specs.Terms.{Entry, case_of}
 use Rattle.plan_checker.proofs.Places.{holds_here, none_at_all, none_more}
-use Rattle.report_checker.specs.Journals.{IsOtherEntry}
-use Rattle.report_checker.proofs.Telling.{no_entry}
-use Rattle.report_checker.proofs.Walking.{passed_more, room}
+use Rattle.report_checker.{specs.Journals.IsOtherEntry, proofs.Telling.no_entry, proofs.Walking.{passed_more, room}}
 use Rattle.report_checker.proofs.journal.check_entries.Goals as goal
 
 pub pass-requires-clause-few : goal.pass-requires-clause-few

@@ -1,8 +1,7 @@
 use Rattle.std.proofs.Common.{ℕ, ◌<◌, take}
 use Rattle.plan_terms.specs.Terms.{case_of}
 use Rattle.plan_checker.specs.Terms.{HoldsAt}
-use Rattle.report_checker.specs.Journals.{IsOtherEntry}
-use Rattle.report_checker.specs.inner.Walks.{HasPassed}
+use Rattle.report_checker.{specs.Journals.IsOtherEntry, specs.inner.Walks.HasPassed}
 use Rattle.report_checker.proofs.journal.check_entries.Given as goal
 
 -- the entries so far are passed, and none of them is another than the one that is expected

@@ -1,8 +1,7 @@
 use Rattle.std.proofs.Common.{arith, subst, ⊎_elim}
 use Rattle.net_core.proofs.Library.{cases_eq}
 use Rattle.plan_terms.specs.Terms.{case_of}
-use Rattle.report_checker.specs.inner.Said.{IsSaidSeparation}
-use Rattle.report_checker.proofs.Apart.{no_survivable, none_named}
+use Rattle.report_checker.{specs.inner.Said.IsSaidSeparation, proofs.Apart.{no_survivable, none_named}}
 use Rattle.report_checker.proofs.outcomes.check_separated.Goals as goal
 
 pub returns-then-branch-clause-told : goal.returns-then-branch-clause-told

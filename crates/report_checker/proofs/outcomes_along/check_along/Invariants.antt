@@ -1,7 +1,6 @@
 use Rattle.std.proofs.Common.{take}
 use Rattle.plan_terms.specs.Terms.{case_of}
-use Rattle.report_checker.specs.inner.Along.{AreChecked}
-use Rattle.report_checker.specs.inner.Walks.{HasPassed}
+use Rattle.report_checker.{specs.inner.Along.AreChecked, specs.inner.Walks.HasPassed}
 use Rattle.report_checker.proofs.outcomes_along.check_along.Given as goal
 
 -- the entries so far are passed, and the outcomes of the places before them are checked

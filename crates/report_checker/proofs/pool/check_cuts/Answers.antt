@@ -1,8 +1,6 @@
 use Rattle.plan_terms.specs.Terms.{CutLine, graph_in, case_of, AreKept}
 use Rattle.plan_checker.proofs.Places.{all_held, none_at_all}
-use Rattle.report_checker.specs.Pools.{IsBadCut}
-use Rattle.report_checker.proofs.Telling.{no_bad}
-use Rattle.report_checker.proofs.PoolLines.{bad_here, kept_more, none_bad_more}
+use Rattle.report_checker.{specs.Pools.IsBadCut, proofs.Telling.no_bad, proofs.PoolLines.{bad_here, kept_more, none_bad_more}}
 use Rattle.report_checker.proofs.pool.check_cuts.Goals as goal
 
 pub returns-then-is_bad-clause-told : goal.returns-then-is_bad-clause-told

@@ -1,10 +1,8 @@
 use Rattle.std.proofs.Common.{◌∙◌, sym}
-use Rattle.plan_terms.specs.Terms.{CutLine, case_of}
-use Rattle.plan_checker.proofs.Places.{none_at_all, none_more}
-use Rattle.plan_checker.specs.Terms.{HasStaleRight}
+use Rattle.plan_terms.{specs.Terms.{CutLine, case_of}, proofs.Lemmas.right_once}
+use Rattle.plan_checker.{proofs.Places.{none_at_all, none_more}, specs.Terms.HasStaleRight}
 use Rattle.report_checker.proofs.Telling.{no_stale}
 use Rattle.report_checker.proofs.pool.check_rights.Goals as goal
-use Rattle.plan_terms.proofs.Lemmas.{right_once}
 
 pub loop-k-preserved : goal.loop-k-preserved
 loop-k-preserved c j x y lt =

@@ -1,7 +1,5 @@
-use Rattle.text_kit.specs.Terms.{Parenthesis, no_fault}
-use Rattle.text_kit.proofs.Lemmas.{list_turn}
-use Rattle.report_parts.specs.ReadingParts.{plan_demand_at}
-use Rattle.report_parts.proofs.PartsOnline.{plan_demand_some}
+use Rattle.text_kit.{specs.Terms.{Parenthesis, no_fault}, proofs.Lemmas.list_turn}
+use Rattle.report_parts.{specs.ReadingParts.plan_demand_at, proofs.PartsOnline.plan_demand_some}
 use Rattle.report_parts.proofs.demands.take_demand.Goals as goal
 
 pub returns-clause-turn : goal.returns-clause-turn

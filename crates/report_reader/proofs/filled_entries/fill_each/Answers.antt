@@ -1,9 +1,6 @@
-use Rattle.std.proofs.Common.{◌≡◌, ◌∙◌, ◌≤◌, ◌<◌, length, get_or, sym, ap, arith}
-use Rattle.std.proofs.Math.Seq.{map-set_same}
-use Rattle.std.proofs.lemmas.List.Elements.{All-from_all_within, AllWithin-more_set, AllWithin-upto}
+use Rattle.std.{proofs.Common.{◌≡◌, ◌∙◌, ◌≤◌, ◌<◌, length, get_or, sym, ap, arith}, proofs.Math.Seq.map-set_same, proofs.lemmas.List.Elements.{All-from_all_within, AllWithin-more_set, AllWithin-upto}}
 use Rattle.plan_terms.specs.Terms.{Entry}
-use Rattle.report_reader.specs.ReadingReport.{filled}
-use Rattle.report_reader.proofs.Fillings.{all_same, filled_again}
+use Rattle.report_reader.{specs.ReadingReport.filled, proofs.Fillings.{all_same, filled_again}}
 use Rattle.report_reader.proofs.filled_entries.fill_each.Goals as goal
 
 pub loop-k-preserved : goal.loop-k-preserved

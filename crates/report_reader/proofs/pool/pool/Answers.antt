@@ -1,6 +1,5 @@
 use Rattle.plan_report.specs.Terms.{known_of}
-use Rattle.report_reader.proofs.JournalLaws.{pool_few}
-use Rattle.report_reader.proofs.ReportOnline.{pool_line_some}
+use Rattle.report_reader.{proofs.JournalLaws.pool_few, proofs.ReportOnline.pool_line_some}
 use Rattle.report_reader.proofs.pool.pool.Goals as goal
 
 pub list-requires : goal.list-requires

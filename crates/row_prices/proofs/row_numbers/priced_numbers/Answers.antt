@@ -1,8 +1,6 @@
-use Rattle.std.proofs.Common.{◌∙◌, ap, arith}
+use Rattle.std.{proofs.Common.{◌∙◌, ap, arith}, proofs.lemmas.Option.IfSome_then}
 use Rattle.net_core.proofs.Library.{IfOk-weaker}
-use Rattle.std.proofs.lemmas.Option.{IfSome_then}
-use Rattle.row_prices.specs.declared.path_row.PathRow.{PathRow}
-use Rattle.row_prices.proofs.Tested.{tested_answer}
+use Rattle.row_prices.{specs.declared.path_row.PathRow.PathRow, proofs.Tested.tested_answer}
 use Rattle.row_prices.proofs.row_numbers.priced_numbers.Goals as goal
 
 pub returns : goal.returns

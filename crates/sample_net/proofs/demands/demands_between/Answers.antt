@@ -1,8 +1,5 @@
 use Rattle.std.proofs.Common.{ℕ, get_or}
-use Rattle.sample_net.specs.Draws.{nth_draw}
-use Rattle.sample_net.specs.Samples.{sample_demand}
-use Rattle.sample_net.proofs.Sequence.{one_more, step_more}
-use Rattle.sample_net.proofs.Takes.{demand_taken}
+use Rattle.sample_net.{specs.Draws.nth_draw, specs.Samples.sample_demand, proofs.Sequence.{one_more, step_more}, proofs.Takes.demand_taken}
 use Rattle.sample_net.proofs.demands.demands_between.Goals as goal
 
 pub loop-k-preserved : goal.loop-k-preserved

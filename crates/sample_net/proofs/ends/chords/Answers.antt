@@ -1,7 +1,5 @@
 use Rattle.std.proofs.Common.{◌≡◌, ℕ, ◌+◌, ◌-◌, ◌*◌, ◌%◌, ap, ◌∙◌}
-use Rattle.sample_net.specs.Draws.{drawn, nth_number}
-use Rattle.sample_net.specs.Samples.{chord_ends}
-use Rattle.sample_net.proofs.Sequence.{one_more, step_more}
+use Rattle.sample_net.{specs.Draws.{drawn, nth_number}, specs.Samples.chord_ends, proofs.Sequence.{one_more, step_more}}
 use Rattle.sample_net.proofs.ends.chords.Goals as goal
 
 pub loop-c-preserved : goal.loop-c-preserved

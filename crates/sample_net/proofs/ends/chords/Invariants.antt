@@ -1,7 +1,6 @@
 use Rattle.std.proofs.Common.{◌≡◌, map}
 use Rattle.net_core.proofs.Library.{range_with_len}
-use Rattle.sample_net.specs.Draws.{nth_number}
-use Rattle.sample_net.specs.Samples.{chord_ends}
+use Rattle.sample_net.{specs.Draws.nth_number, specs.Samples.chord_ends}
 use Rattle.sample_net.proofs.ends.chords.Given as goal
 
 -- the chords so far, with one draw each

@@ -1,6 +1,5 @@
 use Rattle.std.proofs.Common.{refl}
-use Rattle.sample_net.specs.Samples.{ring_ends}
-use Rattle.sample_net.proofs.Sequence.{one_more}
+use Rattle.sample_net.{specs.Samples.ring_ends, proofs.Sequence.one_more}
 use Rattle.sample_net.proofs.ends.ring.Goals as goal
 
 pub loop-i-preserved : goal.loop-i-preserved

@@ -1,5 +1,4 @@
-use Rattle.sample_net.specs.Samples.{numbered}
-use Rattle.sample_net.proofs.Sequence.{one_more}
+use Rattle.sample_net.{specs.Samples.numbered, proofs.Sequence.one_more}
 use Rattle.sample_net.proofs.generator.nodes.Goals as goal
 
 pub loop-i-preserved : goal.loop-i-preserved

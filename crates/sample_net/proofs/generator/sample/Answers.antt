@@ -1,10 +1,6 @@
 use Rattle.std.proofs.Common.{ap, length, not, sym, ◌==◌, ◌∙◌}
 use Rattle.net_core.proofs.Library.{list_any, length-map-range_with_len}
-use Rattle.sample_net.specs.Draws.{nth_number}
-use Rattle.sample_net.specs.Samples.{chord_count, numbered, sample_ends, sample_nodes, sample_pairs}
-use Rattle.sample_net.proofs.Pairs.{pairs_count}
-use Rattle.sample_net.proofs.Sound.{are_sample_demands, demands_long, is_sample_network, links_long, no_setup}
-use Rattle.sample_net.proofs.Surviving.{is_survivable}
+use Rattle.sample_net.{specs.Draws.nth_number, specs.Samples.{chord_count, numbered, sample_ends, sample_nodes, sample_pairs}, proofs.Pairs.pairs_count, proofs.Sound.{are_sample_demands, demands_long, is_sample_network, links_long, no_setup}, proofs.Surviving.is_survivable}
 use Rattle.sample_net.proofs.generator.sample.Goals as goal
 
 pub checked-requires : goal.checked-requires

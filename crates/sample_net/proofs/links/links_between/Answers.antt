@@ -1,8 +1,5 @@
 use Rattle.std.proofs.Common.{ℕ, ◌+◌, ◌*◌, get_or}
-use Rattle.sample_net.specs.Draws.{nth_draw}
-use Rattle.sample_net.specs.Samples.{sample_link}
-use Rattle.sample_net.proofs.Sequence.{one_more}
-use Rattle.sample_net.proofs.Takes.{link_taken, two_more}
+use Rattle.sample_net.{specs.Draws.nth_draw, specs.Samples.sample_link, proofs.Sequence.one_more, proofs.Takes.{link_taken, two_more}}
 use Rattle.sample_net.proofs.links.links_between.Goals as goal
 
 pub loop-e-preserved : goal.loop-e-preserved

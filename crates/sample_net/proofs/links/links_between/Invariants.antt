@@ -1,7 +1,6 @@
 use Rattle.std.proofs.Common.{◌≡◌, ◌*◌, ◌+◌, get_or, map}
 use Rattle.net_core.proofs.Library.{range_with_len}
-use Rattle.sample_net.specs.Draws.{nth_draw, nth_number}
-use Rattle.sample_net.specs.Samples.{sample_link}
+use Rattle.sample_net.{specs.Draws.{nth_draw, nth_number}, specs.Samples.sample_link}
 use Rattle.sample_net.proofs.links.links_between.Given as goal
 
 -- the links so far, with two draws each

@@ -1,7 +1,6 @@
 use Rattle.std.proofs.Common.{◌∷◌, [], arith, codes}
-use Rattle.text_kit.specs.Terms.{Opening, Verbatim}
+use Rattle.text_kit.{specs.Terms.{Opening, Verbatim}, proofs.Lemmas.{adds_next, adds_section}}
 use Rattle.sample_net.specs.Texts.{unit_demand_items}
-use Rattle.text_kit.proofs.Lemmas.{adds_next, adds_section}
 use Rattle.sample_net.proofs.texts.put_demands.Goals as goal
 
 pub loop-demand-preserved : goal.loop-demand-preserved

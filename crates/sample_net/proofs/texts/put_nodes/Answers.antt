@@ -1,6 +1,5 @@
 use Rattle.std.proofs.Common.{◌∷◌, [], arith, codes}
-use Rattle.text_kit.specs.Terms.{Opening, Verbatim}
-use Rattle.text_kit.proofs.Lemmas.{adds_next, adds_section}
+use Rattle.text_kit.{specs.Terms.{Opening, Verbatim}, proofs.Lemmas.{adds_next, adds_section}}
 use Rattle.sample_net.proofs.texts.put_nodes.Goals as goal
 
 pub loop-node-preserved : goal.loop-node-preserved

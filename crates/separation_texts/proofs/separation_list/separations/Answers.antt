@@ -1,7 +1,6 @@
 use Rattle.std.proofs.Common.{arith, subst, sym}
 use Rattle.plan_terms.specs.Terms.{case_of}
-use Rattle.separation_texts.specs.inner.SeparationsSoFar.{AreSeparationsBefore}
-use Rattle.separation_texts.proofs.Growing.{all_found, none_before}
+use Rattle.separation_texts.{specs.inner.SeparationsSoFar.AreSeparationsBefore, proofs.Growing.{all_found, none_before}}
 use Rattle.separation_texts.proofs.separation_list.separations.Goals as goal
 
 pub loop-s-init : goal.loop-s-init

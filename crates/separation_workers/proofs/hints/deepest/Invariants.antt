@@ -1,6 +1,5 @@
 use Rattle.std.proofs.Common.{◌≡◌, IfSome, length}
-use Rattle.hint_board.specs.Hints.{hint_links}
-use Rattle.hint_board.specs.Priced.{AreHintLengths}
+use Rattle.hint_board.{specs.Hints.hint_links, specs.Priced.AreHintLengths}
 use Rattle.separation_workers.proofs.hints.deepest.Given as goal
 
 abbrev pub invariant-loop-at : goal.invariant-loop-at

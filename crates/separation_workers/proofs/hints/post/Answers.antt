@@ -1,6 +1,5 @@
 use Rattle.std.proofs.Common.{◌≤◌, All, Contains, subst, sym}
-use Rattle.hint_board.specs.Hints.{hint_links}
-use Rattle.hint_board.specs.Priced.{AreHintLengths}
+use Rattle.hint_board.{specs.Hints.hint_links, specs.Priced.AreHintLengths}
 use Rattle.separation_workers.proofs.Shown.{zeros_and_ones_are_hints}
 use Rattle.separation_workers.proofs.hints.post.Goals as goal
 

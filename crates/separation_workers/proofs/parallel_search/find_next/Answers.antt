@@ -1,7 +1,6 @@
 use Rattle.std.proofs.Common.{[], ◌∷◌, ◌++◌, arith}
 use Rattle.net_core.proofs.Library.{All-push, All-same}
-use Rattle.separation_workers.specs.declared.round.StateFound.{StateFound}
-use Rattle.separation_workers.specs.inner.Rounds.{IsStateFound}
+use Rattle.separation_workers.{specs.declared.round.StateFound.StateFound, specs.inner.Rounds.IsStateFound}
 use Rattle.separation_workers.proofs.parallel_search.find_next.Goals as goal
 
 pub find_or_stop-requires : goal.find_or_stop-requires

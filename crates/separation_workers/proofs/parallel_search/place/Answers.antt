@@ -1,5 +1,4 @@
-use Rattle.std.proofs.Common.{IfSome, subst, sym}
-use Rattle.std.proofs.lemmas.List.Elements.{All-set}
+use Rattle.std.{proofs.Common.{IfSome, subst, sym}, proofs.lemmas.List.Elements.All-set}
 use Rattle.separation_workers.specs.inner.Rounds.{IsStateFound}
 use Rattle.separation_workers.proofs.parallel_search.place.Goals as goal
 

@@ -1,6 +1,5 @@
 use Rattle.plan_terms.specs.Terms.{case_of}
-use Rattle.separator.specs.Separators.{cuts_since}
-use Rattle.separator.specs.inner.Working.{AreCutsAnswered, AreCutsBelow}
+use Rattle.separator.{specs.Separators.cuts_since, specs.inner.Working.{AreCutsAnswered, AreCutsBelow}}
 use Rattle.board_desk.specs.Turns.{caller_seen}
 use Rattle.separation_workers.specs.Callers.{SeesOn}
 use Rattle.separation_workers.proofs.some_states.answer_all_sets.Given as goal

@@ -1,7 +1,6 @@
 use Rattle.std.proofs.Common.{subst, sym}
 use Rattle.plan_terms.specs.Terms.{case_of}
-use Rattle.separation_workers.specs.inner.Rounds.{AreFound}
-use Rattle.separation_workers.proofs.Working.{nothing_below, pooled_none, stays}
+use Rattle.separation_workers.{specs.inner.Rounds.AreFound, proofs.Working.{nothing_below, pooled_none, stays}}
 use Rattle.separation_workers.proofs.some_states.answer_batch.Goals as goal
 
 pub answer_places-requires-clause-found : goal.answer_places-requires-clause-found

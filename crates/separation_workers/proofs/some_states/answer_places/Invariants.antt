@@ -1,10 +1,8 @@
 use Rattle.std.proofs.Common.{◌≡◌, []}
 use Rattle.plan_terms.specs.Terms.{case_of}
-use Rattle.separator.specs.Separators.{cuts_since}
-use Rattle.separator.specs.inner.Working.{AreCutsAnswered, AreCutsBelow, ContinueTo}
+use Rattle.separator.{specs.Separators.cuts_since, specs.inner.Working.{AreCutsAnswered, AreCutsBelow, ContinueTo}}
 use Rattle.board_desk.specs.Turns.{caller_seen}
-use Rattle.separation_workers.specs.Callers.{SeesOn}
-use Rattle.separation_workers.specs.inner.Rounds.{AreFound}
+use Rattle.separation_workers.{specs.Callers.SeesOn, specs.inner.Rounds.AreFound}
 use Rattle.separation_workers.proofs.some_states.answer_places.Given as goal
 
 -- the states so far

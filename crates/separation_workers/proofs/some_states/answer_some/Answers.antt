@@ -2,8 +2,7 @@ use Rattle.std.proofs.Common.{◌≡◌, ◌+◌, ◌<◌, [], ap, arith, length
 use Rattle.net_core.proofs.Library.{IfOk-weaker, nil_from_length}
 use Rattle.plan_terms.specs.Terms.{case_of}
 use Rattle.board_desk.specs.Turns.{caller_seen}
-use Rattle.separator.specs.Separators.{cuts_answered}
-use Rattle.separator.proofs.SomeAnswers.{cuts_are_some}
+use Rattle.separator.{specs.Separators.cuts_answered, proofs.SomeAnswers.cuts_are_some}
 use Rattle.separation_workers.proofs.Working.{among_after_nothing, below_after_nothing, cuts_pooled, goes_on, pooled_nothing, still_in}
 use Rattle.separation_workers.proofs.some_states.answer_some.Goals as goal
 

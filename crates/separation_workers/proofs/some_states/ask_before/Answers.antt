@@ -2,8 +2,7 @@ use Rattle.std.proofs.Common.{◌≡◌, ◌+◌, ◌<◌, [], ap, arith, length
 use Rattle.net_core.proofs.Library.{IfOk-weaker, nil_from_length}
 use Rattle.plan_terms.specs.Terms.{case_of}
 use Rattle.board_desk.specs.Turns.{caller_seen}
-use Rattle.separator.specs.Separators.{cuts_answered}
-use Rattle.separator.proofs.Lemmas.{cuts_weaker, answered_wider, cuts_are_some, others_none, ring_answers}
+use Rattle.separator.{specs.Separators.cuts_answered, proofs.Lemmas.{cuts_weaker, answered_wider, cuts_are_some, others_none, ring_answers}}
 use Rattle.separation_workers.proofs.Working.{among_nothing, cuts_pooled, pooled_nothing}
 use Rattle.separation_workers.proofs.some_states.ask_before.Goals as goal
 

@@ -2,9 +2,7 @@ use Rattle.std.proofs.Common.{◌≡◌, ◌+◌, ◌<◌, [], ap, arith, length
 use Rattle.net_core.proofs.Library.{IfOk-weaker, nil_from_length}
 use Rattle.plan_terms.specs.Terms.{case_of}
 use Rattle.board_desk.specs.Turns.{caller_seen}
-use Rattle.separator.specs.Separators.{cuts_answered}
-use Rattle.separator.specs.inner.Working.{AreOtherAnswers}
-use Rattle.separator.proofs.SomeAnswers.{answered_wider, cuts_are_some, others_none}
+use Rattle.separator.{specs.Separators.cuts_answered, specs.inner.Working.AreOtherAnswers, proofs.SomeAnswers.{answered_wider, cuts_are_some, others_none}}
 use Rattle.separation_workers.proofs.Working.{among_after_nothing, below_after_nothing, cuts_pooled, goes_on, pooled_nothing, still_in}
 use Rattle.separation_workers.proofs.some_states.ask_ring.Goals as goal
 

@@ -1,8 +1,7 @@
 use Rattle.std.proofs.Common.{◌≡◌, [], ap, arith, length, subst, sym, ◌∙◌}
 use Rattle.net_core.proofs.Library.{nil_from_length}
 use Rattle.plan_terms.specs.Terms.{case_of}
-use Rattle.separator.specs.Separators.{cuts_answered}
-use Rattle.separator.specs.inner.Working.{ContinueTo}
+use Rattle.separator.{specs.Separators.cuts_answered, specs.inner.Working.ContinueTo}
 use Rattle.separation_workers.proofs.Working.{answered_after_nothing, answered_none, below_after_nothing, goes_on, nothing_below, pooled_after_nothing, pooled_none, pooled_nothing, stays, still_in}
 use Rattle.separation_workers.proofs.some_states.ask_until_cuts.Goals as goal
 

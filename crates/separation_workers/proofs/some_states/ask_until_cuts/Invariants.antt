@@ -1,8 +1,7 @@
 use Rattle.std.proofs.Common.{◌≡◌, ◌≤◌, ◌-◌, []}
 use Rattle.plan_terms.specs.Terms.{case_of}
 use Rattle.separator.specs.inner.Working.{ContinueTo}
-use Rattle.separation_workers.specs.Callers.{SeesOn}
-use Rattle.separation_workers.proofs.Working.{cuts_pooled}
+use Rattle.separation_workers.{specs.Callers.SeesOn, proofs.Working.cuts_pooled}
 use Rattle.separation_workers.proofs.some_states.ask_until_cuts.Given as goal
 
 -- the states that are left

@@ -1,6 +1,5 @@
 use Rattle.plan_terms.specs.Terms.{case_of}
-use Rattle.separator.specs.Separators.{cuts_since}
-use Rattle.separator.proofs.Answering.{cut_named, cuts_at_most, violated_answer}
+use Rattle.separator.{specs.Separators.cuts_since, proofs.Answering.{cut_named, cuts_at_most, violated_answer}}
 use Rattle.board_desk.specs.Turns.{caller_seen}
 use Rattle.separation_workers.proofs.Working.{none_of_state, stays}
 use Rattle.separation_workers.proofs.workers.answer_cut.Goals as goal

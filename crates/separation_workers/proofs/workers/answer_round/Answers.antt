@@ -1,7 +1,6 @@
 use Rattle.std.proofs.Common.{◌+◌, length, subst, sym}
 use Rattle.plan_terms.specs.Terms.{case_of}
-use Rattle.separation_workers.specs.inner.Rounds.{AreFound}
-use Rattle.separation_workers.proofs.Working.{none_below, stays}
+use Rattle.separation_workers.{specs.inner.Rounds.AreFound, proofs.Working.{none_below, stays}}
 use Rattle.separation_workers.proofs.workers.answer_round.Goals as goal
 
 pub answer_states-requires-clause-found : goal.answer_states-requires-clause-found

@@ -1,9 +1,7 @@
 use Rattle.plan_terms.specs.Terms.{case_of}
-use Rattle.separator.specs.Separators.{cuts_since}
-use Rattle.separator.specs.inner.Working.{AreAnswersBelow, AreCutsBelow}
-use Rattle.separation_workers.specs.inner.Rounds.{AreFound}
+use Rattle.separator.{specs.Separators.cuts_since, specs.inner.Working.{AreAnswersBelow, AreCutsBelow}}
 use Rattle.board_desk.specs.Turns.{caller_seen}
-use Rattle.separation_workers.specs.Callers.{SeesOn}
+use Rattle.separation_workers.{specs.inner.Rounds.AreFound, specs.Callers.SeesOn}
 use Rattle.separation_workers.proofs.workers.answer_states.Given as goal
 
 -- the states so far

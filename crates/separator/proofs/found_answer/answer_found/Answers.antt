@@ -1,8 +1,7 @@
 use Rattle.std.proofs.Common.{[], subst}
 use Rattle.net_core.proofs.Library.{IfOk-weaker}
 use Rattle.plan_terms.specs.Terms.{graph_in, case_of}
-use Rattle.separator.specs.Findings.{IsFinding}
-use Rattle.separator.proofs.Answering.{none_among, of_none}
+use Rattle.separator.{specs.Findings.IsFinding, proofs.Answering.{none_among, of_none}}
 use Rattle.separator.proofs.found_answer.answer_found.Goals as goal
 
 pub answer_cut-requires-clause-cut : goal.answer_cut-requires-clause-cut

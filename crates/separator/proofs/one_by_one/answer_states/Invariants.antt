@@ -1,6 +1,5 @@
 use Rattle.plan_terms.specs.Terms.{case_of}
-use Rattle.separator.specs.Separators.{cuts_after}
-use Rattle.separator.specs.inner.Working.{AreAnswersBelow, PoolsBelow}
+use Rattle.separator.{specs.Separators.cuts_after, specs.inner.Working.{AreAnswersBelow, PoolsBelow}}
 use Rattle.separator.proofs.one_by_one.answer_states.Given as goal
 
 -- the states so far

@@ -1,6 +1,4 @@
-use Rattle.std.proofs.Common.{◌≤◌, ◌*◌, arith}
-use Rattle.std.proofs.Math.Nat.{le-min, mul-le-mul_right}
-use Rattle.std.proofs.lemmas.Grind.{div_ceil_times}
+use Rattle.std.{proofs.Common.{◌≤◌, ◌*◌, arith}, proofs.Math.Nat.{le-min, mul-le-mul_right}, proofs.lemmas.Grind.div_ceil_times}
 use Rattle.separator.proofs.roomy_sets.roomy_num.Goals as goal
 
 pub returns : goal.returns

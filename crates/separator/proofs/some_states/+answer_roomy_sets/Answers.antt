@@ -1,8 +1,7 @@
 use Rattle.std.proofs.Common.{◌≡◌, ◌+◌, [], ap, arith, length}
 use Rattle.net_core.proofs.Library.{IfOk-weaker, nil_from_length}
 use Rattle.plan_terms.specs.Terms.{case_of}
-use Rattle.separator.specs.Separators.{cuts_answered}
-use Rattle.separator.proofs.SomeBoards.{answered_after_nothing, below_after_nothing, pools_nothing}
+use Rattle.separator.{specs.Separators.cuts_answered, proofs.SomeBoards.{answered_after_nothing, below_after_nothing, pools_nothing}}
 use Rattle.separator.proofs.some_states.+answer_roomy_sets.Goals as goal
 
 pub returns-then-level-lt-NO_ROOM-clause-pools : goal.returns-then-level-lt-NO_ROOM-clause-pools

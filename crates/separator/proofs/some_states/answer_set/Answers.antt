@@ -1,8 +1,6 @@
 use Rattle.std.proofs.Common.{IfSome, [], ap, inl, inr, refl, subst}
 use Rattle.plan_terms.specs.Terms.{graph_in, case_of}
-use Rattle.separator.specs.Findings.{IsFoundCutOf}
-use Rattle.separator.proofs.Answering.{of_none}
-use Rattle.separator.proofs.Pooling.{pools_none, pools_since}
+use Rattle.separator.{specs.Findings.IsFoundCutOf, proofs.Answering.of_none, proofs.Pooling.{pools_none, pools_since}}
 use Rattle.separator.proofs.some_states.answer_set.Goals as goal
 
 pub returns-in_err-cut-clause-pools : goal.returns-in_err-cut-clause-pools

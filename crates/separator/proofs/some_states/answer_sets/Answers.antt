@@ -1,7 +1,6 @@
 use Rattle.std.proofs.Common.{◌+◌, ◌∙◌, ap, arith, length}
 use Rattle.plan_terms.specs.Terms.{case_of}
-use Rattle.separator.proofs.Answering.{below_more, below_none, below_weaker}
-use Rattle.separator.proofs.SomeBoards.{board_adds, board_unanswered}
+use Rattle.separator.{proofs.Answering.{below_more, below_none, below_weaker}, proofs.SomeBoards.{board_adds, board_unanswered}}
 use Rattle.separator.proofs.some_states.answer_sets.Goals as goal
 
 pub returns-in_err-sets-clause-pools : goal.returns-in_err-sets-clause-pools

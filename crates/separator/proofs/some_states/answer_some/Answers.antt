@@ -1,9 +1,7 @@
 use Rattle.std.proofs.Common.{◌≡◌, ◌+◌, ◌<◌, ◌∙◌, [], ap, arith, length}
 use Rattle.net_core.proofs.Library.{IfOk-weaker, nil_from_length}
 use Rattle.plan_terms.specs.Terms.{case_of}
-use Rattle.separator.specs.Separators.{cuts_after, cuts_answered}
-use Rattle.separator.proofs.SomeAnswers.{cuts_are_some}
-use Rattle.separator.proofs.SomeBoards.{among_after_nothing, below_after_nothing, pools_nothing}
+use Rattle.separator.{specs.Separators.{cuts_after, cuts_answered}, proofs.SomeAnswers.cuts_are_some, proofs.SomeBoards.{among_after_nothing, below_after_nothing, pools_nothing}}
 use Rattle.separator.proofs.some_states.answer_some.Goals as goal
 
 pub ask_ring-requires-clause-net : goal.ask_ring-requires-clause-net

@@ -1,13 +1,7 @@
 use Rattle.std.proofs.Common.{◌+◌, IfSome, length, subst, ◌∷◌, []}
 use Rattle.net_core.proofs.Library.{IfOk-weaker}
 use Rattle.plan_terms.specs.Terms.{case_of}
-use Rattle.separator.specs.Separators.{cuts_after, cuts_answered}
-use Rattle.separator.specs.declared.answers.StateAnswer.{StateAnswer}
-use Rattle.separator.specs.inner.Working.{AreCutsAnswered}
-use Rattle.separator.proofs.Answering.{below_weaker}
-use Rattle.separator.proofs.Pooling.{pools_none}
-use Rattle.separator.proofs.SomeAnswers.{others_none, ring_answers}
-use Rattle.separator.proofs.SomeBoards.{none_is_among, only_is_some}
+use Rattle.separator.{specs.Separators.{cuts_after, cuts_answered}, specs.declared.answers.StateAnswer.StateAnswer, specs.inner.Working.AreCutsAnswered, proofs.Answering.below_weaker, proofs.Pooling.pools_none, proofs.SomeAnswers.{others_none, ring_answers}, proofs.SomeBoards.{none_is_among, only_is_some}}
 use Rattle.separator.proofs.some_states.ask_before.Goals as goal
 
 pub returns-in_err-cut-clause-pools : goal.returns-in_err-cut-clause-pools

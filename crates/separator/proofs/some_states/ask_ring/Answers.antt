@@ -1,12 +1,7 @@
 use Rattle.std.proofs.Common.{◌+◌, ◌∙◌, IfSome, ap, arith, length, subst, ◌∷◌, []}
 use Rattle.net_core.proofs.Library.{IfOk-weaker}
 use Rattle.plan_terms.specs.Terms.{case_of}
-use Rattle.separator.specs.Separators.{cuts_after, cuts_answered}
-use Rattle.separator.specs.declared.answers.StateAnswer.{StateAnswer}
-use Rattle.separator.specs.inner.Working.{AreCutsAnswered, AreOtherAnswers}
-use Rattle.separator.proofs.Pooling.{pools_none}
-use Rattle.separator.proofs.SomeAnswers.{others_none}
-use Rattle.separator.proofs.SomeBoards.{below_after_nothing, among_after_nothing, only_is_some}
+use Rattle.separator.{specs.Separators.{cuts_after, cuts_answered}, specs.declared.answers.StateAnswer.StateAnswer, specs.inner.Working.{AreCutsAnswered, AreOtherAnswers}, proofs.Pooling.pools_none, proofs.SomeAnswers.others_none, proofs.SomeBoards.{below_after_nothing, among_after_nothing, only_is_some}}
 use Rattle.separator.proofs.some_states.ask_ring.Goals as goal
 
 pub returns-in-Some-clause-answers : goal.returns-in-Some-clause-answers

@@ -1,10 +1,6 @@
 use Rattle.std.proofs.Common.{◌≡◌, ◌∙◌, ℕ, List, [], ◌∷◌, ap, arith, subst}
 use Rattle.plan_terms.specs.Terms.{case_of}
-use Rattle.separator.specs.Separators.{cut_answered, cuts_after}
-use Rattle.separator.specs.inner.Working.{AreCutsAnswered, ContinueTo}
-use Rattle.separator.proofs.Pooling.{pools_none}
-use Rattle.separator.proofs.SomeAnswers.{cut_alone, others_more}
-use Rattle.separator.proofs.SomeBoards.{below_after_nothing, cuts_after_nothing, nothing_below, nothing_both, of_is_below, pools_nothing}
+use Rattle.separator.{specs.Separators.{cut_answered, cuts_after}, specs.inner.Working.{AreCutsAnswered, ContinueTo}, proofs.Pooling.pools_none, proofs.SomeAnswers.{cut_alone, others_more}, proofs.SomeBoards.{below_after_nothing, cuts_after_nothing, nothing_below, nothing_both, of_is_below, pools_nothing}}
 use Rattle.separator.proofs.some_states.ask_until_cut.Goals as goal
 
 pub loop-s-init : goal.loop-s-init

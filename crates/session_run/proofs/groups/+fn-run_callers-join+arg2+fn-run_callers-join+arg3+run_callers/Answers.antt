@@ -1,14 +1,10 @@
 use denote.Param.Send.{sendable}
 use Rattle.std.proofs.Common.{◌∙◌, ◌-◌, ◌/◌, arith, subst, sym}
 use Rattle.net_core.proofs.Library.{crosses}
-use Rattle.board_desk.proofs.Sent.{caller_send}
-use Rattle.board_desk.specs.Turns.{caller_seen}
+use Rattle.board_desk.{proofs.Sent.caller_send, specs.Turns.caller_seen}
 use Rattle.cut_pool.specs.Terms.{opening_case}
 use Rattle.turn_lock.specs.Passes.{opening_of}
-use Rattle.session_run.specs.inner.Running.{EndsRun, case_made, commands_of}
-use Rattle.session_run.proofs.Dealt.{all_first, all_second}
-use Rattle.session_run.proofs.Meeting.{callers_met}
-use Rattle.session_run.proofs.Sent.{outcome_send, setting_sync}
+use Rattle.session_run.{specs.inner.Running.{EndsRun, case_made, commands_of}, proofs.Dealt.{all_first, all_second}, proofs.Meeting.callers_met, proofs.Sent.{outcome_send, setting_sync}}
 use Rattle.session_run.proofs.groups.+fn-run_callers-join+arg2+fn-run_callers-join+arg3+run_callers.Goals as goal
 
 pub returns-then-high-low-le1-clause-run : goal.returns-then-high-low-le1-clause-run

@@ -1,12 +1,8 @@
 use Rattle.std.proofs.Common.{◌+◌, ◌∙◌, subst, sym, take}
 use Rattle.net_core.proofs.Library.{err_from_is_err_and}
 use Rattle.board_desk.specs.Turns.{caller_seen}
-use Rattle.session_run.specs.inner.Running.{AreFewOwn, IsFullAt, case_made, commands_of, is_of}
-use Rattle.session_run.proofs.Dealt.{few_so_far}
-use Rattle.session_run.proofs.Sofar.{acted_on, begun, passed_over, stopped_few}
-use Rattle.session_run.proofs.Turns.{same_both, still_of}
+use Rattle.session_run.{specs.inner.Running.{AreFewOwn, IsFullAt, case_made, commands_of, is_of}, proofs.Dealt.few_so_far, proofs.Sofar.{acted_on, begun, passed_over, stopped_few}, proofs.Turns.{same_both, still_of}, proofs.one_caller.run_caller.Goals.{then-command-number+in_ok-run_command, else-command-number}}
 use Rattle.session_run.proofs.one_caller.run_caller.Goals as goal
-use Rattle.session_run.proofs.one_caller.run_caller.Goals.{then-command-number+in_ok-run_command, else-command-number}
 
 pub loop-command-init : goal.loop-command-init
 loop-command-init g c = rw c.new-outcomes.ensures.items (begun c.args.setting.now c.args.caller.now c.args.setting.now.commands.now c.requires)

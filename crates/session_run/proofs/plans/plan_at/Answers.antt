@@ -2,8 +2,7 @@ use Rattle.std.proofs.Common.{refl}
 use Rattle.net_core.proofs.Library.{err_from_is_err_and}
 use Rattle.plan_terms.specs.Terms.{case}
 use Rattle.board_desk.specs.Turns.{board_made, caller_seen}
-use Rattle.session_run.specs.inner.Running.{case_made}
-use Rattle.session_run.proofs.Planning.{names_one, plan_made, snapshot_belongs, snapshot_case, snapshot_seen}
+use Rattle.session_run.{specs.inner.Running.case_made, proofs.Planning.{names_one, plan_made, snapshot_belongs, snapshot_case, snapshot_seen}}
 use Rattle.session_run.proofs.plans.plan_at.Goals as goal
 
 pub plan_beside-requires-clause-snapshot : goal.plan_beside-requires-clause-snapshot

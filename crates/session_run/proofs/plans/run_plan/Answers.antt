@@ -2,8 +2,7 @@ use Rattle.std.proofs.Common.{refl}
 use Rattle.net_core.proofs.Library.{err_from_is_err_and}
 use Rattle.board_desk.specs.Turns.{caller_seen}
 use Rattle.separation_workers.proofs.Seen.{seen_after_turn}
-use Rattle.session_run.proofs.Planning.{plan_since, snapshot_at_desk, stopped_since}
-use Rattle.session_run.proofs.Turns.{same_both, still_of}
+use Rattle.session_run.{proofs.Planning.{plan_since, snapshot_at_desk, stopped_since}, proofs.Turns.{same_both, still_of}}
 use Rattle.session_run.proofs.plans.run_plan.Goals as goal
 
 pub plan_at-requires-clause-of : goal.plan_at-requires-clause-of

@@ -1,8 +1,6 @@
-use Rattle.std.proofs.Common.{◌≤◌, AllPairs, length, rules, arith, ap, subst, sym, ◌∙◌}
+use Rattle.std.{proofs.Common.{◌≤◌, AllPairs, length, rules, arith, ap, subst, sym, ◌∙◌}, proofs.lemmas.List.Sorted.answers_always}
 use Rattle.net_core.proofs.Library.{IsNonDecreasingBy-from_sort_by_key, all_written}
-use Rattle.std.proofs.lemmas.List.Sorted.{answers_always}
-use Rattle.session_run.specs.Transcripts.{outcome_caller, outcomes_of}
-use Rattle.session_run.proofs.Callers.{stays_same}
+use Rattle.session_run.{specs.Transcripts.{outcome_caller, outcomes_of}, proofs.Callers.stays_same}
 use Rattle.session_run.proofs.reports.by_caller.Goals as goal
 
 pub returns-clause-ordered : goal.returns-clause-ordered

@@ -1,6 +1,5 @@
 use Rattle.std.proofs.Common.{All, refl, subst}
-use Rattle.session_run.specs.inner.Ranges.{IsShortNamed}
-use Rattle.session_run.proofs.ReportForms.{transcript}
+use Rattle.session_run.{specs.inner.Ranges.IsShortNamed, proofs.ReportForms.transcript}
 use Rattle.session_run.proofs.reports.report.Goals as goal
 
 pub returns-in-Ok : goal.returns-in-Ok

@@ -2,9 +2,7 @@ use Rattle.std.proofs.Common.{◌∙◌, ap, subst, sym}
 use Rattle.cut_pool.specs.Terms.{opening_case, origin_of}
 use Rattle.turn_lock.specs.Passes.{opening_of}
 use Rattle.board_desk.specs.Turns.{caller_seen, seen_in}
-use Rattle.session_run.specs.inner.Running.{HaveRun, all_own, case_made}
-use Rattle.session_run.proofs.Closing.{closed_run, never_full, seen_all}
-use Rattle.session_run.proofs.Planning.{same_opening}
+use Rattle.session_run.{specs.inner.Running.{HaveRun, all_own, case_made}, proofs.Closing.{closed_run, never_full, seen_all}, proofs.Planning.same_opening}
 use Rattle.session_run.proofs.session.run_on.Goals as goal
 
 pub returns-in-Ok-clause-run : goal.returns-in-Ok-clause-run

@@ -1,7 +1,5 @@
-use Rattle.text_kit.specs.Terms.{TheEnd, no_fault}
-use Rattle.text_kit.proofs.Lemmas.{list_turn}
-use Rattle.session_script.specs.ScriptReading.{command_at}
-use Rattle.session_script.proofs.ScriptLaws.{command_some}
+use Rattle.text_kit.{specs.Terms.{TheEnd, no_fault}, proofs.Lemmas.list_turn}
+use Rattle.session_script.{specs.ScriptReading.command_at, proofs.ScriptLaws.command_some}
 use Rattle.session_script.proofs.reader.take_command.Goals as goal
 
 pub returns-clause-turn : goal.returns-clause-turn

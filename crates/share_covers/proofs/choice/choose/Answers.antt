@@ -1,10 +1,9 @@
 use Rattle.std.proofs.Common.{subst, sym}
 use Rattle.plan_terms.specs.Terms.{case_of}
 use Rattle.module_choice.proofs.Carrying.{network_links}
-use Rattle.share_covers.specs.Choices.{IsChosen}
-use Rattle.share_covers.proofs.Choosing.{decides, kept_cheaper}
-use Rattle.share_covers.proofs.choice.choose.Goals as goal
 use Rattle.net_core.proofs.Networks.{few_nodes}
+use Rattle.share_covers.{specs.Choices.IsChosen, proofs.Choosing.{decides, kept_cheaper}}
+use Rattle.share_covers.proofs.choice.choose.Goals as goal
 
 pub returns-in-Ok-None : goal.returns-in-Ok-None
 returns-in-Ok-None c =

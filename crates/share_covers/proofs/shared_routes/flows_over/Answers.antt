@@ -1,5 +1,4 @@
-use Rattle.std.proofs.Common.{subst, sym}
-use Rattle.std.specs.Int.{◌∣◌}
+use Rattle.std.{proofs.Common.{subst, sym}, specs.Int.◌∣◌}
 use Rattle.plan_terms.specs.Terms.{Flow}
 use Rattle.share_covers.proofs.Sharing.{over_next}
 use Rattle.share_covers.proofs.shared_routes.flows_over.Goals as goal

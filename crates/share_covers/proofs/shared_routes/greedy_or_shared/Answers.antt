@@ -1,8 +1,6 @@
-use Rattle.std.proofs.Common.{◌+◌, length, subst}
-use Rattle.std.proofs.lemmas.Result.{IfOk-weaker}
+use Rattle.std.{proofs.Common.{◌+◌, length, subst}, proofs.lemmas.Result.IfOk-weaker}
 use Rattle.plan_terms.specs.Terms.{case_of, graph_in}
-use Rattle.share_covers.specs.inner.SharedRoutes.{IsStateAnswer, IsWholeAnswer}
-use Rattle.share_covers.proofs.Sharing.{den_at_whole, left_routed, most_same, shared_answer}
+use Rattle.share_covers.{specs.inner.SharedRoutes.{IsStateAnswer, IsWholeAnswer}, proofs.Sharing.{den_at_whole, left_routed, most_same, shared_answer}}
 use Rattle.share_covers.proofs.shared_routes.greedy_or_shared.Goals as goal
 
 pub returns-then-is_whole : goal.returns-then-is_whole

@@ -1,10 +1,7 @@
 use Rattle.std.proofs.Common.{◌+◌, ◌<◌, ◌∙◌, ℕ, List, ap, arith, length, subst, sym}
 use Rattle.plan_terms.specs.Terms.{Caps, Routing, case_of, graph_in}
 use Rattle.module_choice.proofs.Pairs.{capacities_long}
-use Rattle.share_covers.specs.InstalledRoutes.{installed_caps}
-use Rattle.share_covers.specs.inner.SharedRoutes.{IsStateAnswer}
-use Rattle.share_covers.proofs.Sharing.{caps_same, carried_told, item_at, scale_told, states_told}
-use Rattle.share_covers.proofs.StateRoutes.{AreRoutedTo, routed_more}
+use Rattle.share_covers.{specs.InstalledRoutes.installed_caps, specs.inner.SharedRoutes.IsStateAnswer, proofs.Sharing.{caps_same, carried_told, item_at, scale_told, states_told}, proofs.StateRoutes.{AreRoutedTo, routed_more}}
 use Rattle.share_covers.proofs.shared_routes.routes_of_share.Goals as goal
 
 pub mended_or_anew-requires-clause-caps : goal.mended_or_anew-requires-clause-caps

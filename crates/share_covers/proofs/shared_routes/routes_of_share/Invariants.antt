@@ -1,6 +1,5 @@
 use Rattle.plan_terms.specs.Terms.{case_of}
-use Rattle.share_covers.specs.InstalledRoutes.{installed_caps}
-use Rattle.share_covers.proofs.StateRoutes.{AreRoutedTo}
+use Rattle.share_covers.{specs.InstalledRoutes.installed_caps, proofs.StateRoutes.AreRoutedTo}
 use Rattle.share_covers.proofs.shared_routes.routes_of_share.Given as goal
 
 -- the states so far are routed

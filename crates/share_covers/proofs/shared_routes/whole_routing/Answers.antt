@@ -1,9 +1,8 @@
 use Rattle.std.proofs.Common.{◌*◌, ◌∙◌, List, ap, arith, inl, inr, length, subst}
 use Rattle.plan_terms.specs.Terms.{Flow}
 use Rattle.flow_mending.specs.Terms.{IsCommonDivisor}
-use Rattle.share_covers.proofs.Sharing.{large_at_whole, small_at_whole}
+use Rattle.share_covers.{proofs.Sharing.{large_at_whole, small_at_whole}, proofs.shared_routes.whole_routing.Goals.{then-flows-most-via-then-flows-most, then-flows-most-via-else-flows-most+then-den-common-ge-DEN_LIMIT}}
 use Rattle.share_covers.proofs.shared_routes.whole_routing.Goals as goal
-use Rattle.share_covers.proofs.shared_routes.whole_routing.Goals.{then-flows-most-via-then-flows-most, then-flows-most-via-else-flows-most+then-den-common-ge-DEN_LIMIT}
 
 pub returns-then-flows-most : goal.returns-then-flows-most
 returns-then-flows-most c =

@@ -1,6 +1,5 @@
 use Rattle.std.proofs.Common.{◌<◌, length, arith}
-use Rattle.short_paths.proofs.ForwardStars.{arc}
-use Rattle.short_paths.proofs.Relaxing.{relaxed_none, relaxed_more, relaxed_all, relaxed_sound, held, held_end}
+use Rattle.short_paths.{proofs.ForwardStars.arc, proofs.Relaxing.{relaxed_none, relaxed_more, relaxed_all, relaxed_sound, held, held_end}}
 use Rattle.short_paths.proofs.dijkstra.relax.Goals as goal
 
 pub loop-arc-init : goal.loop-arc-init

@@ -1,6 +1,5 @@
 use Rattle.std.proofs.Common.{◌^◌, arith}
-use Rattle.short_paths.proofs.ForwardStars.{arc_within}
-use Rattle.short_paths.proofs.Settling.{search_init, search_turn, search_end}
+use Rattle.short_paths.{proofs.ForwardStars.arc_within, proofs.Settling.{search_init, search_turn, search_end}}
 use Rattle.short_paths.proofs.dijkstra.settle_all.Goals as goal
 
 pub loop-at-init : goal.loop-at-init

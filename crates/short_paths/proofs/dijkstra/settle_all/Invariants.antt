@@ -1,6 +1,5 @@
 use Rattle.std.proofs.Common.{◌^◌, ◌-◌, count_by, not}
-use Rattle.short_paths.specs.inner.ForwardStars.{HasArc}
-use Rattle.short_paths.proofs.Settling.{IsSearch}
+use Rattle.short_paths.{specs.inner.ForwardStars.HasArc, proofs.Settling.IsSearch}
 use Rattle.short_paths.proofs.dijkstra.settle_all.Given as goal
 
 abbrev pub invariant-loop-at : goal.invariant-loop-at

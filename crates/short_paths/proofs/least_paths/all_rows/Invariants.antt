@@ -1,7 +1,5 @@
 use Rattle.std.proofs.Common.{◌≡◌, length}
-use Rattle.short_paths.specs.inner.ForwardStars.{HasArc}
-use Rattle.short_paths.specs.declared.dijkstra.TheConstants.{FAR}
-use Rattle.short_paths.proofs.Gathering.{RowsBelow}
+use Rattle.short_paths.{specs.inner.ForwardStars.HasArc, specs.declared.dijkstra.TheConstants.FAR, proofs.Gathering.RowsBelow}
 use Rattle.short_paths.proofs.least_paths.all_rows.Given as goal
 
 abbrev pub invariant-loop-target : goal.invariant-loop-target

@@ -1,7 +1,6 @@
 use Rattle.std.proofs.Common.{ap, length, arith}
 use Rattle.plan_terms.proofs.Lemmas.{joins_turned}
-use Rattle.short_paths.proofs.PairNumbers.{pairs_distance}
-use Rattle.short_paths.proofs.Tables.{arcs_distance, arcs_turned}
+use Rattle.short_paths.{proofs.PairNumbers.pairs_distance, proofs.Tables.{arcs_distance, arcs_turned}}
 use Rattle.short_paths.proofs.pairs.all_pairs_in.Goals as goal
 
 pub returns : goal.returns

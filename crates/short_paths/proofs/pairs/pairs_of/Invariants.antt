@@ -1,6 +1,5 @@
 use Rattle.std.proofs.Common.{◌≡◌, length}
-use Rattle.short_paths.specs.inner.ForwardStars.{HasArc}
-use Rattle.short_paths.specs.inner.Pairs.{ArePairs}
+use Rattle.short_paths.{specs.inner.ForwardStars.HasArc, specs.inner.Pairs.ArePairs}
 use Rattle.short_paths.proofs.pairs.pairs_of.Given as goal
 
 abbrev pub invariant-loop-high : goal.invariant-loop-high

@@ -1,6 +1,5 @@
 use Rattle.std.proofs.Common.{◌≡◌, map, take}
-use Rattle.short_paths.specs.declared.dijkstra.TheConstants.{FAR}
-use Rattle.short_paths.specs.inner.Tables.{answer_of}
+use Rattle.short_paths.{specs.declared.dijkstra.TheConstants.FAR, specs.inner.Tables.answer_of}
 use Rattle.short_paths.proofs.single_source.answers.Given as goal
 
 abbrev pub invariant-loop-distance : goal.invariant-loop-distance

@@ -1,7 +1,6 @@
 use Rattle.std.proofs.Common.{◌<◌, ◌^◌, ap, length, arith}
 use Rattle.net_core.proofs.Library.{All-from_get_or, IfOk-weaker}
-use Rattle.short_paths.specs.declared.dijkstra.TheConstants.{FAR}
-use Rattle.short_paths.proofs.Tables.{are_distances, found_low}
+use Rattle.short_paths.{specs.declared.dijkstra.TheConstants.FAR, proofs.Tables.{are_distances, found_low}}
 use Rattle.short_paths.proofs.single_source.distances_in.Goals as goal
 
 pub answers-requires : goal.answers-requires

@@ -1,6 +1,5 @@
 use Rattle.std.proofs.Common.{◌<◌, ◌^◌, ◌-◌, length, get_or}
-use Rattle.short_paths.specs.inner.TightLinks.{Follows}
-use Rattle.short_paths.specs.inner.ForwardStars.{HasArc}
+use Rattle.short_paths.{specs.inner.TightLinks.Follows, specs.inner.ForwardStars.HasArc}
 use Rattle.short_paths.proofs.tight_links.follow.Given as goal
 
 abbrev pub invariant-loop-to : goal.invariant-loop-to

@@ -1,10 +1,7 @@
 use Rattle.std.proofs.Common.{◌<◌, length, false, refl, arith}
 use Rattle.net_core.proofs.Library.{both_ways}
-use Rattle.short_paths.proofs.ForwardStars.{arc}
-use Rattle.short_paths.proofs.Relaxing.{held, held_end}
-use Rattle.short_paths.proofs.Choosing.{best_other, best_later, best_now, best_next}
+use Rattle.short_paths.{proofs.ForwardStars.arc, proofs.Relaxing.{held, held_end}, proofs.Choosing.{best_other, best_later, best_now, best_next}, proofs.tight_links.next_arc.Goals.{then-is_tight+then-is_before, else-is_tight, else-is_tight-via-then-is_tight+else-is_before, else-is_tight-via-else-is_tight}}
 use Rattle.short_paths.proofs.tight_links.next_arc.Goals as goal
-use Rattle.short_paths.proofs.tight_links.next_arc.Goals.{then-is_tight+then-is_before, else-is_tight, else-is_tight-via-then-is_tight+else-is_before, else-is_tight-via-else-is_tight}
 
 pub is_tight-requires-clause-link : goal.is_tight-requires-clause-link
 is_tight-requires-clause-link c =

@@ -1,9 +1,7 @@
 use Rattle.std.proofs.Common.{◌+◌, ◌<◌, length, drop, refl, sym, subst, arith}
 use Rattle.net_core.proofs.Library.{false≢true, at_drop_more}
-use Rattle.plan_terms.specs.Terms.{Joins, graph_of, LinkId}
-use Rattle.plan_terms.proofs.Lemmas.{joins_inside}
-use Rattle.short_paths.specs.inner.Walks.{IsUnseenPath}
-use Rattle.short_paths.proofs.Walks.{walk_off, walk_on, walk_stops}
+use Rattle.plan_terms.{specs.Terms.{Joins, graph_of, LinkId}, proofs.Lemmas.joins_inside}
+use Rattle.short_paths.{specs.inner.Walks.IsUnseenPath, proofs.Walks.{walk_off, walk_on, walk_stops}}
 use Rattle.short_paths.proofs.walk.leads_unseen.Goals as goal
 
 abbrev first_link : LinkId

@@ -1,7 +1,5 @@
 use Rattle.std.proofs.Common.{arith, subst, sym, ◌∙◌}
-use Rattle.simplex_core.specs.inner.Shapes.{IsStartBasis}
-use Rattle.simplex_core.specs.declared.basis.Basis.{Basis}
-use Rattle.simplex_core.proofs.Starts.{start}
+use Rattle.simplex_core.{specs.inner.Shapes.IsStartBasis, specs.declared.basis.Basis.Basis, proofs.Starts.start}
 use Rattle.simplex_core.proofs.basis.slack_basis.Goals as goal
 
 pub returns : goal.returns

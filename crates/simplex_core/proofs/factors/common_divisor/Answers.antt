@@ -1,6 +1,5 @@
-use Rattle.std.proofs.Common.{◌≡◌, ◌≤◌, unsigned_abs, subst, arith}
+use Rattle.std.{proofs.Common.{◌≡◌, ◌≤◌, unsigned_abs, subst, arith}, proofs.lemmas.Nat.Gcd.le_of_dvd}
 use Rattle.net_core.proofs.Library.{ints, IsGcd, positive_divisor}
-use Rattle.std.proofs.lemmas.Nat.Gcd.{le_of_dvd}
 use Rattle.simplex_core.proofs.factors.common_divisor.Goals as goal
 
 pub returns-clause-gcd : goal.returns-clause-gcd

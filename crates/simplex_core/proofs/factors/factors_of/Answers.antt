@@ -1,6 +1,5 @@
 use Rattle.std.proofs.Common.{pos, ◌*ℤ◌, sym, ap, ◌∙◌}
-use Rattle.checked_fraction.proofs.Products.{positive_factor}
-use Rattle.checked_fraction.proofs.Quotients.{exact_quotient}
+use Rattle.checked_fraction.{proofs.Products.positive_factor, proofs.Quotients.exact_quotient}
 use Rattle.simplex_core.proofs.factors.factors_of.Goals as goal
 
 pub returns-clause-times : goal.returns-clause-times

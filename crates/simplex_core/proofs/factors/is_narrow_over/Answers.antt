@@ -1,6 +1,5 @@
-use Rattle.std.proofs.Common.{◌≡◌, ◌<◌, ◌/◌, ◌^◌, unsigned_abs, subst, arith, ltb-true}
+use Rattle.std.{proofs.Common.{◌≡◌, ◌<◌, ◌/◌, ◌^◌, unsigned_abs, subst, arith, ltb-true}, proofs.lemmas.Nat.Gcd.same_from_IsGcd}
 use Rattle.net_core.proofs.Library.{ints}
-use Rattle.std.proofs.lemmas.Nat.Gcd.{same_from_IsGcd}
 use Rattle.simplex_core.proofs.factors.is_narrow_over.Goals as goal
 
 pub returns-clause-yes : goal.returns-clause-yes

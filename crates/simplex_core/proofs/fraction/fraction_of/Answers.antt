@@ -1,5 +1,4 @@
-use Rattle.std.proofs.Common.{arith}
-use Rattle.std.proofs.lemmas.Nat.Gcd.{le_of_dvd}
+use Rattle.std.{proofs.Common.arith, proofs.lemmas.Nat.Gcd.le_of_dvd}
 use Rattle.simplex_core.proofs.Multiples.{quotient_some, quotient_divides, fraction_same}
 use Rattle.simplex_core.proofs.fraction.fraction_of.Goals as goal
 

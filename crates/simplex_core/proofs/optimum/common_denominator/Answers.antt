@@ -1,7 +1,5 @@
 use Rattle.std.proofs.Common.{subst, length}
-use Rattle.simplex_core.specs.inner.Commons.{fraction_den}
-use Rattle.simplex_core.specs.Multiples.{IsLeastMultiple, HaveNoMultiple}
-use Rattle.simplex_core.proofs.Multiples.{denominator_first, denominator_next, denominator_none}
+use Rattle.simplex_core.{specs.inner.Commons.fraction_den, specs.Multiples.{IsLeastMultiple, HaveNoMultiple}, proofs.Multiples.{denominator_first, denominator_next, denominator_none}}
 use Rattle.simplex_core.proofs.optimum.common_denominator.Goals as goal
 
 pub loop-i-init : goal.loop-i-init

@@ -1,8 +1,6 @@
 use Rattle.std.proofs.Common.{◌≡◌, ◌<◌, ◌*◌, ◌/◌, ◌^◌, [], ◌∷◌, Some, length, length-append, slice_get, ap, sym, ◌∙◌, subst, arith}
 use Rattle.net_core.proofs.Library.{slice_get-get_or}
-use Rattle.simplex_core.specs.inner.Commons.{num_of_fraction, den_of_fraction, value_at}
-use Rattle.simplex_core.specs.inner.Shapes.{AtEach}
-use Rattle.simplex_core.proofs.Starts.{each_push}
+use Rattle.simplex_core.{specs.inner.Commons.{num_of_fraction, den_of_fraction, value_at}, specs.inner.Shapes.AtEach, proofs.Starts.each_push}
 use Rattle.simplex_core.proofs.optimum.values_over.Goals as goal
 
 pub numerator_over-requires : goal.numerator_over-requires

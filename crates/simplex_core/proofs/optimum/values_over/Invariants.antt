@@ -1,6 +1,5 @@
 use Rattle.std.proofs.Common.{◌≡◌, length}
-use Rattle.simplex_core.specs.inner.Commons.{value_at}
-use Rattle.simplex_core.specs.inner.Shapes.{AtEach}
+use Rattle.simplex_core.{specs.inner.Commons.value_at, specs.inner.Shapes.AtEach}
 use Rattle.simplex_core.proofs.optimum.values_over.Given as goal
 
 -- the values so far

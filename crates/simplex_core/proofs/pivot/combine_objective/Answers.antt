@@ -1,7 +1,6 @@
 use Rattle.std.proofs.Common.{◌≡◌, length, subst, sym, ◌∙◌, arith, OnOk, IfErr, ◌*ℤ◌}
 use Rattle.checked_fraction.specs.Terms.{num, IsReduced, combined, IsTooWide}
-use Rattle.simplex_core.specs.Tables.{nums_of}
-use Rattle.simplex_core.proofs.Lists.{read_at}
+use Rattle.simplex_core.{specs.Tables.nums_of, proofs.Lists.read_at}
 use Rattle.simplex_core.proofs.pivot.combine_objective.Goals as goal
 
 pub returns-clause-reduced : goal.returns-clause-reduced

@@ -1,8 +1,7 @@
 use Rattle.std.proofs.Common.{length, arith, pos, ◌≡◌, ◌*ℤ◌}
 use Rattle.net_core.proofs.Library.{ints, on_ok_weaker, IfErr-weaker}
-use Rattle.checked_fraction.specs.Terms.{num, combined, IsTooWide}
+use Rattle.checked_fraction.{specs.Terms.{num, combined, IsTooWide}, proofs.Reduced.unmixed}
 use Rattle.simplex_core.proofs.Divided.{factored}
-use Rattle.checked_fraction.proofs.Reduced.{unmixed}
 use Rattle.simplex_core.proofs.pivot.combine_row.Goals as goal
 
 pub returns-then-p-eq0-clause-reduced : goal.returns-then-p-eq0-clause-reduced

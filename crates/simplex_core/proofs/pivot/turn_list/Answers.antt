@@ -1,7 +1,6 @@
 use Rattle.std.proofs.Common.{◌≡◌, length, drop, ap, sym, subst, ◌∙◌, OnOk, IfErr, take_at}
 use Rattle.net_core.proofs.Library.{on_ok_weaker}
-use Rattle.simplex_core.specs.Tables.{IsRectangle}
-use Rattle.simplex_core.specs.Turned.{HavePivot, AreTurned, IsWideRow}
+use Rattle.simplex_core.{specs.Tables.IsRectangle, specs.Turned.{HavePivot, AreTurned, IsWideRow}}
 use Rattle.simplex_core.proofs.pivot.turn_list.Goals as goal
 
 pub turn_rows-requires-clause-rectangle : goal.turn_rows-requires-clause-rectangle

@@ -1,7 +1,6 @@
 use Rattle.std.proofs.Common.{length, ap, subst, sym, ◌∙◌, OnOk, IfErr, ◌*ℤ◌}
 use Rattle.checked_fraction.specs.Terms.{num, IsReduced, combined, IsTooWide}
-use Rattle.simplex_core.specs.Tables.{nums_at, IsRectangle}
-use Rattle.simplex_core.specs.Turned.{IsNarrowOver, HavePivot}
+use Rattle.simplex_core.{specs.Tables.{nums_at, IsRectangle}, specs.Turned.{IsNarrowOver, HavePivot}}
 use Rattle.simplex_core.proofs.pivot.turn_objective.Goals as goal
 
 pub combine_objective-requires-clause-rectangle : goal.combine_objective-requires-clause-rectangle

@@ -1,8 +1,7 @@
 use Rattle.std.proofs.Common.{length, refl, ◌≡◌, ◌∙◌, ap, Some, slice_get, slice_set, length-set, subst, sym, arith}
 use Rattle.net_core.proofs.Library.{slice_get-get_or, err_from_is_err_and}
 use Rattle.checked_fraction.specs.Terms.{num}
-use Rattle.simplex_core.specs.Turned.{AreTurned, HavePivot, IsWideRow}
-use Rattle.simplex_core.proofs.Pivots.{lent_rectangle, turned_rows, spare_size, wide_rows}
+use Rattle.simplex_core.{specs.Turned.{AreTurned, HavePivot, IsWideRow}, proofs.Pivots.{lent_rectangle, turned_rows, spare_size, wide_rows}}
 use Rattle.simplex_core.proofs.pivot.turn_rows.Goals as goal
 
 pub combine_rows-requires-clause-rectangle : goal.combine_rows-requires-clause-rectangle

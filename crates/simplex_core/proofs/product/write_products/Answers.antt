@@ -1,7 +1,6 @@
 use Rattle.std.proofs.Common.{◌≡◌, ◌≤◌, ◌^◌, ◌∙◌, length-set, subst, sym, arith, to_z, of_z, unsigned_abs}
 use Rattle.net_core.proofs.Library.{w128, AllByRecursion, ints}
-use Rattle.simplex_core.specs.Columns.{IsEntry}
-use Rattle.simplex_core.proofs.RowsRead.{numbers_at, width_at, dot_at, products_more}
+use Rattle.simplex_core.{specs.Columns.IsEntry, proofs.RowsRead.{numbers_at, width_at, dot_at, products_more}}
 use Rattle.simplex_core.proofs.product.write_products.Goals as goal
 
 pub row_product-requires-clause-entries : goal.row_product-requires-clause-entries

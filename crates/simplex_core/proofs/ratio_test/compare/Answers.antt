@@ -1,6 +1,5 @@
 use Rattle.std.proofs.Common.{length, arith, pos}
-use Rattle.simplex_core.specs.Tables.{nums_at}
-use Rattle.simplex_core.proofs.Ratios.{by_rows}
+use Rattle.simplex_core.{specs.Tables.nums_at, proofs.Ratios.by_rows}
 use Rattle.simplex_core.proofs.ratio_test.compare.Goals as goal
 
 pub returns-in-Equal : goal.returns-in-Equal

@@ -1,6 +1,5 @@
 use Rattle.std.proofs.Common.{arith, subst, sym, length, Ok}
-use Rattle.simplex_core.specs.inner.Ratios.{IsLeavingRow}
-use Rattle.simplex_core.proofs.Ratios.{leaves}
+use Rattle.simplex_core.{specs.inner.Ratios.IsLeavingRow, proofs.Ratios.leaves}
 use Rattle.simplex_core.proofs.ratio_test.leaving_row.Goals as goal
 
 pub returns : goal.returns

@@ -1,6 +1,6 @@
+use Rattle.std.proofs.Common.{length}
 use Rattle.simplex_core.specs.inner.Ratios.{IsBestBefore}
 use Rattle.simplex_core.proofs.ratio_test.leaving_row.Given as goal
-use Rattle.std.proofs.Common.{length}
 
 -- the best of the rows so far
 abbrev pub invariant-loop-i : goal.invariant-loop-i

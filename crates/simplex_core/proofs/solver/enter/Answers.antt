@@ -2,10 +2,7 @@ use Rattle.std.proofs.Common.{length, ◌≡◌, ◌∙◌, subst, refl, arith, 
 use Rattle.net_core.proofs.Library.{w128, ints}
 use Rattle.checked_fraction.specs.Terms.{num}
 use Rattle.simplex_law.specs.Terms.{dot, ColumnOf}
-use Rattle.simplex_core.specs.Columns.{column_from, entry_of}
-use Rattle.simplex_core.specs.inner.Ratios.{IsLeavingRow}
-use Rattle.simplex_core.specs.declared.basis.Basis.{Basis}
-use Rattle.simplex_core.proofs.Turning.{picks, enters_as_well}
+use Rattle.simplex_core.{specs.Columns.{column_from, entry_of}, specs.inner.Ratios.IsLeavingRow, specs.declared.basis.Basis.Basis, proofs.Turning.{picks, enters_as_well}}
 use Rattle.simplex_core.proofs.solver.enter.Goals as goal
 
 pub returns-in-Ok-Some : goal.returns-in-Ok-Some

@@ -1,7 +1,6 @@
 use Rattle.std.proofs.Common.{subst, length}
 use Rattle.checked_fraction.specs.Terms.{num}
-use Rattle.simplex_core.specs.Turned.{IsNarrowOver}
-use Rattle.simplex_core.proofs.Divided.{has_pivot}
+use Rattle.simplex_core.{specs.Turned.IsNarrowOver, proofs.Divided.has_pivot}
 use Rattle.simplex_core.proofs.solver.pivot_at.Goals as goal
 
 pub replace-requires-clause-pivot : goal.replace-requires-clause-pivot

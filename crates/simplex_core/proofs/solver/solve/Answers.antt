@@ -1,10 +1,5 @@
 use Rattle.std.proofs.Common.{length, sym, subst}
-use Rattle.simplex_core.specs.inner.Shapes.{IsShaped}
-use Rattle.simplex_core.specs.inner.Outcomes.{HasLowValues, IsBasisOutcome}
-use Rattle.simplex_core.specs.declared.solver.Turn.TheVariants.{Again, Best, Unbounded, Wide}
-use Rattle.simplex_core.proofs.Ending.{answers, low_values, some_limit, same_program, same_trans, first_turn}
-use Rattle.simplex_core.proofs.Evidences.{evidence}
-use Rattle.simplex_core.proofs.Solving.{at_start, at_turn, falls, values_at}
+use Rattle.simplex_core.{specs.inner.Shapes.IsShaped, specs.inner.Outcomes.{HasLowValues, IsBasisOutcome}, specs.declared.solver.Turn.TheVariants.{Again, Best, Unbounded, Wide}, proofs.Ending.{answers, low_values, some_limit, same_program, same_trans, first_turn}, proofs.Evidences.evidence, proofs.Solving.{at_start, at_turn, falls, values_at}}
 use Rattle.simplex_core.proofs.solver.solve.Goals as goal
 
 pub loop-basis-init : goal.loop-basis-init

@@ -1,7 +1,6 @@
 use Rattle.checked_fraction.specs.Terms.{num}
 use Rattle.simplex_law.proofs.Lemmas.{left_above}
-use Rattle.simplex_core.specs.Programs.{IsSameProgram}
-use Rattle.simplex_core.proofs.Solving.{IsAt}
+use Rattle.simplex_core.{specs.Programs.IsSameProgram, proofs.Solving.IsAt}
 use Rattle.simplex_core.proofs.solver.solve.Given as goal
 
 -- the basis is one of the program, which is as it was at first

@@ -2,10 +2,7 @@ use Rattle.std.proofs.Common.{length, ◌≡◌, ◌<◌, ap, sym, subst, inl, i
 use Rattle.net_core.proofs.Library.{AllByRecursion, ints}
 use Rattle.checked_fraction.specs.Terms.{num}
 use Rattle.simplex_law.specs.Terms.{ColumnOf}
-use Rattle.simplex_core.specs.Columns.{column_from, column_of, IsEntry}
-use Rattle.simplex_core.specs.inner.Turns.{Enters, reduced_cost}
-use Rattle.simplex_core.proofs.Ending.{same_program}
-use Rattle.simplex_core.proofs.Turning.{entered, is_slack, slack_gains, gains_price}
+use Rattle.simplex_core.{specs.Columns.{column_from, column_of, IsEntry}, specs.inner.Turns.{Enters, reduced_cost}, proofs.Ending.same_program, proofs.Turning.{entered, is_slack, slack_gains, gains_price}}
 use Rattle.simplex_core.proofs.solver.take_turn.Goals as goal
 
 pub enter-requires-clause-gains : goal.enter-requires-clause-gains

@@ -1,10 +1,7 @@
 use Rattle.std.proofs.Common.{◌≡◌, ◌<◌, ◌^◌, ◌∙◌, ℕ, Err, ap, length, subst, sym}
 use Rattle.net_core.proofs.Library.{err_from_is_err_and}
 use Rattle.checked_fraction.specs.Terms.{num}
-use Rattle.simplex_core.specs.inner.Commons.{AreFractionsOf, HaveFractions, fraction_den, IsDenominator, HaveNoDenominator, value_at}
-use Rattle.simplex_core.specs.inner.Outcomes.{IsValuesOutcome}
-use Rattle.simplex_core.specs.inner.Shapes.{AtEach}
-use Rattle.simplex_core.proofs.Ending.{no_values}
+use Rattle.simplex_core.{specs.inner.Commons.{AreFractionsOf, HaveFractions, fraction_den, IsDenominator, HaveNoDenominator, value_at}, specs.inner.Outcomes.IsValuesOutcome, specs.inner.Shapes.AtEach, proofs.Ending.no_values}
 use Rattle.simplex_core.proofs.solver.values_of.Goals as goal
 
 pub returns-in_default : goal.returns-in_default

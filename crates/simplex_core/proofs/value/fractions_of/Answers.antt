@@ -1,9 +1,7 @@
 use Rattle.std.proofs.Common.{◌≡◌, ◌≤◌, ◌^◌, ap, sym, subst, ◌∙◌, Some, length, slice_get, arith}
 use Rattle.net_core.proofs.Library.{slice_get-get_or}
 use Rattle.checked_fraction.specs.Terms.{num}
-use Rattle.simplex_core.specs.Tables.{nums_of}
-use Rattle.simplex_core.specs.inner.Values.{sizes_of}
-use Rattle.simplex_core.proofs.Fractions.{fraction_push}
+use Rattle.simplex_core.{specs.Tables.nums_of, specs.inner.Values.sizes_of, proofs.Fractions.fraction_push}
 use Rattle.simplex_core.proofs.value.fractions_of.Goals as goal
 
 pub loop-i-preserved : goal.loop-i-preserved

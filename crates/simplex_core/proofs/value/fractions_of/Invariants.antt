@@ -1,9 +1,7 @@
 use Rattle.std.proofs.Common.{◌≡◌, length}
 use Rattle.checked_fraction.specs.Terms.{num}
 use Rattle.simplex_law.specs.Terms.{dot}
-use Rattle.simplex_core.specs.inner.Commons.{IsFractionOf}
-use Rattle.simplex_core.specs.Tables.{nums_at, den_at}
-use Rattle.simplex_core.specs.inner.Shapes.{AtEach}
+use Rattle.simplex_core.{specs.inner.Commons.IsFractionOf, specs.Tables.{nums_at, den_at}, specs.inner.Shapes.AtEach}
 use Rattle.simplex_core.proofs.value.fractions_of.Given as goal
 
 -- the values so far

@@ -1,7 +1,5 @@
 use Rattle.std.proofs.Common.{◌≡◌, ◌+◌, ◌-◌, ◌*◌, ◌^◌, ◌<◌, ◌≤◌, replicate, take, arith, ap, refl, subst, ◌∙◌, MatchOption}
-use Rattle.snd_tokens.specs.Digits.{number_of, number_after}
-use Rattle.snd_tokens.specs.Amounts.{first_places}
-use Rattle.snd_tokens.proofs.Numbers.{first_digits, number_after-le, number_after-zero, units_more, units_value}
+use Rattle.snd_tokens.{specs.Digits.{number_of, number_after}, specs.Amounts.first_places, proofs.Numbers.{first_digits, number_after-le, number_after-zero, units_more, units_value}}
 use Rattle.snd_tokens.proofs.amounts.in_units.Goals as goal
 
 pub returns-in_err-number : goal.returns-in_err-number

@@ -1,6 +1,5 @@
 use Rattle.std.proofs.Common.{◌+◌, ◌-◌, ◌*◌, get_or, drop, arith, sym, ap, ◌∙◌}
-use Rattle.snd_tokens.specs.Digits.{number_after}
-use Rattle.snd_tokens.proofs.Numbers.{number_after-digit, number_after-le}
+use Rattle.snd_tokens.{specs.Digits.number_after, proofs.Numbers.{number_after-digit, number_after-le}}
 use Rattle.snd_tokens.proofs.digits.number_below.Goals as goal
 
 pub returns-in_err-so_far : goal.returns-in_err-so_far

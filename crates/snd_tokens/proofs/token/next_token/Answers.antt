@@ -1,6 +1,5 @@
 use Rattle.std.proofs.Common.{◌∙◌, ap}
-use Rattle.snd_tokens.specs.Tokens.{tokens_from}
-use Rattle.snd_tokens.proofs.Scan.{tokens_from-end}
+use Rattle.snd_tokens.{specs.Tokens.tokens_from, proofs.Scan.tokens_from-end}
 use Rattle.snd_tokens.proofs.token.next_token.Goals as goal
 
 pub returns-then-at-bytes-clause-first : goal.returns-then-at-bytes-clause-first

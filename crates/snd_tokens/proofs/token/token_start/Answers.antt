@@ -1,6 +1,5 @@
 use Rattle.std.proofs.Common.{arith, ◌∙◌, ap, sym}
-use Rattle.snd_tokens.specs.Tokens.{tokens_from}
-use Rattle.snd_tokens.proofs.Scan.{tokens_from-comment, tokens_from-space}
+use Rattle.snd_tokens.{specs.Tokens.tokens_from, proofs.Scan.{tokens_from-comment, tokens_from-space}}
 use Rattle.snd_tokens.proofs.token.token_start.Goals as goal
 
 pub loop-at-preserved-then-first-eq35 : goal.loop-at-preserved-then-first-eq35

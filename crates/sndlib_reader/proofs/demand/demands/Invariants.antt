@@ -1,7 +1,7 @@
 use Rattle.std.proofs.Common.{◌≡◌, ◌<◌, ◌^◌, [], map}
 use Rattle.snd_tokens.specs.Terms.{left, size}
-use Rattle.sndlib_reader.specs.Reading.{native_demands_at}
 use Rattle.net_core.specs.Terms.{total_need}
+use Rattle.sndlib_reader.specs.Reading.{native_demands_at}
 use Rattle.sndlib_reader.proofs.demand.demands.Given as goal
 
 abbrev pub invariant-loop-names : goal.invariant-loop-names

@@ -1,7 +1,5 @@
-use Rattle.text_kit.specs.Terms.{Parenthesis, no_fault}
-use Rattle.text_kit.proofs.Lemmas.{list_turn}
-use Rattle.sndlib_reader.specs.Reading.{native_link_at}
-use Rattle.sndlib_reader.proofs.Online.{link_some}
+use Rattle.text_kit.{specs.Terms.{Parenthesis, no_fault}, proofs.Lemmas.list_turn}
+use Rattle.sndlib_reader.{specs.Reading.native_link_at, proofs.Online.link_some}
 use Rattle.sndlib_reader.proofs.link.take_link.Goals as goal
 
 pub returns-clause-turn : goal.returns-clause-turn

@@ -1,7 +1,5 @@
-use Rattle.text_kit.specs.Terms.{Parenthesis}
-use Rattle.text_kit.proofs.Lemmas.{list_turn}
-use Rattle.sndlib_reader.specs.Reading.{module_at, unserved}
-use Rattle.sndlib_reader.proofs.Online.{module_some}
+use Rattle.text_kit.{specs.Terms.Parenthesis, proofs.Lemmas.list_turn}
+use Rattle.sndlib_reader.{specs.Reading.{module_at, unserved}, proofs.Online.module_some}
 use Rattle.sndlib_reader.proofs.link.take_module.Goals as goal
 
 pub returns-clause-turn : goal.returns-clause-turn

@@ -1,7 +1,6 @@
 use Rattle.std.proofs.Common.{◌≡◌, ◌≤◌, [], length, IsTrue}
 use Rattle.snd_tokens.specs.Terms.{left, size}
-use Rattle.sndlib_reader.specs.Reading.{native_nodes_at}
-use Rattle.sndlib_reader.specs.inner.Nodes.{parts_so_far}
+use Rattle.sndlib_reader.{specs.Reading.native_nodes_at, specs.inner.Nodes.parts_so_far}
 use Rattle.sndlib_reader.proofs.node.nodes.Given as goal
 
 abbrev pub invariant-loop-names : goal.invariant-loop-names

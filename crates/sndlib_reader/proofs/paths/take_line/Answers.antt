@@ -1,6 +1,5 @@
 use Rattle.text_kit.proofs.Lemmas.{each_turn}
-use Rattle.sndlib_reader.specs.Reading.{path_line_at}
-use Rattle.sndlib_reader.proofs.Online.{line_some}
+use Rattle.sndlib_reader.{specs.Reading.path_line_at, proofs.Online.line_some}
 use Rattle.sndlib_reader.proofs.paths.take_line.Goals as goal
 
 pub returns-clause-turn : goal.returns-clause-turn

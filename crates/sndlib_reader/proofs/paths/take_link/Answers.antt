@@ -1,8 +1,5 @@
-use Rattle.text_kit.proofs.Lemmas.{each_turn}
-use Rattle.text_kit.specs.Terms.{word_at}
-use Rattle.sndlib_reader.specs.declared.fault.ReadKind.TheVariants.{Token, Ended}
-use Rattle.sndlib_reader.specs.Reading.{known_name}
-use Rattle.sndlib_reader.proofs.Online.{known_some}
+use Rattle.text_kit.{proofs.Lemmas.each_turn, specs.Terms.word_at}
+use Rattle.sndlib_reader.{specs.declared.fault.ReadKind.TheVariants.{Token, Ended}, specs.Reading.known_name, proofs.Online.known_some}
 use Rattle.sndlib_reader.proofs.paths.take_link.Goals as goal
 
 pub returns-clause-turn : goal.returns-clause-turn

@@ -1,6 +1,5 @@
 use Rattle.text_kit.proofs.Lemmas.{each_turn}
-use Rattle.sndlib_reader.specs.Reading.{native_path_at}
-use Rattle.sndlib_reader.proofs.Online.{path_some}
+use Rattle.sndlib_reader.{specs.Reading.native_path_at, proofs.Online.path_some}
 use Rattle.sndlib_reader.proofs.paths.take_path.Goals as goal
 
 pub returns-clause-turn : goal.returns-clause-turn

@@ -1,7 +1,6 @@
 use Rattle.std.proofs.Common.{List, ℕ, Option, Some, subst}
 use Rattle.plan_terms.specs.Terms.{Graph, case_of, graph_in, graph_of}
-use Rattle.metric_cut.specs.Cuts.{MayKeepCut}
-use Rattle.metric_cut.specs.declared.cut.Cut.{Cut}
+use Rattle.metric_cut.{specs.Cuts.MayKeepCut, specs.declared.cut.Cut.Cut}
 use Rattle.table_maker.proofs.Parting.{cut_is}
 use Rattle.table_maker.proofs.boundaries.cut_in.Goals as goal
 

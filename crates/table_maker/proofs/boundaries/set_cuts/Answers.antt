@@ -1,8 +1,7 @@
 use Rattle.std.proofs.Common.{All, subst}
 use Rattle.net_core.specs.declared.instance.Instance.{Instance}
 use Rattle.plan_terms.specs.Terms.{case_of}
-use Rattle.table_maker.specs.SetCuts.{IsSetCut}
-use Rattle.table_maker.proofs.Parting.{all_cuts}
+use Rattle.table_maker.{specs.SetCuts.IsSetCut, proofs.Parting.all_cuts}
 use Rattle.table_maker.proofs.boundaries.set_cuts.Goals as goal
 
 pub returns-clause-cuts : goal.returns-clause-cuts

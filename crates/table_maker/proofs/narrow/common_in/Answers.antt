@@ -1,5 +1,4 @@
-use Rattle.std.proofs.Common.{sym, ◌∙◌}
-use Rattle.std.proofs.lemmas.Nat.Gcd.{dvd_trans}
+use Rattle.std.{proofs.Common.{sym, ◌∙◌}, proofs.lemmas.Nat.Gcd.dvd_trans}
 use Rattle.line_check.proofs.DividedCoefs.{number_at}
 use Rattle.table_maker.proofs.CommonDivisors.{links_more}
 use Rattle.table_maker.proofs.narrow.common_in.Goals as goal

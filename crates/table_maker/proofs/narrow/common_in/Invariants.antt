@@ -1,5 +1,4 @@
-use Rattle.std.proofs.Common.{ℕ, ◌<◌}
-use Rattle.std.specs.Int.{◌∣◌}
+use Rattle.std.{proofs.Common.{ℕ, ◌<◌}, specs.Int.◌∣◌}
 use Rattle.line_check.specs.Terms.{module_number, need_of, capped}
 use Rattle.table_maker.proofs.narrow.common_in.Given as goal
 

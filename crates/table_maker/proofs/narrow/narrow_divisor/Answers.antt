@@ -1,5 +1,4 @@
-use Rattle.std.proofs.Common.{arith}
-use Rattle.std.proofs.lemmas.Nat.Gcd.{le_of_dvd}
+use Rattle.std.{proofs.Common.arith, proofs.lemmas.Nat.Gcd.le_of_dvd}
 use Rattle.table_maker.proofs.narrow.narrow_divisor.Goals as goal
 
 pub returns-else-common-least-clause-narrow : goal.returns-else-common-least-clause-narrow

@@ -1,11 +1,8 @@
 use Rattle.std.proofs.Common.{List, All, Contains, inr, subst, sym, ◌∙◌}
 use Rattle.net_core.proofs.Library.{All-push, Contains-push, false≢true}
 use Rattle.plan_terms.specs.Terms.{case_of}
-use Rattle.line_check.specs.Terms.{IsTestedAs}
-use Rattle.line_check.specs.declared.line.Line.{Line}
-use Rattle.table_maker.specs.Made.{IsNarrowLine}
-use Rattle.table_maker.proofs.HeldLines.{narrow_is}
-use Rattle.table_maker.proofs.WideLines.{narrow_over}
+use Rattle.line_check.{specs.Terms.IsTestedAs, specs.declared.line.Line.Line}
+use Rattle.table_maker.{specs.Made.IsNarrowLine, proofs.HeldLines.narrow_is, proofs.WideLines.narrow_over}
 use Rattle.table_maker.proofs.narrow.push_narrow.Goals as goal
 
 pub returns-then-not-is_narrow-clause-new : goal.returns-then-not-is_narrow-clause-new

@@ -1,7 +1,6 @@
 use Rattle.std.proofs.Common.{All, Option, subst, sym, IfSome}
 use Rattle.net_core.proofs.Library.{All-push}
-use Rattle.table_maker.specs.Made.{IsTableFor}
-use Rattle.table_maker.specs.declared.tables.Found.{Found}
+use Rattle.table_maker.{specs.Made.IsTableFor, specs.declared.tables.Found.Found}
 use Rattle.table_maker.proofs.tables.take.Goals as goal
 
 pub returns-clause-each : goal.returns-clause-each

@@ -1,7 +1,6 @@
 use Rattle.std.proofs.Common.{◌+◌, sym, subst}
 use Rattle.net_core.proofs.Library.{slice_get-get_or}
-use Rattle.text_table.specs.Cells.{AreWidened}
-use Rattle.text_table.proofs.Widening.{more_widened}
+use Rattle.text_table.{specs.Cells.AreWidened, proofs.Widening.more_widened}
 use Rattle.text_table.proofs.column.widened.Goals as goal
 
 pub loop-at-preserved : goal.loop-at-preserved

@@ -1,5 +1,4 @@
-use Rattle.tree_boxes.specs.Searches.{aimed}
-use Rattle.tree_boxes.proofs.Asked.{fixed_low, lowered_carried, lowered_shape}
+use Rattle.tree_boxes.{specs.Searches.aimed, proofs.Asked.{fixed_low, lowered_carried, lowered_shape}}
 use Rattle.tree_boxes.proofs.asks.ask.Goals as goal
 
 pub cost-requires : goal.cost-requires

@@ -2,10 +2,8 @@ use Rattle.std.proofs.Common.{false, subst, sym}
 use Rattle.net_core.proofs.Networks.{few_links}
 use Rattle.module_choice.proofs.Carrying.{network_links}
 use Rattle.line_check.specs.Testing.{names_by}
-use Rattle.tree_check.specs.BoxValues.{HasBoxValue}
-use Rattle.tree_check.specs.declared.proof.BoxCert.{BoxCert}
-use Rattle.tree_boxes.proofs.FreeValues.{free_has_value, free_value}
-use Rattle.tree_boxes.proofs.Knowing.{value_told}
+use Rattle.tree_check.{specs.BoxValues.HasBoxValue, specs.declared.proof.BoxCert.BoxCert}
+use Rattle.tree_boxes.{proofs.FreeValues.{free_has_value, free_value}, proofs.Knowing.value_told}
 use Rattle.tree_boxes.proofs.certs.empty_valued.Goals as goal
 
 pub unreachable-requires : goal.unreachable-requires

@@ -1,7 +1,6 @@
 use Rattle.std.proofs.Common.{arith}
-use Rattle.tree_boxes.specs.Searches.{aimed}
 use Rattle.tree_check.proofs.Naming.{value_once}
-use Rattle.tree_boxes.proofs.Knowing.{value_here, value_told}
+use Rattle.tree_boxes.{specs.Searches.aimed, proofs.Knowing.{value_here, value_told}}
 use Rattle.tree_boxes.proofs.certs.greater.Goals as goal
 
 pub returns-then-value-best-clause-most : goal.returns-then-value-best-clause-most

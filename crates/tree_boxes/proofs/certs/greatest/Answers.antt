@@ -1,8 +1,5 @@
 use Rattle.std.proofs.Common.{arith}
-use Rattle.tree_boxes.specs.Searches.{aimed}
-use Rattle.tree_boxes.proofs.FreeValues.{free_once}
-use Rattle.tree_boxes.proofs.OwnValues.{own_has}
-use Rattle.tree_boxes.proofs.Results.{ok_both}
+use Rattle.tree_boxes.{specs.Searches.aimed, proofs.FreeValues.free_once, proofs.OwnValues.own_has, proofs.Results.ok_both}
 use Rattle.tree_boxes.proofs.certs.greatest.Goals as goal
 
 pub returns-clause-valued : goal.returns-clause-valued

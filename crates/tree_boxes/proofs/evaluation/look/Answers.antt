@@ -1,8 +1,6 @@
 use Rattle.std.proofs.Common.{◌≡◌, ℕ, List, MatchOption, Option, arith, subst}
 use Rattle.tree_check.specs.Boxes.{IsFixedBox, least_counts}
-use Rattle.tree_boxes.specs.Searches.{aimed}
-use Rattle.tree_boxes.proofs.Looking.{unsettled_box}
-use Rattle.tree_boxes.proofs.Results.{ok_anyway}
+use Rattle.tree_boxes.{specs.Searches.aimed, proofs.Looking.unsettled_box, proofs.Results.ok_anyway}
 use Rattle.tree_boxes.proofs.evaluation.look.Goals as goal
 
 pub look_fixed-requires-clause-unsettled : goal.look_fixed-requires-clause-unsettled

@@ -1,10 +1,7 @@
 use Rattle.std.proofs.Common.{◌≤◌, List, IfOk, length, subst, sym, arith}
 use Rattle.net_core.proofs.Library.{on_ok_weaker}
 use Rattle.plan_terms.specs.Terms.{CutLine}
-use Rattle.tree_boxes.specs.Causes.{IsUnsettled}
-use Rattle.tree_boxes.specs.Finds.{IsFoundAt}
-use Rattle.tree_boxes.specs.Searches.{aimed, most_entries}
-use Rattle.tree_boxes.proofs.Extending.{aim_on, handed_same, learned_on, most_on, valued_on}
+use Rattle.tree_boxes.{specs.Causes.IsUnsettled, specs.Finds.IsFoundAt, specs.Searches.{aimed, most_entries}, proofs.Extending.{aim_on, handed_same, learned_on, most_on, valued_on}}
 use Rattle.tree_boxes.proofs.evaluation.look_divided.Goals as goal
 
 pub look_open-requires-2-clause-aim : goal.look_open-requires-2-clause-aim

@@ -1,9 +1,7 @@
 use Rattle.std.proofs.Common.{◌∙◌, Err, ℕ, List, ap, arith, subst}
 use Rattle.plan_swaps.specs.Terms.{IsWideSomewhere, whole_caps}
 use Rattle.plan_terms.specs.Terms.{Violates, capacities, total_cost}
-use Rattle.tree_boxes.specs.inner.Asking.{IsAnswerTo}
-use Rattle.tree_boxes.specs.Searches.{aimed, handed_in}
-use Rattle.tree_boxes.proofs.Looking.{cheaper_than, fixed_cheaper, stuck_found, violated_found}
+use Rattle.tree_boxes.{specs.inner.Asking.IsAnswerTo, specs.Searches.{aimed, handed_in}, proofs.Looking.{cheaper_than, fixed_cheaper, stuck_found, violated_found}}
 use Rattle.tree_boxes.proofs.evaluation.look_fixed.Goals as goal
 
 pub returns-in-Ok-clause-found : goal.returns-in-Ok-clause-found

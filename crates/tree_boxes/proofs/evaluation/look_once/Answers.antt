@@ -1,7 +1,5 @@
 use Rattle.std.proofs.Common.{arith}
-use Rattle.tree_boxes.specs.Searches.{aimed}
-use Rattle.tree_boxes.proofs.Extending.{valued_on}
-use Rattle.tree_boxes.proofs.Looking.{valued_more}
+use Rattle.tree_boxes.{specs.Searches.aimed, proofs.Extending.valued_on, proofs.Looking.valued_more}
 use Rattle.tree_boxes.proofs.evaluation.look_once.Goals as goal
 
 pub returns-in_default-2-clause-round : goal.returns-in_default-2-clause-round

@@ -1,12 +1,6 @@
 use Rattle.std.proofs.Common.{arith, refl, subst, sym}
 use Rattle.tree_check.specs.Terms.{IsFixedBox, TreeBox}
-use Rattle.tree_boxes.specs.declared.evaluation.Round.{Round}
-use Rattle.tree_boxes.specs.declared.found.Found.{Found}
-use Rattle.tree_boxes.specs.Finds.{IsFoundAt, IsSearchBox}
-use Rattle.tree_boxes.specs.inner.Rounds.{IsRoundTo}
-use Rattle.tree_boxes.specs.Searches.{IsUnsettledIn, aimed, handed_in}
-use Rattle.tree_boxes.proofs.Extending.{aim_on, entries_most, learned_none, learned_on, most_on}
-use Rattle.tree_boxes.proofs.Looking.{open_found}
+use Rattle.tree_boxes.{specs.declared.evaluation.Round.Round, specs.declared.found.Found.Found, specs.Finds.{IsFoundAt, IsSearchBox}, specs.inner.Rounds.IsRoundTo, specs.Searches.{IsUnsettledIn, aimed, handed_in}, proofs.Extending.{aim_on, entries_most, learned_none, learned_on, most_on}, proofs.Looking.open_found}
 use Rattle.tree_boxes.proofs.evaluation.look_open.Goals as goal
 
 pub loop-init : goal.loop-init

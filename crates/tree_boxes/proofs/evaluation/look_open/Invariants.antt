@@ -1,6 +1,5 @@
 use Rattle.std.proofs.Common.{◌≡◌, ◌≤◌, ◌<◌, length}
-use Rattle.tree_boxes.specs.Searches.{HasLearned, IsAim, IsSearch, aimed, most_entries}
-use Rattle.tree_boxes.specs.Finds.{IsValued}
+use Rattle.tree_boxes.{specs.Searches.{HasLearned, IsAim, IsSearch, aimed, most_entries}, specs.Finds.IsValued}
 use Rattle.tree_boxes.proofs.evaluation.look_open.Given as goal
 
 -- the search has learned more, and the best certificate doesn't close the box

@@ -1,5 +1,4 @@
-use Rattle.std.proofs.Common.{◌≡◌, ◌++◌, length, map}
-use Rattle.std.specs.Vec.Iter.{into_iter_items, into_iter_len}
+use Rattle.std.{proofs.Common.{◌≡◌, ◌++◌, length, map}, specs.Vec.Iter.{into_iter_items, into_iter_len}}
 use Rattle.proof_order.specs.declared.entry.Entry.TheVariants as entry
 use Rattle.tree_boxes.proofs.known.entries_of.Given as goal
 

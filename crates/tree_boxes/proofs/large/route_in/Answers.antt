@@ -1,8 +1,7 @@
 use Rattle.std.proofs.Common.{subst, arith}
 use Rattle.net_core.proofs.Networks.{few_links}
 use Rattle.plan_terms.specs.Terms.{case_of, graph_in}
-use Rattle.plan_swaps.specs.Terms.{IsFinding}
-use Rattle.plan_swaps.proofs.Lemmas.{routed_within, survivable_joins}
+use Rattle.plan_swaps.{specs.Terms.IsFinding, proofs.Lemmas.{routed_within, survivable_joins}}
 use Rattle.tree_boxes.proofs.large.route_in.Goals as goal
 
 pub separate_state-requires-clause-joined : goal.separate_state-requires-clause-joined

@@ -1,5 +1,4 @@
-use Rattle.std.proofs.Common.{◌≡◌, ◌∙◌, ℕ, List, Some, ap, arith, length, slice_get, subst}
-use Rattle.std.proofs.lemmas.List.{length_push}
+use Rattle.std.{proofs.Common.{◌≡◌, ◌∙◌, ℕ, List, Some, ap, arith, length, slice_get, subst}, proofs.lemmas.List.length_push}
 use Rattle.plan_terms.specs.Terms.{Routing, case_of}
 use Rattle.module_choice.proofs.Pairs.{capacities_long}
 use Rattle.plan_swaps.specs.Terms.{IsRoutingWithin}

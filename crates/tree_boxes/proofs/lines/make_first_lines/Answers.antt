@@ -1,7 +1,6 @@
 use Rattle.std.proofs.Common.{◌≤◌, length, arith}
 use Rattle.net_core.proofs.Library.{on_ok_weaker}
-use Rattle.tree_boxes.specs.Searches.{most_entries}
-use Rattle.tree_boxes.proofs.Extending.{learned_on, most_on}
+use Rattle.tree_boxes.{specs.Searches.most_entries, proofs.Extending.{learned_on, most_on}}
 use Rattle.tree_boxes.proofs.lines.make_first_lines.Goals as goal
 
 pub make_certified-requires-2-clause-room : goal.make_certified-requires-2-clause-room

@@ -1,11 +1,8 @@
-use Rattle.std.proofs.Common.{◌≡◌, ◌∙◌, [], List, ℕ, All, get_or, length, ap, sym, subst, arith}
-use Rattle.std.proofs.lemmas.List.{length_push}
+use Rattle.std.{proofs.Common.{◌≡◌, ◌∙◌, [], List, ℕ, All, get_or, length, ap, sym, subst, arith}, proofs.lemmas.List.length_push}
 use Rattle.net_core.proofs.Networks.{modules_sound}
-use Rattle.module_choice.proofs.Pairs.{counts_long}
+use Rattle.module_choice.proofs.Pairs.{counts_long, counts_shape}
 use Rattle.plan_terms.specs.Terms.{AreCounts, IsModule, Link, Module}
-use Rattle.tree_boxes.specs.inner.Lowering.{IsLoweredLink, modules_at}
-use Rattle.module_choice.proofs.Pairs.{counts_shape}
-use Rattle.tree_boxes.proofs.Lowering.{links_more}
+use Rattle.tree_boxes.{specs.inner.Lowering.{IsLoweredLink, modules_at}, proofs.Lowering.links_more}
 use Rattle.tree_boxes.proofs.lowered_counts.lowered_counts.Goals as goal
 
 pub bounds-lists-e : goal.bounds-lists-e

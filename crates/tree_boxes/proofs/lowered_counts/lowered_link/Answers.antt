@@ -1,5 +1,4 @@
-use Rattle.std.proofs.Common.{◌++◌, ◌∷◌, [], ◌+◌, ◌-◌, ◌<◌, List, ℕ, get_or, length, take, ap, sym, subst, arith}
-use Rattle.std.proofs.lemmas.List.{length-take, length_push, take_more}
+use Rattle.std.{proofs.Common.{◌++◌, ◌∷◌, [], ◌+◌, ◌-◌, ◌<◌, List, ℕ, get_or, length, take, ap, sym, subst, arith}, proofs.lemmas.List.{length-take, length_push, take_more}}
 use Rattle.plan_terms.specs.Terms.{Module}
 use Rattle.tree_boxes.proofs.Lowering.{IsLoweredTo, lowered_more}
 use Rattle.tree_boxes.proofs.lowered_counts.lowered_link.Goals as goal

@@ -1,5 +1,4 @@
-use Rattle.std.proofs.Common.{◌≡◌, ◌∙◌, ◌*◌, ◌≤◌, ◌<◌, ◌⊎◌, inl, inr, ⊎_elim, ap, arith}
-use Rattle.std.proofs.lemmas.Grind.{div_ceil_times}
+use Rattle.std.{proofs.Common.{◌≡◌, ◌∙◌, ◌*◌, ◌≤◌, ◌<◌, ◌⊎◌, inl, inr, ⊎_elim, ap, arith}, proofs.lemmas.Grind.div_ceil_times}
 use Rattle.net_core.proofs.Library.{cases_lt}
 use Rattle.tree_boxes.proofs.lowered_counts.needed.Goals as goal
 

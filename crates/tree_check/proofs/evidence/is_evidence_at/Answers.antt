@@ -1,9 +1,7 @@
 use Rattle.std.proofs.Common.{Bool, IsTrue, ◌↔◌, refl, subst, sym}
 use Rattle.plan_terms.specs.Terms.{case_of}
-use Rattle.tree_check.specs.inner.Evidences.{IsProgramInForm}
-use Rattle.tree_check.proofs.EvidenceHeld.{evidence_told, no_evidence}
+use Rattle.tree_check.{specs.inner.Evidences.IsProgramInForm, proofs.EvidenceHeld.{evidence_told, no_evidence}, proofs.evidence.is_evidence_at.Goals.{then-are_caps, else-are_caps}}
 use Rattle.tree_check.proofs.evidence.is_evidence_at.Goals as goal
-use Rattle.tree_check.proofs.evidence.is_evidence_at.Goals.{then-are_caps, else-are_caps}
 
 pub returns-after-are_caps : goal.returns-after-are_caps
 returns-after-are_caps c =

@@ -1,8 +1,6 @@
-use Rattle.std.proofs.Common.{◌≡◌, ℕ, List, Option, All, MatchOption, map, subst}
-use Rattle.std.proofs.lemmas.List.{map_more}
+use Rattle.std.{proofs.Common.{◌≡◌, ℕ, List, Option, All, MatchOption, map, subst}, proofs.lemmas.List.map_more}
 use Rattle.net_core.proofs.Library.{All-more}
-use Rattle.tree_check.specs.Boxes.{IsFixedSpan}
-use Rattle.tree_check.specs.declared.boxes.Span.{Span}
+use Rattle.tree_check.{specs.Boxes.IsFixedSpan, specs.declared.boxes.Span.Span}
 use Rattle.tree_check.proofs.fixed_counts.fixed_counts.Goals as goal
 
 pub loop-spans-preserved : goal.loop-spans-preserved

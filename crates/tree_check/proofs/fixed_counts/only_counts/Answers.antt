@@ -1,7 +1,6 @@
 use Rattle.std.proofs.lemmas.List.{map_more}
 use Rattle.net_core.proofs.Library.{All-more}
-use Rattle.tree_check.specs.Boxes.{IsFixedSpan, any_count}
-use Rattle.tree_check.specs.declared.boxes.Span.{Span}
+use Rattle.tree_check.{specs.Boxes.{IsFixedSpan, any_count}, specs.declared.boxes.Span.Span}
 use Rattle.tree_check.proofs.fixed_counts.only_counts.Goals as goal
 
 pub loop-s-preserved : goal.loop-s-preserved

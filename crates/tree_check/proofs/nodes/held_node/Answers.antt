@@ -1,7 +1,5 @@
 use Rattle.std.proofs.Common.{subst, sym}
-use Rattle.tree_check.specs.declared.proof.Node.{Node}
-use Rattle.tree_check.specs.inner.Walking.{IsHeldIn}
-use Rattle.tree_check.proofs.NodesHeld.{held_spent, held_stuck}
+use Rattle.tree_check.{specs.declared.proof.Node.Node, specs.inner.Walking.IsHeldIn, proofs.NodesHeld.{held_spent, held_stuck}}
 use Rattle.tree_check.proofs.nodes.held_node.Goals as goal
 
 pub returns-in-Spent : goal.returns-in-Spent

@@ -1,5 +1,4 @@
-use Rattle.std.proofs.Common.{◌∙◌, refl}
-use Rattle.std.proofs.lemmas.Bool.{both_ways}
+use Rattle.std.{proofs.Common.{◌∙◌, refl}, proofs.lemmas.Bool.both_ways}
 use Rattle.tree_check.proofs.NodesHeld.{emptied_sound, emptied_told}
 use Rattle.tree_check.proofs.nodes.is_empty.Goals as goal
 

@@ -1,6 +1,6 @@
 use Rattle.std.proofs.Common.{◌≡◌, ◌-◌, ◌^◌, min, take}
-use Rattle.tree_check.specs.BoxValues.{asked_right}
 use Rattle.line_check.specs.Testing.{weighed}
+use Rattle.tree_check.specs.BoxValues.{asked_right}
 use Rattle.tree_check.proofs.sums.asked_right.Given as goal
 
 -- the sum over the lines so far

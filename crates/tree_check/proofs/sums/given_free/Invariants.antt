@@ -1,6 +1,6 @@
 use Rattle.std.proofs.Common.{◌≡◌, ◌-◌, ◌^◌, min, take}
-use Rattle.tree_check.specs.BoxValues.{given_free}
 use Rattle.line_check.specs.Testing.{weighed}
+use Rattle.tree_check.specs.BoxValues.{given_free}
 use Rattle.tree_check.proofs.sums.given_free.Given as goal
 
 -- the sum over the lines so far

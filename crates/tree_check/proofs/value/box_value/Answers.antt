@@ -1,8 +1,6 @@
-use Rattle.std.proofs.Common.{arith}
-use Rattle.std.proofs.lemmas.Bool.{both_ways}
-use Rattle.tree_check.proofs.ValuesTold.{nums_own}
+use Rattle.std.{proofs.Common.arith, proofs.lemmas.Bool.both_ways}
+use Rattle.tree_check.{proofs.ValuesTold.nums_own, proofs.value.box_value.Goals.{then-of-eq0-via-then-of-eq0, then-of-eq0-via-else-of-eq0+then-not-are_narrow}}
 use Rattle.tree_check.proofs.value.box_value.Goals as goal
-use Rattle.tree_check.proofs.value.box_value.Goals.{then-of-eq0-via-then-of-eq0, then-of-eq0-via-else-of-eq0+then-not-are_narrow}
 
 pub returns-then-of-eq0 : goal.returns-then-of-eq0
 returns-then-of-eq0 c = λ v is. elim c.then-of-eq0.branch [

@@ -1,8 +1,6 @@
 use Rattle.std.proofs.Common.{◌≡◌, ◌*◌, refl, arith}
-use Rattle.tree_check.specs.BoxValues.{asked_right, given_free}
 use Rattle.line_check.specs.Testing.{weighed}
-use Rattle.tree_check.specs.inner.Weighing.{total_of}
-use Rattle.tree_check.proofs.ValuesTold.{gains_are, losses_are, value_is_told}
+use Rattle.tree_check.{specs.BoxValues.{asked_right, given_free}, specs.inner.Weighing.total_of, proofs.ValuesTold.{gains_are, losses_are, value_is_told}}
 use Rattle.tree_check.proofs.value.value_of.Goals as goal
 
 pub returns : goal.returns

@@ -1,7 +1,5 @@
-use Rattle.std.proofs.Common.{◌≡◌, Bool, true, false, refl, subst, sym, eqb-true, not}
-use Rattle.std.proofs.lemmas.Bool.{eq-eqb, not_from_false}
-use Rattle.tree_check.specs.Proofs.{VerdictFollows}
-use Rattle.tree_check.proofs.Walked.{closed_by_verdict, follows_closed, least_follows, least_is_found}
+use Rattle.std.{proofs.Common.{◌≡◌, Bool, true, false, refl, subst, sym, eqb-true, not}, proofs.lemmas.Bool.{eq-eqb, not_from_false}}
+use Rattle.tree_check.{specs.Proofs.VerdictFollows, proofs.Walked.{closed_by_verdict, follows_closed, least_follows, least_is_found}}
 use Rattle.tree_check.proofs.walk.follows.Goals as goal
 
 false_from_not : (b : Bool) → not b ≡ true → b ≡ false

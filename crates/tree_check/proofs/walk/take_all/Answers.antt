@@ -1,11 +1,7 @@
 use Rattle.std.proofs.Common.{◌≡◌, ℕ, ◌+◌, ◌<◌, false, List, Some, get_or, length, slice_get, inl, refl, subst, sym}
 use Rattle.net_core.proofs.Library.{slice_get_read}
 use Rattle.plan_terms.specs.Terms.{case_of}
-use Rattle.tree_check.specs.Trees.{TreeBox}
-use Rattle.tree_check.specs.declared.proof.Node.{Node}
-use Rattle.tree_check.specs.declared.walk.Found.{Found}
-use Rattle.tree_check.specs.inner.Walking.{HasWalked}
-use Rattle.tree_check.proofs.Walked.{walked_by_tests, stops_by_tests, walked_none}
+use Rattle.tree_check.{specs.Trees.TreeBox, specs.declared.proof.Node.Node, specs.declared.walk.Found.Found, specs.inner.Walking.HasWalked, proofs.Walked.{walked_by_tests, stops_by_tests, walked_none}}
 use Rattle.tree_check.proofs.walk.take_all.Goals as goal
 
 pub loop-i-init : goal.loop-i-init

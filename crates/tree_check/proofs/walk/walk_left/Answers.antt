@@ -1,5 +1,4 @@
-use Rattle.std.proofs.Common.{◌+◌, inr, arith}
-use Rattle.std.proofs.lemmas.Bool.{both_ways}
+use Rattle.std.{proofs.Common.{◌+◌, inr, arith}, proofs.lemmas.Bool.both_ways}
 use Rattle.plan_terms.specs.Terms.{case_of}
 use Rattle.tree_check.proofs.Walked.{accepted, not_founded}
 use Rattle.tree_check.proofs.walk.walk_left.Goals as goal

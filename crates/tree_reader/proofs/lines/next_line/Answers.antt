@@ -1,7 +1,6 @@
 use Rattle.std.proofs.Common.{ℕ, ◌+◌, ◌<◌, arith, ◌∙◌, ap, get_or, length, sym, take, eq-eqb, ne_eqb}
 use Rattle.snd_tokens.specs.Terms.{Text, text_from}
-use Rattle.tree_reader.specs.CommentTexts.{CommentAt, NoneAt, comments_from}
-use Rattle.tree_reader.proofs.Scanning.{comments_end, comments_hash, comments_other}
+use Rattle.tree_reader.{specs.CommentTexts.{CommentAt, NoneAt, comments_from}, proofs.Scanning.{comments_end, comments_hash, comments_other}}
 use Rattle.tree_reader.proofs.lines.next_line.Goals as goal
 
 pub returns-then-at-bytes-clause-next : goal.returns-then-at-bytes-clause-next

@@ -1,7 +1,6 @@
 use Rattle.std.proofs.Common.{◌≡◌, ◌≤◌, ◌-◌, length}
 use Rattle.report_parts.specs.Readers.{reader_demands, reader_names}
-use Rattle.tree_reader.specs.CommentTexts.{comments_from}
-use Rattle.tree_reader.specs.ReadingTrees.{lines_at, tree_at}
+use Rattle.tree_reader.{specs.CommentTexts.comments_from, specs.ReadingTrees.{lines_at, tree_at}}
 use Rattle.tree_reader.proofs.reader.tree.Given as goal
 
 -- what is left gives the whole tree

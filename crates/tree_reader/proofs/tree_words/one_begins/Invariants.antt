@@ -1,6 +1,5 @@
 use Rattle.std.proofs.Common.{◌≡◌, ◌≤◌, ◌-◌, length}
-use Rattle.tree_reader.specs.CommentTexts.{comments_from}
-use Rattle.tree_reader.specs.TreeWords.{has_tree_line}
+use Rattle.tree_reader.{specs.CommentTexts.comments_from, specs.TreeWords.has_tree_line}
 use Rattle.tree_reader.proofs.tree_words.one_begins.Given as goal
 
 -- the comments so far begin otherwise

@@ -1,10 +1,8 @@
 use Rattle.std.proofs.Common.{◌≡◌, ap, refl, subst}
 use Rattle.net_core.proofs.Networks.{few_links}
 use Rattle.module_choice.proofs.Carrying.{network_links}
-use Rattle.tree_check.specs.Terms.{span_at, TreeBox}
-use Rattle.tree_check.specs.declared.boxes.Span.{Span}
-use Rattle.tree_search.specs.inner.Choosing.{HasFreePlace}
-use Rattle.tree_search.proofs.Choices.{least_triable}
+use Rattle.tree_check.{specs.Terms.{span_at, TreeBox}, specs.declared.boxes.Span.Span}
+use Rattle.tree_search.{specs.inner.Choosing.HasFreePlace, proofs.Choices.least_triable}
 use Rattle.tree_search.proofs.choice.at_least.Goals as goal
 
 pub returns : goal.returns

@@ -1,8 +1,7 @@
 use Rattle.std.proofs.Common.{All, subst, sym}
 use Rattle.net_core.proofs.Library.{All-permutation}
-use Rattle.tree_search.specs.inner.Choosing.{IsTriable}
 use Rattle.tree_boxes.specs.Searches.{aimed}
-use Rattle.tree_search.specs.declared.choice.Scored.{Scored}
+use Rattle.tree_search.{specs.inner.Choosing.IsTriable, specs.declared.choice.Scored.Scored}
 use Rattle.tree_search.proofs.choice.by_program.Goals as goal
 
 pub best_tried-requires-clause-all : goal.best_tried-requires-clause-all

@@ -1,10 +1,8 @@
 use Rattle.std.proofs.Common.{◌∙◌}
 use Rattle.net_core.proofs.Library.{All-push, All-same}
-use Rattle.tree_search.specs.inner.Choosing.{IsTriable}
 use Rattle.tree_boxes.specs.Searches.{aimed}
-use Rattle.tree_search.specs.declared.choice.Scored.{Scored}
+use Rattle.tree_search.{specs.inner.Choosing.IsTriable, specs.declared.choice.Scored.Scored, proofs.choice.choices.Goals.{in-Some+in_ok-push, in_default}}
 use Rattle.tree_search.proofs.choice.choices.Goals as goal
-use Rattle.tree_search.proofs.choice.choices.Goals.{in-Some+in_ok-push, in_default}
 
 pub loop-amount-preserved : goal.loop-amount-preserved
 loop-amount-preserved c =

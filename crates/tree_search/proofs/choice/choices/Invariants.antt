@@ -1,6 +1,6 @@
 use Rattle.std.proofs.Common.{All}
-use Rattle.tree_search.specs.inner.Choosing.{IsTriable}
 use Rattle.tree_boxes.specs.Searches.{aimed}
+use Rattle.tree_search.specs.inner.Choosing.{IsTriable}
 use Rattle.tree_search.proofs.choice.choices.Given as goal
 
 -- the choices of the amounts so far

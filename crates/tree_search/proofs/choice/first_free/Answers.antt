@@ -1,7 +1,6 @@
 use Rattle.std.proofs.Common.{◌∙◌, ◌≤◌, List, All, get_or, length, subst, arith, take_all}
 use Rattle.net_core.proofs.Library.{All-more}
-use Rattle.tree_check.specs.Boxes.{IsFixedSpan}
-use Rattle.tree_check.specs.declared.boxes.Span.{Span}
+use Rattle.tree_check.{specs.Boxes.IsFixedSpan, specs.declared.boxes.Span.Span}
 use Rattle.tree_search.proofs.choice.first_free.Goals as goal
 
 pub loop-link-preserved : goal.loop-link-preserved

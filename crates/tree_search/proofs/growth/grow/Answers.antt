@@ -1,9 +1,7 @@
 use Rattle.std.proofs.Common.{◌+◌, ◌*◌, List, arith, subst}
 use Rattle.plan_terms.specs.Terms.{CutLine}
-use Rattle.tree_search.specs.declared.growth.Turn.{Turn}
-use Rattle.tree_search.specs.inner.Growing.{IsGrowing, IsTurnTo}
-use Rattle.tree_boxes.specs.Terms.{aimed, handed_in}
-use Rattle.tree_boxes.proofs.Extending.{aim_on, entries_most, handed_same, learned_none, learned_on, most_more}
+use Rattle.tree_boxes.{specs.Terms.{aimed, handed_in}, proofs.Extending.{aim_on, entries_most, handed_same, learned_none, learned_on, most_more}}
+use Rattle.tree_search.{specs.declared.growth.Turn.Turn, specs.inner.Growing.{IsGrowing, IsTurnTo}}
 use Rattle.tree_search.proofs.growth.grow.Goals as goal
 
 pub loop-splits-init : goal.loop-splits-init

@@ -1,12 +1,8 @@
 use Rattle.std.proofs.Common.{◌+◌, ◌≤◌, List, IfOk, arith, length, subst}
 use Rattle.net_core.proofs.Library.{on_ok_weaker}
 use Rattle.plan_terms.specs.Terms.{CutLine}
-use Rattle.tree_boxes.specs.declared.twigs.Twig.{Twig}
-use Rattle.tree_search.specs.inner.Growing.{IsTurnTo}
-use Rattle.tree_boxes.specs.Searches.{aimed, most_entries}
-use Rattle.tree_search.specs.inner.Places.{AreSettled, IsOpenPlace}
-use Rattle.tree_boxes.proofs.Extending.{aim_on, handed_same, learned_on, most_on}
-use Rattle.tree_search.proofs.Turning.{open_inside}
+use Rattle.tree_boxes.{specs.declared.twigs.Twig.Twig, specs.Searches.{aimed, most_entries}, proofs.Extending.{aim_on, handed_same, learned_on, most_on}}
+use Rattle.tree_search.{specs.inner.Growing.IsTurnTo, specs.inner.Places.{AreSettled, IsOpenPlace}, proofs.Turning.open_inside}
 use Rattle.tree_search.proofs.growth.grow_once.Goals as goal
 
 pub look_again-requires-clause-aim : goal.look_again-requires-clause-aim

@@ -1,9 +1,8 @@
 use Rattle.std.proofs.Common.{◌+◌, ◌*◌, ◌≤◌, List, IfOk, length, subst, arith}
 use Rattle.net_core.proofs.Library.{on_ok_weaker}
 use Rattle.plan_terms.specs.Terms.{CutLine}
+use Rattle.tree_boxes.{specs.Searches.{aimed, most_entries}, proofs.Extending.{aim_on, handed_same, learned_on, most_on}}
 use Rattle.tree_search.specs.inner.Growing.{IsGrownTo}
-use Rattle.tree_boxes.specs.Searches.{aimed, most_entries}
-use Rattle.tree_boxes.proofs.Extending.{aim_on, handed_same, learned_on, most_on}
 use Rattle.tree_search.proofs.growth.grown.Goals as goal
 
 pub grown_on-requires-clause-aim : goal.grown_on-requires-clause-aim

@@ -1,10 +1,7 @@
 use Rattle.std.proofs.Common.{List, MatchOption, arith, subst, sym}
 use Rattle.plan_terms.specs.Terms.{CutLine}
-use Rattle.tree_search.specs.declared.growth.Growth.{Growth}
-use Rattle.tree_search.specs.inner.Growing.{IsFirstTree, IsGrowing, IsGrownTo, IsGrownTree}
-use Rattle.tree_boxes.specs.Terms.{AreCheaperCounts, aimed, handed_in}
-use Rattle.tree_boxes.proofs.Extending.{aim_on, handed_same, learned_on, most_more}
-use Rattle.tree_search.proofs.Turning.{grown_with}
+use Rattle.tree_boxes.{specs.Terms.{AreCheaperCounts, aimed, handed_in}, proofs.Extending.{aim_on, handed_same, learned_on, most_more}}
+use Rattle.tree_search.{specs.declared.growth.Growth.Growth, specs.inner.Growing.{IsFirstTree, IsGrowing, IsGrownTo, IsGrownTree}, proofs.Turning.grown_with}
 use Rattle.tree_search.proofs.growth.grown_on.Goals as goal
 
 pub grow-requires-clause-aim : goal.grow-requires-clause-aim

@@ -1,12 +1,8 @@
 use Rattle.std.proofs.Common.{List, subst, sym}
 use Rattle.tree_check.specs.Terms.{IsFixedBox, TreeBox}
-use Rattle.tree_boxes.specs.declared.found.Found.{Found}
+use Rattle.tree_boxes.{specs.declared.found.Found.Found, specs.declared.twigs.Twig.Twig, specs.Terms.{IsFoundAt, IsSearchBox, aimed, handed_in}}
+use Rattle.tree_search.{specs.inner.Growing.IsGrowing, proofs.Staying.growing_on, proofs.Turning.{read_known, read_open, twig_growing}}
 use Rattle.tree_boxes.specs.declared.found.Found.TheVariants as found
-use Rattle.tree_boxes.specs.declared.twigs.Twig.{Twig}
-use Rattle.tree_boxes.specs.Terms.{IsFoundAt, IsSearchBox, aimed, handed_in}
-use Rattle.tree_search.specs.inner.Growing.{IsGrowing}
-use Rattle.tree_search.proofs.Staying.{growing_on}
-use Rattle.tree_search.proofs.Turning.{read_known, read_open, twig_growing}
 use Rattle.tree_search.proofs.growth.look_again.Goals as goal
 
 pub look-requires-clause-search_box : goal.look-requires-clause-search_box

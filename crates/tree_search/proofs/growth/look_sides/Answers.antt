@@ -1,11 +1,7 @@
 use Rattle.std.proofs.Common.{◌+◌, ◌≤◌, arith, length, subst, sym}
 use Rattle.tree_check.specs.Terms.{lower_side, upper_side}
-use Rattle.tree_boxes.specs.declared.found.Found.{Found}
-use Rattle.tree_boxes.specs.Terms.{HasLearned, IsFoundAt, aimed, handed_in, most_entries}
-use Rattle.tree_boxes.proofs.Extending.{aim_on, learned_on, most_more}
-use Rattle.tree_search.specs.declared.growth.Sides.{Sides}
-use Rattle.tree_search.specs.inner.Growing.{AreSidesOf}
-use Rattle.tree_search.proofs.Sides.{sides_found_with}
+use Rattle.tree_boxes.{specs.declared.found.Found.Found, specs.Terms.{HasLearned, IsFoundAt, aimed, handed_in, most_entries}, proofs.Extending.{aim_on, learned_on, most_more}}
+use Rattle.tree_search.{specs.declared.growth.Sides.Sides, specs.inner.Growing.AreSidesOf, proofs.Sides.sides_found_with}
 use Rattle.tree_search.proofs.growth.look_sides.Goals as goal
 
 pub look_lower-requires-clause-search_box : goal.look_lower-requires-clause-search_box

@@ -1,14 +1,8 @@
 use Rattle.std.proofs.Common.{◌+◌, ◌^◌, List, insert, set, subst, sym, arith}
-use Rattle.tree_boxes.specs.Terms.{Node, aimed, handed_in}
-use Rattle.tree_search.specs.declared.growth.Sides.{Sides}
+use Rattle.tree_boxes.{specs.Terms.{Node, aimed, handed_in}, specs.declared.twigs.Twig.Twig, proofs.Extending.low_box}
+use Rattle.tree_search.{specs.declared.growth.Sides.Sides, specs.inner.Growing.{AreSidesOf, IsGrowing}, proofs.Staying.growing_on, proofs.Sides.{split_link_small, split_module_small}, proofs.Turning.{open_inside, read_known, read_open, split_growing}}
 use Rattle.tree_search.specs.declared.growth.Sides.TheVariants as sides
-use Rattle.tree_boxes.specs.declared.twigs.Twig.{Twig}
 use Rattle.tree_boxes.specs.declared.twigs.Twig.TheVariants as twig
-use Rattle.tree_search.specs.inner.Growing.{AreSidesOf, IsGrowing}
-use Rattle.tree_search.proofs.Staying.{growing_on}
-use Rattle.tree_boxes.proofs.Extending.{low_box}
-use Rattle.tree_search.proofs.Sides.{split_link_small, split_module_small}
-use Rattle.tree_search.proofs.Turning.{open_inside, read_known, read_open, split_growing}
 use Rattle.tree_search.proofs.growth.split_at.Goals as goal
 
 pub choose-requires-clause-search_box : goal.choose-requires-clause-search_box

@@ -1,9 +1,8 @@
-use Rattle.std.proofs.Common.{◌+◌, ◌<◌, List, Contains, ap, arith, get_or, length, map, subst, sym, take, ◌∙◌}
-use Rattle.std.specs.List.{AllZip}
+use Rattle.std.{proofs.Common.{◌+◌, ◌<◌, List, Contains, ap, arith, get_or, length, map, subst, sym, take, ◌∙◌}, specs.List.AllZip}
 use Rattle.master_bound.specs.declared.answer.Multiplier.{Multiplier}
 use Rattle.plan_types.specs.declared.certificate.CertLine.{CertLine}
-use Rattle.tree_boxes.specs.Terms.entry
 use Rattle.tree_boxes.proofs.OwnValues.{IsOwnLine, own_more}
+use Rattle.tree_boxes.specs.Terms.entry
 use Rattle.tree_search.proofs.own_cert.own_cert.Goals as goal
 
 pub unreachable-requires : goal.unreachable-requires

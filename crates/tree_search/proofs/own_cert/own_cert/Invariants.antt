@@ -1,7 +1,6 @@
-use Rattle.std.proofs.Common.{map, take}
-use Rattle.std.specs.List.{AllZip}
-use Rattle.tree_boxes.specs.Terms.entry
+use Rattle.std.{proofs.Common.{map, take}, specs.List.AllZip}
 use Rattle.tree_boxes.proofs.OwnValues.{IsOwnLine}
+use Rattle.tree_boxes.specs.Terms.entry
 use Rattle.tree_search.proofs.own_cert.own_cert.Given as goal
 
 -- the lines so far

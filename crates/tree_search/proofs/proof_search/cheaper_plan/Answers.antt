@@ -1,5 +1,4 @@
-use Rattle.std.proofs.Common.{◌∙◌, ◌<◌, ap}
-use Rattle.std.proofs.lemmas.Result.{IfOk-weaker}
+use Rattle.std.{proofs.Common.{◌∙◌, ◌<◌, ap}, proofs.lemmas.Result.IfOk-weaker}
 use Rattle.plan_terms.specs.Terms.{case_of}
 use Rattle.plan_types.specs.declared.plan.Plan.{Plan}
 use Rattle.tree_boxes.specs.Terms.{IsCheaperPlan}

@@ -2,8 +2,8 @@ use Rattle.std.proofs.Common.{List, ap, arith, length}
 use Rattle.net_core.proofs.Library.{length-map}
 use Rattle.plan_terms.specs.Terms.{case_of}
 use Rattle.tree_boxes.specs.Terms.{Entry}
-use Rattle.tree_boxes.specs.Terms.entry
 use Rattle.tree_search.proofs.Restarts.{first_cuts, first_search}
+use Rattle.tree_boxes.specs.Terms.entry
 use Rattle.tree_search.proofs.proof_search.first_search.Goals as goal
 
 pub room_for-requires : goal.room_for-requires

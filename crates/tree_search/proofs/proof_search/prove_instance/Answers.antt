@@ -1,11 +1,7 @@
-use Rattle.std.proofs.Common.{◌≡◌, ◌∙◌, []}
-use Rattle.std.proofs.lemmas.Result.{IfOk-weaker}
+use Rattle.std.{proofs.Common.{◌≡◌, ◌∙◌, []}, proofs.lemmas.Result.IfOk-weaker}
 use Rattle.plan_terms.specs.Terms.{case_of}
-use Rattle.tree_check.specs.declared.proof.Proof.{Proof}
-use Rattle.tree_check.proofs.Verdicts.{cheapest_holds, open_leaves_hold}
-use Rattle.tree_search.specs.Proving.{IsProofOf, ShowsBound, ShowsCheapest}
-use Rattle.tree_search.specs.inner.Making.{IsProofWith}
-use Rattle.tree_search.proofs.Restarts.{certified_still, demands_still, handed_still, proof_still}
+use Rattle.tree_check.{specs.declared.proof.Proof.Proof, proofs.Verdicts.{cheapest_holds, open_leaves_hold}}
+use Rattle.tree_search.{specs.Proving.{IsProofOf, ShowsBound, ShowsCheapest}, specs.inner.Making.IsProofWith, proofs.Restarts.{certified_still, demands_still, handed_still, proof_still}}
 use Rattle.tree_search.proofs.proof_search.prove_instance.Goals as goal
 
 pub searched-requires-clause-demands : goal.searched-requires-clause-demands

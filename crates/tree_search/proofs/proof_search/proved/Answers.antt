@@ -1,12 +1,7 @@
-use Rattle.std.proofs.Common.{◌∙◌, List, IfOk, refl, subst}
-use Rattle.std.proofs.lemmas.Result.{IfOk-weaker}
+use Rattle.std.{proofs.Common.{◌∙◌, List, IfOk, refl, subst}, proofs.lemmas.Result.IfOk-weaker}
 use Rattle.plan_terms.specs.Terms.{case_of}
-use Rattle.tree_search.specs.declared.growth.Growth.{Growth}
-use Rattle.tree_search.specs.inner.Growing.{IsGrownTo}
-use Rattle.tree_boxes.specs.Terms.{Entry, handed_in}
-use Rattle.tree_search.specs.inner.Making.{IsProofMade}
-use Rattle.tree_boxes.proofs.Extending.{handed_same}
-use Rattle.tree_search.proofs.Restarts.{aim_of, attempt_room, attempt_short, cheaper_both, cheaper_none, made_proof}
+use Rattle.tree_boxes.{specs.Terms.{Entry, handed_in}, proofs.Extending.handed_same}
+use Rattle.tree_search.{specs.declared.growth.Growth.Growth, specs.inner.Growing.IsGrownTo, specs.inner.Making.IsProofMade, proofs.Restarts.{aim_of, attempt_room, attempt_short, cheaper_both, cheaper_none, made_proof}}
 use Rattle.tree_search.proofs.proof_search.proved.Goals as goal
 
 pub attempt-init : goal.attempt-init

@@ -1,7 +1,7 @@
 use Rattle.std.proofs.Common.{List, All, Contains, map, subst, sym}
 use Rattle.plan_terms.specs.Terms.{CutLine}
-use Rattle.tree_boxes.specs.Terms.entry
 use Rattle.tree_boxes.specs.Searches.{IsOwnCert}
+use Rattle.tree_boxes.specs.Terms.entry
 use Rattle.tree_search.proofs.proof_search.searched.Goals as goal
 
 pub own_cert-requires-clause-own : goal.own_cert-requires-clause-own

@@ -1,8 +1,8 @@
 use Rattle.std.proofs.Common.{◌≡◌, ◌+◌, ◌*◌, ◌≤◌, Bool, List, IfOk, length, map, subst, sym}
 use Rattle.plan_terms.specs.Terms.{CutLine, case_of}
-use Rattle.tree_boxes.specs.Terms.entry
 use Rattle.tree_boxes.specs.Searches.{IsOwnCert, handed_in}
 use Rattle.tree_search.specs.inner.Making.{IsProofWith}
+use Rattle.tree_boxes.specs.Terms.entry
 use Rattle.tree_search.proofs.proof_search.searched_from.Goals as goal
 
 pub proved-requires-clause-own : goal.proved-requires-clause-own

@@ -1,8 +1,6 @@
-use Rattle.std.proofs.Common.{ap, arith, length, map}
-use Rattle.std.specs.Vec.Iter.{into_iter_items}
+use Rattle.std.{proofs.Common.{ap, arith, length, map}, specs.Vec.Iter.into_iter_items}
 use Rattle.tree_boxes.specs.Finds.{twig_node}
-use Rattle.tree_search.specs.inner.Showing.{all_shown}
-use Rattle.tree_search.proofs.Opened.{more_shown, nodes_more}
+use Rattle.tree_search.{specs.inner.Showing.all_shown, proofs.Opened.{more_shown, nodes_more}}
 use Rattle.tree_search.proofs.tree.finished.Goals as goal
 
 pub loop-twig-preserved : goal.loop-twig-preserved

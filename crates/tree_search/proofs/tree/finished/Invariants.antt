@@ -1,5 +1,4 @@
-use Rattle.std.proofs.Common.{◌≡◌, ◌++◌, length, map}
-use Rattle.std.specs.Vec.Iter.{into_iter_items, into_iter_len}
+use Rattle.std.{proofs.Common.{◌≡◌, ◌++◌, length, map}, specs.Vec.Iter.{into_iter_items, into_iter_len}}
 use Rattle.tree_boxes.specs.Finds.{twig_node}
 use Rattle.tree_search.specs.inner.Showing.{all_shown, shown_more}
 use Rattle.tree_search.proofs.tree.finished.Given as goal

@@ -3,9 +3,7 @@ use Rattle.net_core.proofs.Library.{All-nil}
 use Rattle.plan_terms.specs.Terms.{case_of}
 use Rattle.able_counts.specs.AbleTests.{AreRoutedCounts}
 use Rattle.module_choice.proofs.Pairs.{counts_long}
-use Rattle.trim_plan.specs.Trimmed.{IsBlockAt, links_in_use, modules_in_use}
-use Rattle.trim_plan.specs.inner.Sparing.{block_places}
-use Rattle.trim_plan.proofs.Lowering.{links_more}
+use Rattle.trim_plan.{specs.Trimmed.{IsBlockAt, links_in_use, modules_in_use}, specs.inner.Sparing.block_places, proofs.Lowering.links_more}
 use Rattle.trim_plan.proofs.blocks.add_all_blocks.Goals as goal
 
 pub returns-clause-trimmed : goal.returns-clause-trimmed

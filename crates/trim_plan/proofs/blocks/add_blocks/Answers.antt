@@ -3,11 +3,7 @@ use Rattle.net_core.proofs.Library.{All-push}
 use Rattle.plan_terms.specs.Terms.{Link, case_of, capacities}
 use Rattle.module_choice.proofs.Pairs.{counts_shape}
 use Rattle.able_counts.specs.AbleTests.{AreRoutedCounts, IsStopAt, whole_caps}
-use Rattle.trim_plan.specs.declared.trimmed_plan.Block.{Block}
-use Rattle.trim_plan.specs.Trimmed.{IsBlockAt, module_count, one_less}
-use Rattle.trim_plan.specs.inner.Sparing.{block_places}
-use Rattle.trim_plan.proofs.Placing.{place_added, place_skipped, places_all}
-use Rattle.trim_plan.proofs.blocks.add_blocks.Goals.{then-module_count-gt0+in_ok-why+in-Some+in_ok-push-in-Some, else-module_count-gt0}
+use Rattle.trim_plan.{specs.declared.trimmed_plan.Block.Block, specs.Trimmed.{IsBlockAt, module_count, one_less}, specs.inner.Sparing.block_places, proofs.Placing.{place_added, place_skipped, places_all}, proofs.blocks.add_blocks.Goals.{then-module_count-gt0+in_ok-why+in-Some+in_ok-push-in-Some, else-module_count-gt0}}
 use Rattle.trim_plan.proofs.blocks.add_blocks.Goals as goal
 
 pub returns-clause-places : goal.returns-clause-places

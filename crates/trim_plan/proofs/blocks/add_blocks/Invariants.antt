@@ -1,8 +1,7 @@
 use Rattle.std.proofs.Common.{◌≡◌, ◌++◌, [], All, get_or, take}
 use Rattle.plan_terms.specs.Terms.{case_of}
 use Rattle.able_counts.specs.AbleTests.{AreRoutedCounts}
-use Rattle.trim_plan.specs.Trimmed.{IsBlockAt, modules_in_use}
-use Rattle.trim_plan.specs.inner.Sparing.{block_places}
+use Rattle.trim_plan.{specs.Trimmed.{IsBlockAt, modules_in_use}, specs.inner.Sparing.block_places}
 use Rattle.trim_plan.proofs.blocks.add_blocks.Given as goal
 
 -- the modules so far have their blocks

@@ -1,5 +1,4 @@
-use Rattle.trim_plan.specs.inner.Sparing.{LowersCounts}
-use Rattle.trim_plan.proofs.AtMost.{counts_both, counts_same}
+use Rattle.trim_plan.{specs.inner.Sparing.LowersCounts, proofs.AtMost.{counts_both, counts_same}}
 use Rattle.trim_plan.proofs.blocks.settled_blocks.Goals as goal
 
 pub settle-init : goal.settle-init

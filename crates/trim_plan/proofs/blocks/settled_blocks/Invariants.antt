@@ -1,7 +1,6 @@
 use Rattle.plan_terms.specs.Terms.{case_of}
 use Rattle.able_counts.specs.AbleTests.{AreRoutedCounts}
-use Rattle.trim_plan.specs.Trimmed.{AreAtMost}
-use Rattle.trim_plan.specs.inner.Sparing.{all_modules}
+use Rattle.trim_plan.{specs.Trimmed.AreAtMost, specs.inner.Sparing.all_modules}
 use Rattle.trim_plan.proofs.blocks.settled_blocks.Given as goal
 
 -- the test's routings are within the counts, of which none is greater

@@ -1,9 +1,7 @@
 use Rattle.std.proofs.Common.{◌≡◌, ◌<◌, ◌≤◌, ◌∙◌, ◌++◌, AllPairs, List, get_or, length, rules, arith, ap, subst, sym}
 use Rattle.net_core.proofs.Library.{IsNonDecreasingBy-from_sort_by_key, all_written}
 use Rattle.plan_terms.specs.Terms.{Link}
-use Rattle.trim_plan.specs.Dearest.{priced_modules}
-use Rattle.trim_plan.specs.Trimmed.{price_rank}
-use Rattle.trim_plan.proofs.Pricing.{link_put}
+use Rattle.trim_plan.{specs.Dearest.priced_modules, specs.Trimmed.price_rank, proofs.Pricing.link_put}
 use Rattle.trim_plan.proofs.dearest.dearest_first.Goals as goal
 
 pub returns-clause-dearest : goal.returns-clause-dearest

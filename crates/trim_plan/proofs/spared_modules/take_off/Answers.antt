@@ -1,8 +1,6 @@
 use Rattle.std.proofs.Common.{List, ℕ, subst, sym}
 use Rattle.plan_terms.specs.Terms.{case_of}
-use Rattle.trim_plan.specs.Trimmed.{AreAtMost}
-use Rattle.trim_plan.proofs.AtMost.{counts_same, limits_at_most, one_less_at_most, shape_at_most}
-use Rattle.trim_plan.proofs.Routed.{routed_lower, routed_still}
+use Rattle.trim_plan.{specs.Trimmed.AreAtMost, proofs.AtMost.{counts_same, limits_at_most, one_less_at_most, shape_at_most}, proofs.Routed.{routed_lower, routed_still}}
 use Rattle.trim_plan.proofs.spared_modules.take_off.Goals as goal
 
 pub stop-requires-clause-shape : goal.stop-requires-clause-shape

@@ -1,8 +1,7 @@
 use Rattle.std.proofs.Common.{List, ℕ, refl, subst, sym}
 use Rattle.plan_terms.specs.Terms.{Routing, case}
 use Rattle.able_counts.specs.AbleTests.{AreRoutedCounts}
-use Rattle.trim_plan.specs.Trimmed.{AreAtMost, IsTrimming}
-use Rattle.trim_plan.proofs.Plans.{trimming_of}
+use Rattle.trim_plan.{specs.Trimmed.{AreAtMost, IsTrimming}, proofs.Plans.trimming_of}
 use Rattle.trim_plan.proofs.trimmed_plan.trim_plan.Goals as goal
 
 pub trim_counts-requires-clause-routed : goal.trim_counts-requires-clause-routed

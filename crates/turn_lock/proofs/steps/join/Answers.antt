@@ -1,7 +1,7 @@
 use Rattle.std.proofs.Common.{arith, ap, ◌∙◌}
+use Rattle.net_core.proofs.Library.{nil_from_length}
 use Rattle.turn_lock.proofs.Passing.{joins, settle_allows}
 use Rattle.turn_lock.proofs.steps.join.Goals as goal
-use Rattle.net_core.proofs.Library.{nil_from_length}
 
 pub join_seat-requires : goal.join_seat-requires
 join_seat-requires g c = (

@@ -1,7 +1,7 @@
 use Rattle.std.proofs.Common.{arith, ◌∙◌}
 use Rattle.atomic_table.specs.Table.{step}
-use mathlib.Core.Option.{none}
 use Rattle.turn_lock.proofs.Turns.{look_allows, took, hand_is}
+use mathlib.Core.Option.{none}
 use Rattle.turn_lock.proofs.steps.try_take.Goals as goal
 
 pub load-requires : goal.load-requires

@@ -1,8 +1,7 @@
+use Rattle.std.proofs.Common.{length}
 use Rattle.net_core.proofs.Library.{AllByRecursion, IfOk-weaker}
 use Rattle.text_table.specs.Cells.{AreWidened}
-use Rattle.std.proofs.Common.{length}
-use Rattle.view_cells.specs.Tables.{IsApart}
-use Rattle.view_cells.proofs.Apart.{still_apart}
+use Rattle.view_cells.{specs.Tables.IsApart, proofs.Apart.still_apart}
 use Rattle.view_cells.proofs.tables.fitting.Goals as goal
 
 pub returns-clause-apart : goal.returns-clause-apart

@@ -2,8 +2,7 @@ use Rattle.std.proofs.Common.{List, ◌∷◌, ◌++◌, ap, map, subst, ◌∙�
 use Rattle.plan_terms.specs.Terms.{Demand, case_of}
 use Rattle.text_kit.proofs.Lemmas.{on_ok}
 use Rattle.view_cells.specs.Terms.{HasRows}
-use Rattle.view_state.specs.StateTables.{path_cells, path_heads}
-use Rattle.view_state.proofs.StateRows.{rows_shown}
+use Rattle.view_state.{specs.StateTables.{path_cells, path_heads}, proofs.StateRows.rows_shown}
 use Rattle.view_state.proofs.tables.put_rows.Goals as goal
 
 pub returns : goal.returns

@@ -4,8 +4,7 @@ use Rattle.plan_terms.specs.Terms.{case_of}
 use Rattle.plan_view.specs.declared.rows.LoadRow.{LoadRow}
 use Rattle.text_kit.proofs.Lemmas.{on_ok}
 use Rattle.view_cells.specs.Terms.{AddsText}
-use Rattle.view_state.specs.StateViews.{ShowsStateRows}
-use Rattle.view_state.proofs.StateRows.{tables_shown}
+use Rattle.view_state.{specs.StateViews.ShowsStateRows, proofs.StateRows.tables_shown}
 use Rattle.view_state.proofs.tables.put_tables.Goals as goal
 
 pub returns : goal.returns

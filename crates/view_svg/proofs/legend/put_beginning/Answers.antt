@@ -1,8 +1,7 @@
 use Rattle.std.proofs.Common.{◌++◌, codes}
 use Rattle.text_kit.proofs.Lemmas.{on_ok}
 use Rattle.view_cells.proofs.Lemmas.{appended, appended_five}
-use Rattle.view_svg.specs.Markup.{escaped}
-use Rattle.view_svg.specs.Pictures.{head_text}
+use Rattle.view_svg.{specs.Markup.escaped, specs.Pictures.head_text}
 use Rattle.view_svg.proofs.legend.put_beginning.Goals as goal
 
 pub returns : goal.returns

@@ -1,7 +1,6 @@
 use Rattle.std.proofs.Common.{◌++◌, ap, arith, ◌∙◌}
 use Rattle.plan_report.specs.Terms.{known_of}
-use Rattle.view_svg.specs.Pictures.{drawn_in_state}
-use Rattle.view_svg.proofs.Pieces.{next_piece}
+use Rattle.view_svg.{specs.Pictures.drawn_in_state, proofs.Pieces.next_piece}
 use Rattle.view_svg.proofs.links.put_links.Goals as goal
 
 pub loop-row-preserved : goal.loop-row-preserved

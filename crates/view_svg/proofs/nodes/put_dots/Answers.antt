@@ -1,6 +1,5 @@
 use Rattle.std.proofs.Common.{arith}
-use Rattle.view_svg.specs.Pictures.{drawn_dot}
-use Rattle.view_svg.proofs.Pieces.{next_piece}
+use Rattle.view_svg.{specs.Pictures.drawn_dot, proofs.Pieces.next_piece}
 use Rattle.view_svg.proofs.nodes.put_dots.Goals as goal
 
 pub loop-spot-preserved : goal.loop-spot-preserved

@@ -1,8 +1,7 @@
 use Rattle.std.proofs.Common.{◌++◌, codes}
 use Rattle.text_kit.proofs.Lemmas.{on_ok}
 use Rattle.view_cells.proofs.Lemmas.{appended, appended_three}
-use Rattle.view_svg.specs.Markup.{escaped}
-use Rattle.view_svg.specs.Pictures.{spot_attributes}
+use Rattle.view_svg.{specs.Markup.escaped, specs.Pictures.spot_attributes}
 use Rattle.view_svg.proofs.nodes.put_label.Goals as goal
 
 pub returns : goal.returns

@@ -3,9 +3,7 @@ use Rattle.plan_report.specs.Terms.{known_of}
 use Rattle.plan_terms.specs.Terms.{Link, case_of}
 use Rattle.text_kit.proofs.Lemmas.{on_ok}
 use Rattle.plan_view.specs.Terms.{den_in, routing_in}
-use Rattle.view_svg.specs.Changes.{AreRoundedLoads, changed_flows}
-use Rattle.view_svg.specs.Pictures.{picture_text}
-use Rattle.view_svg.proofs.ChangedLoads.{load_within}
+use Rattle.view_svg.{specs.Changes.{AreRoundedLoads, changed_flows}, specs.Pictures.picture_text, proofs.ChangedLoads.load_within}
 use Rattle.view_svg.proofs.picture.put_picture.Goals as goal
 
 pub plan_changes-requires-clause-within : goal.plan_changes-requires-clause-within

@@ -1,7 +1,6 @@
 use Rattle.std.proofs.Common.{◌++◌, codes, cond, nat_eq}
 use Rattle.text_kit.proofs.Lemmas.{on_ok}
-use Rattle.view_cells.specs.Terms.{tenths_per_cent}
-use Rattle.view_cells.proofs.Lemmas.{appended}
+use Rattle.view_cells.{specs.Terms.tenths_per_cent, proofs.Lemmas.appended}
 use Rattle.view_text.proofs.costs.put_gap.Goals as goal
 
 pub returns : goal.returns

@@ -1,8 +1,7 @@
 use Rattle.std.proofs.Common.{◌++◌, ap, codes, ◌∙◌}
-use Rattle.text_kit.proofs.Lemmas.{on_ok}
-use Rattle.text_kit.specs.Terms.{money_word}
-use Rattle.view_text.specs.CostCells.{least_known}
+use Rattle.text_kit.{proofs.Lemmas.on_ok, specs.Terms.money_word}
 use Rattle.view_cells.proofs.Lemmas.{appended}
+use Rattle.view_text.specs.CostCells.{least_known}
 use Rattle.view_text.proofs.costs.put_least.Goals as goal
 
 pub returns : goal.returns

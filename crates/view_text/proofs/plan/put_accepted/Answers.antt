@@ -1,8 +1,7 @@
 use Rattle.std.proofs.Common.{codes}
 use Rattle.text_kit.proofs.Lemmas.{on_ok}
-use Rattle.view_text.specs.CostCells.{least_text}
-use Rattle.view_text.specs.PlanViews.{states_line}
 use Rattle.view_cells.proofs.Lemmas.{appended_three}
+use Rattle.view_text.{specs.CostCells.least_text, specs.PlanViews.states_line}
 use Rattle.view_text.proofs.plan.put_accepted.Goals as goal
 
 pub returns : goal.returns

@@ -1,6 +1,6 @@
 use Rattle.std.proofs.Common.{◌++◌, ap, subst, ◌∙◌}
-use Rattle.view_text.specs.CostCells.{cost_rows}
 use Rattle.view_cells.specs.Terms.{HasRows}
+use Rattle.view_text.specs.CostCells.{cost_rows}
 use Rattle.view_text.proofs.plan.put_plan_costs.Goals as goal
 
 pub returns : goal.returns

@@ -1,14 +1,9 @@
 use Rattle.std.proofs.Common.{List, [], ◌∷◌, ◌++◌, ap, map, subst, ◌∙◌}
 use Rattle.text_kit.proofs.Lemmas.{on_ok}
 use Rattle.plan_report.specs.Terms.{known_of}
-use Rattle.plan_view.specs.declared.rows.LinkRow.{LinkRow}
-use Rattle.plan_view.specs.declared.rows.StateRow.{StateRow}
-use Rattle.view_text.specs.CostCells.{cost_rows}
-use Rattle.view_text.specs.LinkCells.{cells_of_link, link_heads, total_cells}
-use Rattle.view_text.specs.PlanViews.{accepted_text}
-use Rattle.view_text.specs.StateCells.{state_cells, state_heads}
+use Rattle.plan_view.{specs.declared.rows.LinkRow.LinkRow, specs.declared.rows.StateRow.StateRow}
 use Rattle.view_cells.specs.Terms.{HasRows, HasRowsAbove}
-use Rattle.view_text.proofs.Plans.{rows_shown}
+use Rattle.view_text.{specs.CostCells.cost_rows, specs.LinkCells.{cells_of_link, link_heads, total_cells}, specs.PlanViews.accepted_text, specs.StateCells.{state_cells, state_heads}, proofs.Plans.rows_shown}
 use Rattle.view_text.proofs.plan.put_rows.Goals as goal
 
 pub returns : goal.returns

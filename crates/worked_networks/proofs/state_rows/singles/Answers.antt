@@ -1,7 +1,5 @@
 use Rattle.std.proofs.Common.{◌≡◌, arith, get_or, [], ◌∷◌, length-append, ap, ◌∙◌}
-use Rattle.net_core.proofs.Library.{get_or_default}
-use Rattle.net_core.specs.declared.network.Link.{Link}
-use Rattle.net_core.specs.Terms.{single_state}
+use Rattle.net_core.{proofs.Library.get_or_default, specs.declared.network.Link.Link, specs.Terms.single_state}
 use Rattle.worked_networks.proofs.Singles.{single_more}
 use Rattle.worked_networks.proofs.state_rows.singles.Goals as goal
 

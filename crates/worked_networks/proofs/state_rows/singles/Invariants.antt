@@ -1,7 +1,5 @@
 use Rattle.std.proofs.Common.{◌≡◌, ℕ, ◌<◌, get_or, length}
-use Rattle.net_core.specs.declared.network.Link.{Link}
-use Rattle.net_core.specs.declared.states.Listed.{Listed}
-use Rattle.net_core.specs.Terms.{single_state}
+use Rattle.net_core.{specs.declared.network.Link.Link, specs.declared.states.Listed.Listed, specs.Terms.single_state}
 use Rattle.worked_networks.proofs.state_rows.singles.Given as goal
 
 -- the states of the links so far

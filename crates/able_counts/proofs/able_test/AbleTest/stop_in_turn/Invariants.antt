@@ -1,7 +1,6 @@
 use Rattle.std.proofs.Common.{◌≡◌, IfSome, None}
 use Rattle.plan_terms.specs.Terms.{case_of}
-use Rattle.able_counts.specs.AbleTests.{AreKeptOrWithin, IsStopAt, IsTestOf}
-use Rattle.able_counts.proofs.Testing.{AreWithinBelow}
+use Rattle.able_counts.{specs.AbleTests.{AreKeptOrWithin, IsStopAt, IsTestOf}, proofs.Testing.AreWithinBelow}
 use Rattle.able_counts.proofs.able_test.AbleTest.stop_in_turn.Given as goal
 
 -- without evidence the states so far are routed within the capacities

@@ -1,7 +1,6 @@
 use Rattle.std.proofs.Common.{List, subst}
 use Rattle.plan_terms.specs.Terms.{Routing, case_of}
-use Rattle.able_counts.specs.AbleTests.{AreKeptOrWithin}
-use Rattle.able_counts.proofs.Testing.{kept_both}
+use Rattle.able_counts.{specs.AbleTests.AreKeptOrWithin, proofs.Testing.kept_both}
 use Rattle.able_counts.proofs.able_test.AbleTest.stop_within.Goals as goal
 
 pub returns-clause-kept : goal.returns-clause-kept

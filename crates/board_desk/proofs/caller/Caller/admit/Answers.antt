@@ -1,8 +1,6 @@
 use Rattle.std.proofs.Common.{◌≡◌, ◌∙◌, Some, refl, subst, sym}
 use Rattle.turn_lock.specs.Passes.{turn_origin}
-use Rattle.board_desk.specs.inner.Endings.{IsGrown, cut_enters}
-use Rattle.board_desk.proofs.Passes.{no_pass, some_pass}
-use Rattle.board_desk.proofs.Turns.{cut_grows, cut_keeps, left_grown, left_same}
+use Rattle.board_desk.{specs.inner.Endings.{IsGrown, cut_enters}, proofs.Passes.{no_pass, some_pass}, proofs.Turns.{cut_grows, cut_keeps, left_grown, left_same}}
 use Rattle.board_desk.proofs.caller.Caller.admit.Goals as goal
 
 pub unreachable-requires : goal.unreachable-requires

@@ -1,8 +1,6 @@
 use Rattle.std.proofs.Common.{◌≡◌, ◌∙◌, Some, refl, subst, sym}
 use Rattle.turn_lock.specs.Passes.{turn_origin}
-use Rattle.board_desk.specs.inner.Endings.{IsGrown, edit_enters}
-use Rattle.board_desk.proofs.Passes.{no_pass, some_pass}
-use Rattle.board_desk.proofs.Turns.{edit_grows, edit_keeps, left_grown, left_same}
+use Rattle.board_desk.{specs.inner.Endings.{IsGrown, edit_enters}, proofs.Passes.{no_pass, some_pass}, proofs.Turns.{edit_grows, edit_keeps, left_grown, left_same}}
 use Rattle.board_desk.proofs.caller.Caller.edit.Goals as goal
 
 pub unreachable-requires : goal.unreachable-requires

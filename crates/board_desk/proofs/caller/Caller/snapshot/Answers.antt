@@ -1,6 +1,5 @@
 use Rattle.std.proofs.Common.{◌∙◌, refl, sym}
-use Rattle.board_desk.proofs.Passes.{no_pass, some_pass}
-use Rattle.board_desk.proofs.Turns.{left_as_found, left_same}
+use Rattle.board_desk.{proofs.Passes.{no_pass, some_pass}, proofs.Turns.{left_as_found, left_same}}
 use Rattle.board_desk.proofs.caller.Caller.snapshot.Goals as goal
 
 pub unreachable-requires : goal.unreachable-requires

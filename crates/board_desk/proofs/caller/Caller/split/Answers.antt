@@ -1,6 +1,5 @@
 use Rattle.std.proofs.Common.{◌∙◌, ◌/◌, ap, refl, sym}
-use Rattle.board_desk.specs.Turns.{places_in, seen_in, units_in}
-use Rattle.board_desk.proofs.Passes.{no_pass, some_pass}
+use Rattle.board_desk.{specs.Turns.{places_in, seen_in, units_in}, proofs.Passes.{no_pass, some_pass}}
 use Rattle.board_desk.proofs.caller.Caller.split.Goals as goal
 
 pub unreachable-requires : goal.unreachable-requires

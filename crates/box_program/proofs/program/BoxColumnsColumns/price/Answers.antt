@@ -1,9 +1,7 @@
 use Rattle.std.proofs.Common.{◌≡◌, ◌∙◌, Some, ap, length, refl, slice_get, subst, sym}
 use Rattle.net_core.proofs.Library.{slice_get_read}
 use Rattle.simplex_core.specs.Terms.{GainsAt, IsGainingColumn}
-use Rattle.box_program.specs.declared.program.Rated.{Rated}
-use Rattle.box_program.specs.inner.BoxPrograms.{AreBoxColumns, IsListedColumn}
-use Rattle.box_program.proofs.Candidates.{gaining_column, none_listed}
+use Rattle.box_program.{specs.declared.program.Rated.Rated, specs.inner.BoxPrograms.{AreBoxColumns, IsListedColumn}, proofs.Candidates.{gaining_column, none_listed}}
 use Rattle.box_program.proofs.program.BoxColumnsColumns.price.Goals as goal
 
 pub best_candidate-requires-clause-sound : goal.best_candidate-requires-clause-sound

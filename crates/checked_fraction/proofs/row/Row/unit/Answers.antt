@@ -1,7 +1,6 @@
 use Rattle.std.proofs.Common.{sym, subst, arith, length-set}
 use Rattle.net_core.proofs.Library.{eq-one_of_dvd-one, length-replicate}
-use Rattle.checked_fraction.specs.Rows.{num, IsNarrow}
-use Rattle.checked_fraction.proofs.Units.{unit_narrow}
+use Rattle.checked_fraction.{specs.Rows.{num, IsNarrow}, proofs.Units.unit_narrow}
 use Rattle.checked_fraction.proofs.row.Row.unit.Goals as goal
 
 pub invariant_of-result-clause-narrow : goal.invariant_of-result-clause-narrow

@@ -1,15 +1,7 @@
 use Rattle.std.proofs.Common.{◌∙◌, ◌<◌, ◌≤◌, ◌^◌, ◌++◌, ◌∷◌, [], All, List, ap, length, map, refl, sym, subst, arith, position, length-append}
 use Rattle.net_core.proofs.Library.{All-push}
 use Rattle.plan_terms.specs.Terms.{Demand, Entry, Pooled}
-use Rattle.cut_pool.specs.declared.pooled_cut.PooledCut.{PooledCut}
-use Rattle.cut_pool.specs.Boards.{opening_case}
-use Rattle.cut_pool.specs.Histories.{IsBoardAfter}
-use Rattle.cut_pool.specs.Pools.{ArePooledCuts, line_of_pooled}
-use Rattle.cut_pool.specs.inner.Pooling.{is_pooled_cut}
-use Rattle.cut_pool.proofs.Admitting.{board_count, is_legal, is_new}
-use Rattle.cut_pool.proofs.Boards.{committed, more_cuts, pooled_told}
-use Rattle.cut_pool.proofs.Sides.{IsAtDemands}
-use Rattle.cut_pool.proofs.Told.{known_told}
+use Rattle.cut_pool.{specs.declared.pooled_cut.PooledCut.PooledCut, specs.Boards.opening_case, specs.Histories.IsBoardAfter, specs.Pools.{ArePooledCuts, line_of_pooled}, specs.inner.Pooling.is_pooled_cut, proofs.Admitting.{board_count, is_legal, is_new}, proofs.Boards.{committed, more_cuts, pooled_told}, proofs.Sides.IsAtDemands, proofs.Told.known_told}
 use Rattle.cut_pool.proofs.board.Board.admit.Goals as goal
 
 pub returns-in-Some-clause-answer : goal.returns-in-Some-clause-answer

@@ -1,12 +1,7 @@
 use Rattle.std.proofs.Common.{◌≡◌, ◌∙◌, All, ap, length, map, sym}
 use Rattle.net_core.proofs.Library.{length-map, IfOk-weaker}
 use Rattle.plan_terms.specs.Terms.{case}
-use Rattle.cut_pool.specs.declared.pooled_cut.PooledCut.{PooledCut}
-use Rattle.cut_pool.specs.Boards.{IsAudit, opening_case}
-use Rattle.cut_pool.specs.inner.Pooling.{StandsAmong}
-use Rattle.cut_pool.proofs.Boards.{standing}
-use Rattle.cut_pool.proofs.Following.{stands_among}
-use Rattle.cut_pool.proofs.Told.{count_told, rights_told}
+use Rattle.cut_pool.{specs.declared.pooled_cut.PooledCut.PooledCut, specs.Boards.{IsAudit, opening_case}, specs.inner.Pooling.StandsAmong, proofs.Boards.standing, proofs.Following.stands_among, proofs.Told.{count_told, rights_told}}
 use Rattle.cut_pool.proofs.board.Board.audit.Goals as goal
 
 pub rights_of-requires : goal.rights_of-requires

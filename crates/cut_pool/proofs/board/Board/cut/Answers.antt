@@ -2,11 +2,7 @@ use Rattle.std.proofs.Common.{◌≡◌, ◌<◌, List, Some, get_or, length, sl
 use Rattle.net_core.proofs.Library.{∥∥₁_elim, props}
 use Rattle.plan_terms.specs.Terms.{graph_in}
 use Rattle.metric_cut.specs.Cuts.{IsCutOf}
-use Rattle.cut_pool.specs.declared.pooled_cut.PooledCut.{PooledCut}
-use Rattle.cut_pool.specs.Boards.{opening_case}
-use Rattle.cut_pool.specs.Histories.{cuts_of}
-use Rattle.cut_pool.proofs.Places.{with_state}
-use Rattle.cut_pool.proofs.Told.{count_told, cut_at}
+use Rattle.cut_pool.{specs.declared.pooled_cut.PooledCut.PooledCut, specs.Boards.opening_case, specs.Histories.cuts_of, proofs.Places.with_state, proofs.Told.{count_told, cut_at}}
 use Rattle.cut_pool.proofs.board.Board.cut.Goals as goal
 
 pub returns-clause-at : goal.returns-clause-at

@@ -1,6 +1,5 @@
 use Rattle.std.proofs.Common.{◌∙◌}
-use Rattle.cut_pool.specs.Boards.{opening_case}
-use Rattle.cut_pool.proofs.Told.{demands_told}
+use Rattle.cut_pool.{specs.Boards.opening_case, proofs.Told.demands_told}
 use Rattle.cut_pool.proofs.board.Board.demands.Goals as goal
 
 pub returns-clause-left : goal.returns-clause-left

@@ -1,13 +1,7 @@
 use Rattle.std.proofs.Common.{◌≡◌, ◌∙◌, All, List, length, sym, subst, refl, ap, true, arith, IfOk}
 use Rattle.net_core.proofs.Library.{length-map}
 use Rattle.plan_terms.specs.Terms.{Demand, case, edit_reply}
-use Rattle.cut_pool.specs.declared.pooled_cut.PooledCut.{PooledCut}
-use Rattle.cut_pool.specs.Boards.{opening_case}
-use Rattle.cut_pool.specs.Rooms.{left_spare, sets_known}
-use Rattle.cut_pool.proofs.Boards.{edit_committed, one_more, reply_told, standing, still_told}
-use Rattle.cut_pool.proofs.Following.{at_demands}
-use Rattle.cut_pool.proofs.Sides.{IsAtDemands}
-use Rattle.cut_pool.proofs.Told.{demands_told}
+use Rattle.cut_pool.{specs.declared.pooled_cut.PooledCut.PooledCut, specs.Boards.opening_case, specs.Rooms.{left_spare, sets_known}, proofs.Boards.{edit_committed, one_more, reply_told, standing, still_told}, proofs.Following.at_demands, proofs.Sides.IsAtDemands, proofs.Told.demands_told}
 use Rattle.cut_pool.proofs.board.Board.edit.Goals as goal
 
 pub returns-then-len-ge-MOST_ENTRIES-clause-answer : goal.returns-then-len-ge-MOST_ENTRIES-clause-answer

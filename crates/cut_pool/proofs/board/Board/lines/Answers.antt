@@ -1,8 +1,6 @@
 use Rattle.std.proofs.Common.{◌∙◌, ap, map}
 use Rattle.net_core.proofs.Library.{IfOk-weaker}
-use Rattle.cut_pool.specs.Boards.{AreLinesNow}
-use Rattle.cut_pool.specs.Pools.{line_of_pooled}
-use Rattle.cut_pool.proofs.Told.{lines_now}
+use Rattle.cut_pool.{specs.Boards.AreLinesNow, specs.Pools.line_of_pooled, proofs.Told.lines_now}
 use Rattle.cut_pool.proofs.board.Board.lines.Goals as goal
 
 pub returns : goal.returns

@@ -1,9 +1,6 @@
 use Rattle.std.proofs.Common.{◌<◌, ◌^◌, List, get_or, length, subst, sym, arith}
 use Rattle.plan_terms.specs.Terms.{graph_in, Joins, IsRight}
-use Rattle.cut_pool.specs.declared.pooled_cut.PooledCut.{PooledCut}
-use Rattle.cut_pool.specs.Boards.{opening_case}
-use Rattle.cut_pool.specs.Histories.{demands_left}
-use Rattle.cut_pool.proofs.Told.{count_told, right_told}
+use Rattle.cut_pool.{specs.declared.pooled_cut.PooledCut.PooledCut, specs.Boards.opening_case, specs.Histories.demands_left, proofs.Told.{count_told, right_told}}
 use Rattle.cut_pool.proofs.board.Board.right.Goals as goal
 
 pub returns-clause-right : goal.returns-clause-right

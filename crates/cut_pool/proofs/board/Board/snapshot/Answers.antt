@@ -1,7 +1,6 @@
 use Rattle.std.proofs.Common.{◌≡◌, ◌∙◌, All, List, length, subst, sym}
 use Rattle.plan_terms.specs.Terms.{Demand, AreDemands, case, IsCut}
-use Rattle.cut_pool.specs.Boards.{opening_case}
-use Rattle.cut_pool.specs.Histories.{demands_left}
+use Rattle.cut_pool.{specs.Boards.opening_case, specs.Histories.demands_left}
 use Rattle.cut_pool.proofs.board.Board.snapshot.Goals as goal
 
 pub returns : goal.returns

@@ -1,6 +1,5 @@
 use Rattle.std.proofs.Common.{◌∙◌, ◌*◌, ap, sym, subst}
-use Rattle.cut_pool.specs.inner.Shares.{IsShareOfDemand, asked_by}
-use Rattle.cut_pool.proofs.Following.{kept_distance}
+use Rattle.cut_pool.{specs.inner.Shares.{IsShareOfDemand, asked_by}, proofs.Following.kept_distance}
 use Rattle.cut_pool.proofs.pooled_cut.PooledCut.asked.Goals as goal
 
 pub returns-clause-value : goal.returns-clause-value

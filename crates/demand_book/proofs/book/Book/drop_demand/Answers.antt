@@ -1,7 +1,6 @@
 use Rattle.std.proofs.Common.{◌≡◌, true, sym, subst, ◌∙◌, arith}
 use Rattle.plan_terms.specs.Terms.{is_demand, AreDemands}
-use Rattle.demand_book.proofs.Changed.{IsAlone, alone, remove_demands, remove_is, remove_total}
-use Rattle.demand_book.proofs.Replies.{drop_accepted}
+use Rattle.demand_book.{proofs.Changed.{IsAlone, alone, remove_demands, remove_is, remove_total}, proofs.Replies.drop_accepted}
 use Rattle.demand_book.proofs.book.Book.drop_demand.Goals as goal
 
 pub overflow_sub-self : goal.overflow_sub-self

@@ -1,7 +1,6 @@
 use Rattle.std.proofs.Common.{◌≡◌, ◌+◌, ◌-◌, ◌^◌, ◌<◌, true, sym, subst, ◌∙◌, ap, arith, slice_index_or}
 use Rattle.plan_terms.specs.Terms.{is_demand, set_need, total_need, AreDemands}
-use Rattle.demand_book.proofs.Changed.{IsAlone, alone, set_demands, set_is, set_sum}
-use Rattle.demand_book.proofs.Replies.{set_accepted, set_too_much}
+use Rattle.demand_book.{proofs.Changed.{IsAlone, alone, set_demands, set_is, set_sum}, proofs.Replies.{set_accepted, set_too_much}}
 use Rattle.demand_book.proofs.book.Book.set.Goals as goal
 
 pub returns-then-total-ge-TOO_MUCH-clause-answer : goal.returns-then-total-ge-TOO_MUCH-clause-answer

@@ -2,12 +2,8 @@ use Rattle.std.proofs.Common.{◌≡◌, Some, List, slice_get, ap, subst, sym, 
 use Rattle.net_core.proofs.Library.{slice_get-get_or}
 use Rattle.checked_fraction.specs.Terms.{num}
 use Rattle.simplex_law.specs.Terms.{dot}
-use Rattle.simplex_core.specs.Terms.{entry_of, Finds}
-use Rattle.exact_tests.specs.Listed.{IsListedColumn, entries_of}
-use Rattle.exact_tests.specs.declared.packing.Shape.{Shape}
-use Rattle.simplex_core.specs.declared.columns.Price.TheVariants.{Optimal}
-use Rattle.exact_tests.specs.declared.packing.Label.TheVariants.{Listed}
-use Rattle.exact_tests.proofs.Listed.{found_copy, none_next, none_listed}
+use Rattle.simplex_core.{specs.Terms.{entry_of, Finds}, specs.declared.columns.Price.TheVariants.Optimal}
+use Rattle.exact_tests.{specs.Listed.{IsListedColumn, entries_of}, specs.declared.packing.Shape.Shape, specs.declared.packing.Label.TheVariants.Listed, proofs.Listed.{found_copy, none_next, none_listed}}
 use Rattle.exact_tests.proofs.packing.ProgramColumns.price.Goals as goal
 
 pub loop-i-preserved : goal.loop-i-preserved

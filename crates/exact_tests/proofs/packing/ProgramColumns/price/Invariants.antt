@@ -2,8 +2,7 @@ use Rattle.std.proofs.Common.{◌≡◌, ◌<◌, ℕ, Some, slice_get, ◌*ℤ�
 use Rattle.checked_fraction.specs.Terms.{num}
 use Rattle.simplex_law.specs.Terms.{dot}
 use Rattle.simplex_core.specs.Terms.{entry_of}
-use Rattle.exact_tests.specs.Listed.{entries_of}
-use Rattle.exact_tests.specs.declared.packing.Shape.{Shape}
+use Rattle.exact_tests.{specs.Listed.entries_of, specs.declared.packing.Shape.Shape}
 use Rattle.exact_tests.proofs.packing.ProgramColumns.price.Given as goal
 
 -- none so far gains

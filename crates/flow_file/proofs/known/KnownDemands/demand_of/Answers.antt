@@ -1,7 +1,6 @@
 use Rattle.std.proofs.Common.{ℕ, Option, Some, None, sym, ap}
 use Rattle.text_kit.specs.Terms.{found_or}
-use Rattle.report_words.specs.Terms.{unknown_name}
-use Rattle.report_words.proofs.Lemmas.{named_in}
+use Rattle.report_words.{specs.Terms.unknown_name, proofs.Lemmas.named_in}
 use Rattle.flow_file.proofs.known.KnownDemands.demand_of.Goals as goal
 
 pub returns-in-Some : goal.returns-in-Some

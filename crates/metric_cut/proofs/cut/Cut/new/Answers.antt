@@ -1,7 +1,6 @@
 use Rattle.std.proofs.Common.{subst}
 use Rattle.plan_terms.specs.Terms.{graph}
-use Rattle.metric_cut.specs.Cuts.{IsCutOf, MayKeepCut}
-use Rattle.metric_cut.proofs.Keepings.{kept_have_bound}
+use Rattle.metric_cut.{specs.Cuts.{IsCutOf, MayKeepCut}, proofs.Keepings.kept_have_bound}
 use Rattle.metric_cut.proofs.cut.Cut.new.Goals as goal
 
 -- what the surviving graph gives is a cut of it

@@ -1,6 +1,5 @@
 use Rattle.std.proofs.Common.{◌∙◌, ap, sum_by}
-use Rattle.metric_cut.specs.inner.Rights.{part_of}
-use Rattle.metric_cut.proofs.Sides.{sum_is_right}
+use Rattle.metric_cut.{specs.inner.Rights.part_of, proofs.Sides.sum_is_right}
 use Rattle.metric_cut.proofs.cut.Cut.right.Goals as goal
 
 pub returns-clause-right : goal.returns-clause-right

@@ -1,7 +1,5 @@
 use Rattle.std.proofs.Common.{◌≡◌, None, Some, subst, sym, ◌∙◌}
-use Rattle.net_core.specs.Network.{network_fault}
-use Rattle.net_core.proofs.NetworkChecks.{sound_network}
-use Rattle.net_core.proofs.Accepted.{network_accepted}
+use Rattle.net_core.{specs.Network.network_fault, proofs.NetworkChecks.sound_network, proofs.Accepted.network_accepted}
 use Rattle.net_core.proofs.network.Network.check.Goals as goal
 
 pub invariant_of-result : goal.invariant_of-result

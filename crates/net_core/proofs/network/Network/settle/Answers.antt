@@ -1,7 +1,5 @@
 use Rattle.std.proofs.Common.{List, subst, sym}
-use Rattle.net_core.specs.declared.network.Link.{Link}
-use Rattle.net_core.specs.Network.{IsNetwork}
-use Rattle.net_core.proofs.Networks.{settled_network}
+use Rattle.net_core.{specs.declared.network.Link.Link, specs.Network.IsNetwork, proofs.Networks.settled_network}
 use Rattle.net_core.proofs.network.Network.settle.Goals as goal
 
 pub invariant_of-result : goal.invariant_of-result

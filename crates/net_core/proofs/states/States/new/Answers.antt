@@ -1,7 +1,5 @@
 use Rattle.std.proofs.Common.{◌≡◌, None, Some, length, ap, refl, subst, sym, ◌∙◌}
-use Rattle.net_core.specs.States.{states_fault, AreStates}
-use Rattle.net_core.proofs.StatesChecks.{sound_states}
-use Rattle.net_core.proofs.Accepted.{states_accepted}
+use Rattle.net_core.{specs.States.{states_fault, AreStates}, proofs.StatesChecks.sound_states, proofs.Accepted.states_accepted}
 use Rattle.net_core.proofs.states.States.new.Goals as goal
 
 pub invariant_of-result : goal.invariant_of-result

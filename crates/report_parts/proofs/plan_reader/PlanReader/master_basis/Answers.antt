@@ -1,6 +1,5 @@
 use Rattle.report_words.specs.Terms.{has_room}
-use Rattle.report_parts.proofs.PartsOnline.{master_column_some}
-use Rattle.report_parts.specs.Readers.{reader_names}
+use Rattle.report_parts.{proofs.PartsOnline.master_column_some, specs.Readers.reader_names}
 use Rattle.report_parts.proofs.plan_reader.PlanReader.master_basis.Goals as goal
 
 pub list-requires : goal.list-requires

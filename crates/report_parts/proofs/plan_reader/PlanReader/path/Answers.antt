@@ -1,5 +1,4 @@
-use Rattle.report_parts.proofs.PartsOnline.{link_some}
-use Rattle.report_parts.specs.Readers.{reader_links}
+use Rattle.report_parts.{proofs.PartsOnline.link_some, specs.Readers.reader_links}
 use Rattle.report_parts.proofs.plan_reader.PlanReader.path.Goals as goal
 
 pub list-requires : goal.list-requires

@@ -1,6 +1,5 @@
 use Rattle.report_words.specs.Terms.{has_room}
-use Rattle.report_parts.proofs.PartsOnline.{route_column_some}
-use Rattle.report_parts.specs.Readers.{reader_demands, reader_links}
+use Rattle.report_parts.{proofs.PartsOnline.route_column_some, specs.Readers.{reader_demands, reader_links}}
 use Rattle.report_parts.proofs.plan_reader.PlanReader.route_basis.Goals as goal
 
 pub list-requires : goal.list-requires

@@ -1,5 +1,4 @@
-use Rattle.report_parts.proofs.PartsOnline.{routing_some}
-use Rattle.report_parts.specs.Readers.{reader_demands, reader_names}
+use Rattle.report_parts.{proofs.PartsOnline.routing_some, specs.Readers.{reader_demands, reader_names}}
 use Rattle.report_parts.proofs.plan_reader.PlanReader.routings.Goals as goal
 
 pub list-requires : goal.list-requires

@@ -1,5 +1,4 @@
-use Rattle.report_parts.proofs.PartsOnline.{flow_some}
-use Rattle.report_parts.specs.Readers.{reader_demands, reader_links}
+use Rattle.report_parts.{proofs.PartsOnline.flow_some, specs.Readers.{reader_demands, reader_links}}
 use Rattle.report_parts.proofs.routing.RoutingListElement.take.Goals as goal
 
 pub list-requires : goal.list-requires

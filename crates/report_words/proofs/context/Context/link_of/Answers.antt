@@ -1,7 +1,6 @@
 use Rattle.std.proofs.Common.{ℕ, Option, Some, None, sym, ap}
 use Rattle.text_kit.specs.Terms.{found_or}
-use Rattle.report_words.specs.ReportWords.{as_link, unknown_name}
-use Rattle.report_words.proofs.Lookups.{named_in}
+use Rattle.report_words.{specs.ReportWords.{as_link, unknown_name}, proofs.Lookups.named_in}
 use Rattle.report_words.proofs.context.Context.link_of.Goals as goal
 
 pub returns-in-Some : goal.returns-in-Some

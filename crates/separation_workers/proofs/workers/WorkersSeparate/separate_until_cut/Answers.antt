@@ -2,8 +2,7 @@ use Rattle.std.proofs.Common.{sym}
 use Rattle.plan_terms.specs.Terms.{case_of}
 use Rattle.board_desk.specs.Turns.{caller_seen}
 use Rattle.separator.proofs.Seeing.{sees_none}
-use Rattle.separation_workers.proofs.Desks.{at_desk, same_frame}
-use Rattle.separation_workers.proofs.Working.{none_below}
+use Rattle.separation_workers.{proofs.Desks.{at_desk, same_frame}, proofs.Working.none_below}
 use Rattle.separation_workers.proofs.workers.WorkersSeparate.separate_until_cut.Goals as goal
 
 pub returns-in_err-reach-clause-more : goal.returns-in_err-reach-clause-more

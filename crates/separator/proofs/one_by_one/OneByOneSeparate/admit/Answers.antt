@@ -1,7 +1,6 @@
 use Rattle.std.proofs.Common.{◌≡◌, ℕ, List, [], ◌∷◌, All, ⊎_elim, refl, subst, sym}
 use Rattle.net_core.proofs.Library.{All-nil, All-push}
-use Rattle.separator.specs.inner.Working.{PoolsMore, state_and_lengths}
-use Rattle.separator.proofs.Answering.{own_cuts, same_frame, sees_more}
+use Rattle.separator.{specs.inner.Working.{PoolsMore, state_and_lengths}, proofs.Answering.{own_cuts, same_frame, sees_more}}
 use Rattle.separator.proofs.one_by_one.OneByOneSeparate.admit.Goals as goal
 
 pub returns-clause-frame : goal.returns-clause-frame

@@ -1,8 +1,7 @@
 use Rattle.std.proofs.Common.{◌≢◌, All, AllPairs, Contains, subst, sym}
 use Rattle.net_core.proofs.Library.{IfOk-weaker}
 use Rattle.plan_terms.specs.Terms.{case_of}
-use Rattle.separator.specs.Separators.{SeparatesAt, cuts_answered, cuts_after}
-use Rattle.separator.proofs.Answering.{own_cuts, same_frame, sees_more}
+use Rattle.separator.{specs.Separators.{SeparatesAt, cuts_answered, cuts_after}, proofs.Answering.{own_cuts, same_frame, sees_more}}
 use Rattle.separator.proofs.one_by_one.OneByOneSeparate.separate_until_cut.Goals as goal
 
 pub returns-clause-frame : goal.returns-clause-frame

@@ -1,9 +1,8 @@
 use Rattle.std.proofs.Common.{Err, ap, arith, length, ◌∙◌}
-use Rattle.plan_terms.specs.Terms.{Joins, graph_of}
-use Rattle.plan_terms.proofs.Lemmas.{path_links_known, path_few, joins_below, joins_inside}
+use Rattle.plan_terms.{specs.Terms.{Joins, graph_of}, proofs.Lemmas.{path_links_known, path_few, joins_below, joins_inside}}
+use Rattle.net_core.proofs.Networks.{few_nodes}
 use Rattle.short_paths.proofs.Pricing.{least_priced}
 use Rattle.short_paths.proofs.cheapest_paths.CheapestPaths.path.Goals as goal
-use Rattle.net_core.proofs.Networks.{few_nodes}
 
 pub total_of-total-requires-clause-known : goal.total_of-total-requires-clause-known
 total_of-total-requires-clause-known c =

@@ -1,7 +1,6 @@
 use Rattle.std.proofs.Common.{Err, ap, arith, length}
 use Rattle.net_core.proofs.Library.{slice_get_within, few_nodes}
-use Rattle.plan_terms.specs.Terms.{Joins, graph_of}
-use Rattle.plan_terms.proofs.Lemmas.{path_links_known, path_few, joins_below, joins_inside}
+use Rattle.plan_terms.{specs.Terms.{Joins, graph_of}, proofs.Lemmas.{path_links_known, path_few, joins_below, joins_inside}}
 use Rattle.short_paths.proofs.Pricing.{least_priced, scaled_long, scaled_short}
 use Rattle.short_paths.proofs.path_finder.PathFinder.cheapest_path.Goals as goal
 

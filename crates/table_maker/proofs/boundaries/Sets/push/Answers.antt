@@ -1,7 +1,6 @@
 use Rattle.std.proofs.Common.{List, arith, subst}
 use Rattle.plan_terms.specs.Terms.{CutLine, case_of}
-use Rattle.table_maker.specs.SetCuts.{IsNewTo}
-use Rattle.table_maker.proofs.Parting.{cuts_more, different_more, few_more, new_more}
+use Rattle.table_maker.{specs.SetCuts.IsNewTo, proofs.Parting.{cuts_more, different_more, few_more, new_more}}
 use Rattle.table_maker.proofs.boundaries.Sets.push.Goals as goal
 
 pub returns-clause-cuts : goal.returns-clause-cuts

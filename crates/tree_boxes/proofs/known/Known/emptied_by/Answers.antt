@@ -1,8 +1,7 @@
 use Rattle.std.proofs.Common.{◌≡◌, ℕ, ◌≤◌, ◌<◌, ⊎_elim, arith, subst}
 use Rattle.net_core.proofs.Library.{cases_lt, both_ways}
 use Rattle.tree_check.specs.Terms.{EmptiesBox, names_in}
-use Rattle.tree_boxes.specs.Searches.{aimed}
-use Rattle.tree_boxes.proofs.Knowing.{empties_told, none_empties, tests_length}
+use Rattle.tree_boxes.{specs.Searches.aimed, proofs.Knowing.{empties_told, none_empties, tests_length}}
 use Rattle.tree_boxes.proofs.known.Known.emptied_by.Goals as goal
 
 pub loop-i-preserved : goal.loop-i-preserved

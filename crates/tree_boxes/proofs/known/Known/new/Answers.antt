@@ -1,7 +1,6 @@
 use Rattle.std.proofs.Common.{◌∙◌, List, subst}
 use Rattle.plan_terms.specs.Terms.{CutLine, case_of}
-use Rattle.line_check.specs.Terms.{sources_of, AreTested}
-use Rattle.line_check.specs.declared.line.Line.{Line}
+use Rattle.line_check.{specs.Terms.{sources_of, AreTested}, specs.declared.line.Line.Line}
 use Rattle.tree_boxes.proofs.Knowing.{known_cuts}
 use Rattle.tree_boxes.proofs.known.Known.new.Goals as goal
 

@@ -1,7 +1,7 @@
 use Rattle.std.proofs.Common.{◌∙◌, sym}
+use Rattle.net_core.proofs.Lists.{some_same}
 use Rattle.turn_lock.proofs.Passing.{closed_slot, closed_as}
 use Rattle.turn_lock.proofs.desk.Desk.close.Goals as goal
-use Rattle.net_core.proofs.Lists.{some_same}
 
 pub unreachable-requires : goal.unreachable-requires
 unreachable-requires g c =

@@ -1,14 +1,9 @@
 -- commands for people, and the words that give them
-use Rattle.std.specs.Prelude.{◌≡◌, ◌≢◌, ◌≤◌, ℕ, ◌⊎◌, Bool, true, false, List, [], ◌∷◌, Option, None, Some, String, codes, is_some, length, map, string_bytes}
-use Rattle.std.specs.Global.{Global}
-use Rattle.std.specs.Str.Parse.{IsNumeral, digits_value}
-use Rattle.people_files.specs.Terms.{default}
-use Rattle.people_files.specs.FrontInputs.{CaseWords}
-use Rattle.view_csv.specs.declared.sheet.Sheet.{Sheet}
-use Rattle.view_csv.specs.declared.sheet.Sheet.TheVariants.{Links, States, Flows}
-use Rattle.people_words.specs.declared.words.HelpTopic.{HelpTopic}
+use Rattle.std.{specs.Prelude.{◌≡◌, ◌≢◌, ◌≤◌, ℕ, ◌⊎◌, Bool, true, false, List, [], ◌∷◌, Option, None, Some, String, codes, is_some, length, map, string_bytes}, specs.Global.Global, specs.Str.Parse.{IsNumeral, digits_value}}
+use Rattle.people_files.{specs.Terms.default, specs.CaseInputs.CaseWords}
+use Rattle.view_csv.{specs.declared.sheet.Sheet.Sheet, specs.declared.sheet.Sheet.TheVariants.{Links, States, Flows}}
+use Rattle.people_words.{specs.declared.words.HelpTopic.HelpTopic, specs.GivenWords.{AreRead, GivenOption, TakesOptions, value_given}}
 use Rattle.people_words.specs.declared.words.HelpTopic.TheVariants as topics
-use Rattle.people_words.specs.GivenWords.{AreRead, GivenOption, TakesOptions, value_given}
 
 -- what a plan is asked for: the case of these files, how many splits its branch tree has at most where somebody says, whether the report is to be
 -- printed and not its view, and whether nothing is to be told on the way
@@ -27,13 +22,13 @@ pub data AskedForm : Type 0 where
 
 -- how the program is used, how one of its commands is, which version it is, the failure list of a network's file, the view of the report
 -- in a file, of plans for the case of other files, in a form, or a plan
-pub data FrontCommand : Type 0 where
-  Help : FrontCommand
-  HelpOn : HelpTopic → FrontCommand
-  Version : FrontCommand
-  Failures : List ℕ → FrontCommand
-  View : CaseWords → List ℕ → AskedForm → FrontCommand
-  Plan : AskedPlan → FrontCommand
+pub data PeopleCommand : Type 0 where
+  Help : PeopleCommand
+  HelpOn : HelpTopic → PeopleCommand
+  Version : PeopleCommand
+  Failures : List ℕ → PeopleCommand
+  View : CaseWords → List ℕ → AskedForm → PeopleCommand
+  Plan : AskedPlan → PeopleCommand
 
 -- ---- what words name
 
@@ -115,7 +110,7 @@ NamesTopic word topics.Failures = word ≡ codes "failures"
 NamesTopic word topics.Help = word ≡ codes "help"
 
 -- one word is this command
-abbrev pub IsLoneWord : List ℕ → FrontCommand → Type 0
+abbrev pub IsLoneWord : List ℕ → PeopleCommand → Type 0
 IsLoneWord word Help = (word ≡ codes "help") ⊎ (word ≡ codes "--help")
 IsLoneWord word (HelpOn topic) = ⊥
 IsLoneWord word Version = word ≡ codes "--version"
@@ -132,7 +127,7 @@ AsksPlan network options asked =
     × (asked.quiet ≡ is_some (value_given options (codes "--quiet")))
 
 -- a command's name, a word after it and options are this command
-abbrev pub IsOfWord : List ℕ → List ℕ → List GivenOption → FrontCommand → Type 0
+abbrev pub IsOfWord : List ℕ → List ℕ → List GivenOption → PeopleCommand → Type 0
 IsOfWord name word options Help = ⊥
 IsOfWord name word options (HelpOn topic) = (name ≡ codes "help") × TakesOptions [] options × NamesTopic word topic
 IsOfWord name word options Version = ⊥
@@ -141,7 +136,7 @@ IsOfWord name word options (View w report form) = ⊥
 IsOfWord name word options (Plan asked) = (name ≡ codes "plan") × TakesOptions plan_options options × AsksPlan word options asked
 
 -- a network, a report and options are this view
-abbrev pub IsViewOf : List ℕ → List ℕ → List GivenOption → FrontCommand → Type 0
+abbrev pub IsViewOf : List ℕ → List ℕ → List GivenOption → PeopleCommand → Type 0
 IsViewOf network word options Help = ⊥
 IsViewOf network word options (HelpOn topic) = ⊥
 IsViewOf network word options Version = ⊥
@@ -150,26 +145,26 @@ IsViewOf network word options (View w report form) = NamesCase network options w
 IsViewOf network word options (Plan asked) = ⊥
 
 -- a command's name, a network and a report, which aren't both standard input, and options are this command
-abbrev pub IsOfReport : List ℕ → List ℕ → List ℕ → List GivenOption → FrontCommand → Type 0
+abbrev pub IsOfReport : List ℕ → List ℕ → List ℕ → List GivenOption → PeopleCommand → Type 0
 IsOfReport name network word options c =
     (name ≡ codes "view") × TakesOptions view_options options × ((network ≡ codes "-") × (word ≡ codes "-") → ⊥)
     × IsViewOf network word options c
 
 -- names and options are this command
-abbrev pub IsOfParts : List (List ℕ) → List GivenOption → FrontCommand → Type 0
+abbrev pub IsOfParts : List (List ℕ) → List GivenOption → PeopleCommand → Type 0
 IsOfParts (name ∷ word ∷ []) options c = IsOfWord name word options c
 IsOfParts (name ∷ network ∷ report ∷ []) options c = IsOfReport name network report options c
 IsOfParts _ options c = ⊥
 
 -- the words are read as names and options that are this command
-abbrev pub IsGiven : List (List ℕ) → FrontCommand → Type 0
+abbrev pub IsGiven : List (List ℕ) → PeopleCommand → Type 0
 IsGiven words c = (names : List (List ℕ)) × (options : List GivenOption) × AreRead None words names options × IsOfParts names options c
 
 -- the words are this command
-abbrev pub AreFrontWords : List (List ℕ) → FrontCommand → Type 0
-AreFrontWords (word ∷ []) c = IsLoneWord word c
-AreFrontWords words c = IsGiven words c
+abbrev pub ArePeopleWords : List (List ℕ) → PeopleCommand → Type 0
+ArePeopleWords (word ∷ []) c = IsLoneWord word c
+ArePeopleWords words c = IsGiven words c
 
 -- the words are those of the command
-abbrev pub IsFrontCommand : List (String Global) → FrontCommand → Type 0
-IsFrontCommand words c = AreFrontWords (map string_bytes words) c
+abbrev pub IsPeopleCommand : List (String Global) → PeopleCommand → Type 0
+IsPeopleCommand words c = ArePeopleWords (map string_bytes words) c

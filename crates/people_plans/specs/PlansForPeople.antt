@@ -2,20 +2,13 @@
 use Rattle.std.specs.Prelude.{◌≡◌, ℕ, ◌≤◌, ◌<◌, ◌⊎◌, Bool, true, false, Option, None, Some, List, [], ◌++◌, All, codes, length, slice_get, take}
 use Rattle.plan_terms.specs.Terms.{Case, Link, Notes}
 use Rattle.plan_report.specs.Terms.{SpellsReport, known_to, report_text, Outcome}
-use Rattle.proof_report.specs.Terms.{whole_report, AreCharged}
-use Rattle.tree_check.specs.declared.proof.Proof.{Proof}
-use Rattle.tree_check.specs.declared.proof.Verdict.{Verdict}
-use Rattle.tree_check.specs.declared.proof.Verdict.TheVariants as verdict
-use Rattle.proof_report.specs.ProvedReports.{IsLinedReport, proof_text, proved_report}
-use Rattle.proof_report.specs.declared.ending.ProvedReport.{ProvedReport}
-use Rattle.check_answers.specs.Separations.{NamesFirstSeparation}
-use Rattle.check_answers.specs.declared.status.Status.{Status}
-use Rattle.check_answers.specs.declared.status.Status.TheVariants.{BadNetwork, Done, NotSurvivable}
+use Rattle.proof_report.{specs.Terms.{whole_report, AreCharged}, specs.ProvedReports.{IsLinedReport, proof_text, proved_report}, specs.declared.ending.ProvedReport.ProvedReport}
+use Rattle.tree_check.{specs.declared.proof.Proof.Proof, specs.declared.proof.Verdict.Verdict}
+use Rattle.check_answers.{specs.Separations.NamesFirstSeparation, specs.declared.status.Status.Status, specs.declared.status.Status.TheVariants.{BadNetwork, Done, NotSurvivable}}
 use Rattle.failure_states.specs.declared.separations.Separation.{Separation}
 use Rattle.separation_texts.specs.AllSeparations.{AreSeparations, separation_lines}
-use Rattle.view_text.specs.Terms.{IsFirstBlock, IsReportView}
-use Rattle.view_text.specs.declared.proof.CostProof.{CostProof}
-use Rattle.view_text.specs.declared.proof.CostProof.TheVariants.{Cheapest, Above}
+use Rattle.view_text.{specs.Terms.{IsFirstBlock, IsReportView}, specs.declared.proof.CostProof.CostProof, specs.declared.proof.CostProof.TheVariants.{Cheapest, Above}}
+use Rattle.tree_check.specs.declared.proof.Verdict.TheVariants as verdict
 
 -- ---- splits
 
