@@ -1,6 +1,7 @@
 pub mod Cases
 pub mod Demands
 pub mod Graphs
+pub mod Limits
 pub mod Lists
 pub mod Names
 pub mod Network

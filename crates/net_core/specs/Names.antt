@@ -1,5 +1,6 @@
 -- the bytes that a word of a file, and so a name, may have
 use Rattle.std.{specs.Prelude.{ℕ, ◌≤◌, List, [], ◌∷◌, length, IsTrue, Bool, false, ◌||◌, ◌&&◌, not, ◌==◌}, specs.List.list_all}
+use Rattle.net_core.specs.Limits.{name_bytes}
 
 -- white space is tab, line feed, carriage return and space
 abbrev pub is_space : ℕ → Bool
@@ -21,5 +22,5 @@ is_plain bytes = not (begins_comment bytes) && list_all is_word_byte bytes
 -- a name is a word of 1 to 255 bytes
 pub record IsName (bytes : List ℕ) : Type 0 where
   pub some : 1 ≤ length bytes
-  pub short : length bytes ≤ 255
+  pub short : length bytes ≤ name_bytes
   pub plain : IsTrue (is_plain bytes)

@@ -1,6 +1,6 @@
 -- failure states: state 0 fails nothing, and state i + 1 fails the links of the listed state i
 use Rattle.std.{specs.Prelude.{◌≢◌, ℕ, zero, suc, ◌≤◌, ◌<◌, ◌==◌, ◌++◌, List, [], ◌∷◌, Bool, false, not, nat_lt, length, All, AllPairs, Option, slice_get}, specs.List.list_any, specs.Option.option_map_or}
-use Rattle.net_core.{specs.declared.ids.LinkId.LinkId, specs.declared.states.Listed.Listed, specs.declared.states.StatesFault.StatesFault, specs.declared.states.StatesFault.TheVariants.{TooMany, Empty, UnknownLink, DoubleState}, specs.Tests.{first_fault, is_named}}
+use Rattle.net_core.{specs.declared.ids.LinkId.LinkId, specs.declared.states.Listed.Listed, specs.declared.states.StatesFault.StatesFault, specs.declared.states.StatesFault.TheVariants.{TooMany, Empty, UnknownLink, DoubleState}, specs.Tests.{first_fault, is_named}, specs.Limits.most_failures}
 
 -- the link is in the list
 abbrev pub names_link : ℕ → List LinkId → Bool
@@ -17,7 +17,7 @@ fails listed (suc i) e = option_map_or (λ l. names_link e l.links) (slice_get l
 
 -- at most 256 listed states, none without links, no name twice
 pub record IsStateList (listed : List Listed) : Type 0 where
-  pub few : length listed ≤ 256
+  pub few : length listed ≤ most_failures
   pub some : All (λ l. 1 ≤ length l.links) listed
   pub different : AllPairs (λ x y. x.name ≢ y.name) listed
 
@@ -41,4 +41,4 @@ all_listed_tests n earlier (l ∷ ls) = listed_tests n earlier l ++ all_listed_t
 
 -- the first fault: of the count, then state by state
 abbrev pub states_fault : ℕ → List Listed → Option StatesFault
-states_fault n listed = first_fault ((nat_lt 256 (length listed), TooMany) ∷ all_listed_tests n [] listed)
+states_fault n listed = first_fault ((nat_lt most_failures (length listed), TooMany) ∷ all_listed_tests n [] listed)

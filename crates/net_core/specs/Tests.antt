@@ -1,5 +1,6 @@
 -- tests that are made in order, each with the fault that it finds
 use Rattle.std.{specs.Prelude.{ℕ, List, [], ◌∷◌, Bool, Option, None, Some, cond, ◌==◌, nat_le, ◌^◌}, specs.List.list_any, specs.Cmp.Lexicographic.pointwise}
+use Rattle.net_core.specs.Limits.{need_power}
 
 -- the fault of the first test that finds one
 abbrev pub first_fault : {F : Type 0} → List (Bool × F) → Option F
@@ -16,4 +17,4 @@ is_named name_of name xs = list_any (λ x. are_same (name_of x) name) xs
 
 -- an amount or a cost of 2^40 units or more
 abbrev pub is_large : ℕ → Bool
-is_large n = nat_le (2 ^ 40) n
+is_large n = nat_le (2 ^ need_power) n

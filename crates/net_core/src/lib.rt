@@ -7,6 +7,7 @@ pub mod graph;
 pub mod ids;
 pub mod instance;
 pub mod journal;
+pub mod limits;
 pub mod list;
 pub mod name;
 pub mod network;

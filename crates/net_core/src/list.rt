@@ -3,6 +3,8 @@ ghost use Rattle.std.{specs.Prelude.{◌≡◌, ◌+◌, ◌<◌, ◌++◌, [], 
 use std::alloc::{AllocError, AllocFailed, Global};
 use std::hash::{Hash, Hasher};
 use std::marker::Model;
+use std::ops::Deref;
+use std::slice;
 use thiserror::Error;
 
 /// The call ran out of memory.
@@ -121,6 +123,31 @@ impl<T> List<T> {
         ensures { result ≡ items.items }
     {
         List { items }
+    }
+}
+
+/// A list reads as a slice, so the calls of slices work on it, and `list[i]`.
+impl<T> Deref for List<T> {
+    type Target = Vec<T>;
+
+    fn deref(&self) -> &Vec<T>
+        ensures { result.now.items ≡ self.now }
+    {
+        &self.items
+    }
+}
+
+impl<'a, T> IntoIterator for &'a List<T> {
+    ghost use Rattle.std.specs.Slice.Iter.{iter_rest};
+
+    type Item = &'a T;
+
+    type IntoIter = slice::Iter<'a, T>;
+
+    ghost into_iter_gives = { λ list it. iter_rest it ≡ list.now };
+
+    fn into_iter(self) -> Self::IntoIter {
+        self.items.iter()
     }
 }
 

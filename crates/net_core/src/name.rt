@@ -1,6 +1,7 @@
 ghost use Rattle.std.{specs.Prelude.{◌≡◌, ◌≤◌, ◌<◌, ◌↔◌, IsTrue, IfOk, IsErrOf, false, length, []}, specs.List.list_all};
-ghost use Rattle.net_core.specs.Names.{IsName, is_word_byte, begins_comment, is_plain};
+ghost use Rattle.net_core.{specs.Names.{IsName, is_word_byte, begins_comment, is_plain}, specs.Limits.name_bytes};
 
+use crate::limits::NAME_BYTES;
 use crate::list::{Copied, List, NoMemory};
 use crate::word_bytes::is_word_byte;
 use std::alloc::Global;
@@ -81,14 +82,14 @@ impl Name {
     pub fn new(alloc: Global, bytes: &[u8]) -> Result<Name, NameFault>
         ensures ok { IfOk result (λ n. n ≡ bytes.now) }
         ensures empty { IsErrOf result NameFault.Empty ↔ (bytes.now ≡ []) }
-        ensures long { IsErrOf result NameFault.Long ↔ (255 < length bytes.now) }
+        ensures long { IsErrOf result NameFault.Long ↔ (name_bytes < length bytes.now) }
         ensures bad { IsErrOf result NameFault.BadByte
-            ↔ ((1 ≤ length bytes.now) × (length bytes.now ≤ 255) × (is_plain bytes.now ≡ false)) }
+            ↔ ((1 ≤ length bytes.now) × (length bytes.now ≤ name_bytes) × (is_plain bytes.now ≡ false)) }
     {
         if bytes.is_empty() {
             return Err(NameFault::Empty);
         }
-        if bytes.len() > 255 {
+        if bytes.len() > NAME_BYTES {
             return Err(NameFault::Long);
         }
         if !is_plain(bytes) {

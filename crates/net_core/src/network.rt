@@ -2,6 +2,7 @@ ghost use Rattle.std.{specs.Prelude.{◌≡◌, ◌≢◌, ℕ, ◌≤◌, ◌<�
 ghost use Rattle.net_core.{specs.Tests.{first_fault, is_named, is_large, are_same}, specs.Network.{IsLink, IsNetwork, has_large_amount, link_tests, links_tests, nodes_tests, network_fault}, specs.Settled.{settled_links, settled_notes, without_setups}};
 
 use crate::ids::NodeId;
+use crate::limits::{MOST_LINKS, MOST_NODES, TOO_LARGE};
 use crate::list::{Copied, List, NoMemory};
 use crate::name::Name;
 use crate::places::Places;
@@ -107,7 +108,7 @@ pub enum NetFault {
 fn is_large(amount: u64) -> bool
     ensures { result ≡ is_large amount }
 {
-    amount >= 1 << 40
+    amount >= TOO_LARGE
 }
 
 fn has_large_amount(l: &Link) -> bool
@@ -204,10 +205,10 @@ fn first_node_fault(nodes: &[Name]) -> Option<NetFault>
 fn network_fault(nodes: &[Name], links: &[Link]) -> Option<NetFault>
     ensures { result ≡ network_fault nodes.now links.now }
 {
-    if nodes.len() > 128 {
+    if nodes.len() > MOST_NODES {
         return Some(NetFault::Nodes);
     }
-    if links.len() > 256 {
+    if links.len() > MOST_LINKS {
         return Some(NetFault::Links);
     }
     let fault = first_node_fault(nodes);

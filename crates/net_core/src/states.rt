@@ -2,6 +2,7 @@ ghost use Rattle.std.{specs.Prelude.{◌≡◌, ◌<◌, ◌^◌, ◌+◌, ◌==
 ghost use Rattle.net_core.{specs.Tests.{first_fault, is_named}, specs.States.{AreStates, IsStateList, all_listed_tests, fails, listed_tests, names_link, states_fault}};
 
 use crate::ids::{LinkId, StateId};
+use crate::limits::MOST_FAILURES;
 use crate::list::{Copied, List, NoMemory};
 use crate::name::Name;
 use crate::network::Network;
@@ -96,7 +97,7 @@ fn listed_fault(links: usize, earlier: &[Listed], l: &Listed) -> Option<StatesFa
 fn states_fault(links: usize, listed: &[Listed]) -> Option<StatesFault>
     ensures { result ≡ states_fault links listed.now }
 {
-    if listed.len() > 256 {
+    if listed.len() > MOST_FAILURES {
         return Some(StatesFault::TooMany);
     }
     for i in 0..listed.len() {
