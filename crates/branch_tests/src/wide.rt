@@ -15,7 +15,7 @@ use std::alloc::Global;
 use std::sync::Wait;
 use std::thread::Threads;
 use trim_plan::{Block, Stop};
-use wide_chain::{CHAIN_DEMANDS, STAGES, chain_links, numbered, numbered_nodes};
+use worked_networks::{CHAIN_DEMANDS, STAGES, chain_links, numbered, numbered_nodes};
 use worked_networks::{DemandRow, LinkRow, TEN, demands, failing};
 
 /// A module of 10.00 for 6.00.

@@ -8,6 +8,7 @@
 #![tactic(auto)]
 
 mod belonging;
+mod chain;
 mod demand_rows;
 mod fault;
 mod link_rows;
@@ -15,6 +16,7 @@ mod names;
 mod shapes;
 mod state_rows;
 
+pub use chain::{CHAIN_DEMANDS, STAGES, chain_links, numbered, numbered_nodes};
 pub use demand_rows::{DemandRow, demands};
 pub use fault::WorkedFault;
 pub use link_rows::{CHAIN, LinkRow, ONE, PARALLEL, RING, TEN, network};
