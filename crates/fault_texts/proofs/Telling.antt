@@ -1,6 +1,6 @@
 -- what is said of a fault, part after part
 use Rattle.std.proofs.Common.{◌≡◌, ℕ, List, ◌++◌, append_assoc, codes, refl}
-use Rattle.text_places.{specs.Places.IsPlace, specs.Windows.IsWindow}
+use Rattle.text_layout.{specs.Places.IsPlace, specs.Windows.IsWindow}
 use Rattle.fault_texts.{specs.FaultTexts.{IsFaultText, excerpt_text, fault_text, place_text}, specs.Quotes.{IsHere, note_text}}
 
 pub told : (text name bytes : List ℕ) (at : ℕ) (wrong help : List ℕ) (line column from to : ℕ) (placed shown stood whole : List ℕ)

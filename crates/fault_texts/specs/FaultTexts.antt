@@ -1,7 +1,6 @@
 -- what is said of a fault, as text
 use Rattle.std.specs.Prelude.{◌≡◌, ℕ, ◌+◌, List, ◌++◌, codes, decimal}
-use Rattle.text_places.{specs.Places.{IsPlace, bytes_between, characters}, specs.Windows.IsWindow}
-use Rattle.text_table.specs.Cells.{spaces}
+use Rattle.text_layout.{specs.Places.{IsPlace, bytes_between, characters}, specs.Windows.IsWindow, specs.Cells.spaces}
 use Rattle.fault_texts.{specs.Controls.shown, specs.Quotes.{IsHere, note_text}, specs.declared.sentence.Sentence.Sentence}
 
 -- a file's name, a line and a column

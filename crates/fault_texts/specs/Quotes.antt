@@ -1,7 +1,7 @@
 -- words in quotes, and what is at a byte of a text
 use Rattle.std.{specs.Prelude.{◌≡◌, ◌⊎◌, ℕ, zero, suc, ◌+◌, ◌/◌, ◌%◌, ◌==◌, ◌≤◌, ◌<◌, Bool, true, not, ◌||◌, ◌&&◌, cond, List, [], ◌∷◌, ◌++◌, codes, length, nat_le, nat_lt, slice_index, take}, specs.Str.is_utf8}
 use Rattle.snd_tokens.{specs.declared.token.Token.Token, specs.Tokens.{token_bytes, tokens_from}}
-use Rattle.text_places.specs.Places.{begins_character, characters}
+use Rattle.text_layout.specs.Places.{begins_character, characters}
 use Rattle.fault_texts.specs.Controls.{is_control}
 
 -- a line that is indented by two spaces

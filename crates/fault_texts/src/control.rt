@@ -1,7 +1,7 @@
 ghost use Rattle.std.specs.Prelude.{◌≡◌, ◌<◌, length};
 ghost use Rattle.fault_texts.specs.Controls.{ends_order, is_control, is_order, shown_byte};
 
-use text_places::byte_at;
+use text_layout::byte_at;
 
 /// Whether a byte is a control character by itself.
 fn is_order(byte: u8) -> bool

@@ -1,11 +1,11 @@
 ghost use Rattle.std.specs.Prelude.{◌≡◌, ◌≤◌, ◌++◌, OnOk, length};
-ghost use Rattle.text_places.specs.Windows.{IsWindow};
+ghost use Rattle.text_layout.specs.Windows.{IsWindow};
 ghost use Rattle.fault_texts.{specs.Controls.shown, specs.FaultTexts.excerpt_text};
 
 use crate::control::shown_byte;
 use net_core::{Bytes, NoMemory};
-use text_places::{Window, characters};
-use text_table::put_spaces;
+use text_layout::{Window, characters};
+use text_layout::put_spaces;
 
 /// Puts the bytes last, as they are shown.
 fn put_shown(text: &mut Bytes, bytes: &[u8]) -> Result<(), NoMemory>

@@ -1,5 +1,5 @@
 ghost use Rattle.std.specs.Prelude.{◌≡◌, ◌≤◌, ◌++◌, List, OnOk, codes, length, ℕ};
-ghost use Rattle.text_places.specs.Windows.{IsWindow};
+ghost use Rattle.text_layout.specs.Windows.{IsWindow};
 ghost use Rattle.fault_texts.{specs.FaultTexts.{IsFaultText, excerpt_text, place_text}, specs.Quotes.note_text};
 
 use crate::excerpt::put_excerpt;
@@ -7,7 +7,7 @@ use crate::here::put_here;
 use crate::sentence::Sentence;
 use net_core::{Bytes, NoMemory};
 use text_kit::write::put_decimal;
-use text_places::{Place, Window, place_of, window_of};
+use text_layout::{Place, Window, place_of, window_of};
 
 /// Puts a file's name last, and a line and a column.
 fn put_place(text: &mut Bytes, name: &[u8], place: Place) -> Result<(), NoMemory>

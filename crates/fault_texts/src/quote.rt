@@ -3,7 +3,7 @@ ghost use Rattle.fault_texts.specs.Quotes.{IsQuoteEnd, IsQuote, escape, hex_digi
 
 use crate::control::is_control;
 use net_core::{Bytes, NoMemory};
-use text_places::begins_character;
+use text_layout::begins_character;
 
 /// How many characters of a word are shown at most.
 const MOST_CHARACTERS: usize = 40;

@@ -1,4 +1,4 @@
-use text_places::{Place, place_of};
+use text_layout::{Place, place_of};
 
 /// A text, the place of a byte or of the end, and the line and the column of that place.
 type PlaceRow = (&'static [u8], usize, u64, u64);

@@ -1,7 +1,7 @@
 use net_core::{Bytes, List, NoMemory};
 use std::alloc::Global;
-use text_places::characters;
-use text_table::{Column, Row, put_row, widened};
+use text_layout::characters;
+use text_layout::{Column, Row, put_row, widened};
 
 /// A left column after a gap of two spaces, and a right one after three.
 const COLUMNS: [Column; 2] = [

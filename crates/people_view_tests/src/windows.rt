@@ -1,7 +1,7 @@
 use crate::quotes::put_many;
 use net_core::{Bytes, List, NoMemory};
 use std::alloc::Global;
-use text_places::window_of;
+use text_layout::window_of;
 
 /// What comes before a byte in its line: how many times which bytes, and then others.
 type Before = (usize, &'static [u8], &'static [u8]);

@@ -1,7 +1,7 @@
 -- columns that were widened are apart as before
 use Rattle.std.proofs.Common.{ℕ, ◌≤◌, ◌<◌, false, List, get_or, length, arith}
 use Rattle.net_core.proofs.Library.{AllByRecursion, All-from_get_or, All-from_recursion, All-get_or, recursion_from_All, slice_get-get_or}
-use Rattle.text_table.{specs.Cells.AreWidened, specs.declared.column.Column.Column}
+use Rattle.text_layout.{specs.Cells.AreWidened, specs.declared.column.Column.Column}
 use Rattle.view_cells.specs.Tables.{IsApart}
 
 no_column : Column

@@ -1,6 +1,6 @@
 -- texts that have the rows of a table
 use Rattle.std.{specs.Prelude.{◌≡◌, ℕ, ◌≤◌, List, ◌++◌, All, length}, specs.List.AllByRecursion}
-use Rattle.text_table.{specs.Cells.table_text, specs.declared.column.Column.Column}
+use Rattle.text_layout.{specs.Cells.table_text, specs.declared.column.Column.Column}
 
 -- a cell of the column is two spaces apart from what is before it
 abbrev pub IsApart : Column → Type 0

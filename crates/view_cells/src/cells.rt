@@ -5,7 +5,7 @@ ghost use Rattle.view_cells.specs.Cells.{counted, joined_words, per_cent, tenths
 use net_core::{Bytes, List, NoMemory, Places};
 use std::alloc::Global;
 use text_kit::write::{put_decimal, put_money_word};
-use text_table::Row;
+use text_layout::Row;
 
 /// Puts a cell last. Each function here takes time in what it puts, and asks for memory only for that; where memory runs out, the row or the text
 /// may end in part of what was to be put.

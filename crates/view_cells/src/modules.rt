@@ -5,7 +5,7 @@ use crate::cells::{push_cell, push_joined};
 use net_core::{List, Module, NoMemory, Places};
 use std::alloc::Global;
 use text_kit::write::{put_decimal, put_money_word};
-use text_table::Row;
+use text_layout::Row;
 
 /// Puts words last on how many modules of a kind there are and what one of them carries, if there are some.
 fn push_kind(

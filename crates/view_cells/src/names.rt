@@ -5,7 +5,7 @@ use crate::cells::push_words;
 use net_core::{Link, LinkId, List, Name, NoMemory, NodeId};
 use part_names::{link_name, node_name};
 use std::alloc::Global;
-use text_table::Row;
+use text_layout::Row;
 
 /// The names of links, as cells; an empty one where there is no such link. It takes time and memory in their lengths.
 pub fn names_of_links(alloc: Global, links: &[Link], ids: &[LinkId]) -> Result<Row, NoMemory>

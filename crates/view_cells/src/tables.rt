@@ -1,10 +1,10 @@
 ghost use Rattle.std.{specs.Prelude.{◌≡◌, ◌≤◌, ◌++◌, All, IfOk, false, length, true}, specs.List.AllByRecursion};
-ghost use Rattle.text_table.specs.Cells.{AreWidened, table_text};
+ghost use Rattle.text_layout.specs.Cells.{AreWidened, table_text};
 ghost use Rattle.view_cells.specs.Tables.{HasRows, IsApart};
 
 use net_core::{Bytes, List, NoMemory};
 use std::alloc::Global;
-use text_table::{Column, Row, put_rows, widened};
+use text_layout::{Column, Row, put_rows, widened};
 
 /// A column whose cells begin at its left side.
 pub const fn left(gap: usize, width: usize) -> Column

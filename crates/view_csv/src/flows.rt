@@ -12,7 +12,7 @@ use net_core::{Demand, Instance, List, Name, Network, NoMemory, Routing, StateId
 use part_names::{demand_name, node_name, state_name};
 use plan_types::Plan;
 use std::alloc::Global;
-use text_table::Row;
+use text_layout::Row;
 use view_cells::cells::{push_money, push_pair, push_words};
 
 /// Puts the fields of a demand's ends last; empty ones where there is no such demand.

@@ -12,7 +12,7 @@ use part_names::{node_name, state_name};
 use plan_types::Plan;
 use plan_view::{LinkRow, link_rows};
 use std::alloc::Global;
-use text_table::Row;
+use text_layout::Row;
 use view_cells::cells::{push_money, push_number, push_three, push_words};
 use view_cells::modules::push_modules;
 

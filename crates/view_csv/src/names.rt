@@ -3,7 +3,7 @@ ghost use Rattle.view_csv.specs.Fields.{link_names, names_field, node_names};
 
 use net_core::{Bytes, Link, LinkId, Name, NoMemory, NodeId};
 use std::alloc::Global;
-use text_table::Row;
+use text_layout::Row;
 use view_cells::cells::{push_joined, push_words};
 use view_cells::names::{names_of_links, names_of_nodes};
 

@@ -12,7 +12,7 @@ use csv_rows::put_csv;
 use net_core::{Bytes, Instance, List, NoMemory, Problem};
 use plan_types::{Outcome, Plan};
 use std::alloc::Global;
-use text_table::Row;
+use text_layout::Row;
 
 /// Puts the flows of a plan last.
 fn put_flow_rows(

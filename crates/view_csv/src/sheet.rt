@@ -3,7 +3,7 @@ ghost use Rattle.view_csv.specs.Columns.{flow_columns, link_columns, sheet_colum
 
 use net_core::{List, NoMemory};
 use std::alloc::Global;
-use text_table::Row;
+use text_layout::Row;
 use view_cells::cells::{push_number, push_pair, push_three};
 
 /// Of what there is a row.

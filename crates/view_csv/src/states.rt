@@ -13,7 +13,7 @@ use plan_types::Plan;
 use plan_view::{StateRow, state_rows};
 use std::alloc::Global;
 use text_kit::write::put_decimal;
-use text_table::Row;
+use text_layout::Row;
 use view_cells::cells::{push_cell, push_money, push_number, push_words};
 
 /// Puts tenths as a number with one place last.

@@ -6,7 +6,7 @@ use net_core::{Bytes, Link, List, Network, NoMemory};
 use part_names::node_name;
 use plan_view::LoadRow;
 use std::alloc::Global;
-use text_table::{Column, Row};
+use text_layout::{Column, Row};
 use view_cells::cells::{push_cell, push_money, push_pair, push_per_cent, push_three, push_words};
 use view_cells::tables::{fitting, table};
 

@@ -6,7 +6,7 @@ use flow_rows::FlowRow;
 use net_core::{Bytes, Demand, List, Network, NoMemory};
 use part_names::demand_name;
 use std::alloc::Global;
-use text_table::{Column, Row};
+use text_layout::{Column, Row};
 use view_cells::cells::{push_joined, push_money, push_three, push_words};
 use view_cells::names::names_of_nodes;
 use view_cells::tables::{fitting, left, right, table};

@@ -13,7 +13,7 @@ use picture_layout::{Spot, Stroke};
 use plan_view::LinkRow;
 use std::alloc::Global;
 use text_kit::write::{put_decimal, put_money_word};
-use text_table::Row;
+use text_layout::Row;
 use view_cells::modules::push_modules;
 
 /// The class of a use in per cent.

@@ -4,7 +4,7 @@ use Rattle.plan_terms.specs.Terms.{Link, LinkId, Places, link_name}
 use Rattle.plan_report.specs.Terms.{KnownNames, state_name}
 use Rattle.plan_view.specs.declared.rows.StateRow.{StateRow}
 use Rattle.text_kit.specs.Terms.{money_word}
-use Rattle.text_table.specs.Cells.{right_cell, spaces}
+use Rattle.text_layout.specs.Cells.{right_cell, spaces}
 use Rattle.view_cells.specs.Terms.{joined_words, per_cent, tenths_per_cent}
 
 -- the names of links

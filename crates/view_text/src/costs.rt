@@ -8,7 +8,7 @@ use plan_types::{Cause, Quality};
 use plan_view::PlanSummary;
 use std::alloc::Global;
 use text_kit::write::put_money_word;
-use text_table::{Column, Row};
+use text_layout::{Column, Row};
 use view_cells::cells::{push_cell, push_money, push_words, put_counted, put_tenths};
 use view_cells::tables::{fitting, left, right, table};
 

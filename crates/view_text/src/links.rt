@@ -8,7 +8,7 @@ use net_core::{Bytes, Link, List, Name, Network, NoMemory, Places, States};
 use part_names::{node_name, state_name};
 use plan_view::{LinkRow, PlanSummary};
 use std::alloc::Global;
-use text_table::{Column, Row};
+use text_layout::{Column, Row};
 use view_cells::cells::{
     push_cell, push_joined, push_money, push_per_cent, push_three, push_words,
 };

@@ -7,7 +7,7 @@ use part_names::state_name;
 use plan_types::Outcome;
 use std::alloc::Global;
 use text_kit::write::put_decimal;
-use text_table::{Column, Row};
+use text_layout::{Column, Row};
 use view_cells::cells::{push_money, push_number, push_pair, push_three};
 use view_cells::tables::{fitting, table};
 

@@ -1,6 +1,6 @@
 ghost use Rattle.std.{specs.Prelude.{◌≡◌, ◌≤◌, ◌/◌, ◌++◌, ◌∷◌, [], All, IfOk, OnOk, length, map}, specs.List.AllByRecursion};
 ghost use Rattle.plan_report.specs.Terms.{known_of, state_name};
-ghost use Rattle.text_table.specs.Cells.{right_cell};
+ghost use Rattle.text_layout.specs.Cells.{right_cell};
 ghost use Rattle.view_cells.specs.Terms.{tenths_per_cent, HasRowsAbove, IsApart};
 ghost use Rattle.view_text.specs.StateCells.{bar_text, fullest_name, fullest_use, names_text, part_text, rerouted_text, state_cells, state_heads};
 
@@ -8,7 +8,7 @@ use net_core::{Bytes, Link, LinkId, List, Network, NoMemory, Places, States};
 use part_names::{link_name, state_name};
 use plan_view::StateRow;
 use std::alloc::Global;
-use text_table::{Column, Row, put_right, put_spaces};
+use text_layout::{Column, Row, put_right, put_spaces};
 use view_cells::cells::{
     push_cell, push_joined, push_money, push_pair, push_per_cent, push_three, push_words,
     put_tenths,

@@ -1,5 +1,5 @@
 use Rattle.std.proofs.Common.{◌≡◌, ◌≤◌, take}
-use Rattle.text_places.specs.Places.{characters}
+use Rattle.text_layout.specs.Places.{characters}
 use Rattle.fault_texts.proofs.quote.quote_end.Given as goal
 
 -- the characters of the bytes so far, which are all shown

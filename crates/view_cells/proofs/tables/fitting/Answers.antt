@@ -1,6 +1,6 @@
 use Rattle.std.proofs.Common.{length}
 use Rattle.net_core.proofs.Library.{AllByRecursion, IfOk-weaker}
-use Rattle.text_table.specs.Cells.{AreWidened}
+use Rattle.text_layout.specs.Cells.{AreWidened}
 use Rattle.view_cells.{specs.Tables.IsApart, proofs.Apart.still_apart}
 use Rattle.view_cells.proofs.tables.fitting.Goals as goal
 

@@ -1,7 +1,0 @@
-use Rattle.std.proofs.Common.{◌≡◌, ◌≤◌}
-use Rattle.text_places.specs.Places.{line_ends}
-use Rattle.text_places.proofs.place.line_ends.Given as goal
-
--- the line ends so far
-abbrev pub invariant-loop-i : goal.invariant-loop-i
-invariant-loop-i l = (l.count ≡ line_ends l.text l.i) × (l.count ≤ l.i)

@@ -1,7 +1,0 @@
-use Rattle.std.proofs.Common.{◌≡◌, ◌≤◌, ◌<◌, ℕ, false, slice_index}
-use Rattle.text_places.specs.Places.{begins_character}
-use Rattle.text_places.proofs.window.first_character.Given as goal
-
--- no character begins so far
-abbrev pub invariant-loop-i : goal.invariant-loop-i
-invariant-loop-i l = (k : ℕ) → l.least ≤ k → k < l.i → begins_character (slice_index l.text k) ≡ false

@@ -1,6 +1,0 @@
-use Rattle.text_table.specs.Cells.{AreWidened}
-use Rattle.text_table.proofs.column.widened.Given as goal
-
--- the columns so far
-abbrev pub invariant-loop-at : goal.invariant-loop-at
-invariant-loop-at l = AreWidened l.columns l.rows l.at l.wide
