@@ -13,7 +13,7 @@ use flow_file::FlowFile;
 use flow_import::ImportFault;
 use net_core::{Bytes, Instance, List, NoMemory, Problem};
 use outside_io::Gate;
-use part_names::{demand_name, link_name, node_name, state_name};
+use plan_report::{demand_name, link_name, node_name, state_name};
 use plan_import::lone_plan::PlannedReport;
 use plan_import::{ImportEnding, import_plan};
 use std::alloc::Global;

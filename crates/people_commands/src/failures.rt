@@ -9,7 +9,7 @@ use check_answers::Status;
 use failure_texts::{FailureAnswer, failure_list};
 use net_core::{Bytes, Demands, List, Network, NoMemory};
 use outside_io::Shelf;
-use part_names::demand_name;
+use plan_report::demand_name;
 use people_files::{Halt, load_network, told};
 use std::alloc::Global;
 use text_kit::write::put_decimal;

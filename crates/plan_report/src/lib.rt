@@ -7,10 +7,12 @@ mod journal;
 mod lists;
 mod names;
 mod outcomes;
+mod part_names;
 mod plans;
 mod pool;
 mod routings;
 mod writer;
 
+pub use crate::{demand_name, link_name, node_name, state_name};
 pub use plan_types::{Outcome, Report};
 pub use writer::write_report;

@@ -5,7 +5,7 @@ ghost use Rattle.separation_texts.specs.AllSeparations.{separation_line, separat
 
 use failure_states::Separation;
 use net_core::{Bytes, Instance, List, NoMemory, StateId, States};
-use part_names::{demand_name, state_name};
+use plan_report::{demand_name, state_name};
 use std::alloc::Global;
 use text_kit::write::put_decimal;
 

@@ -3,7 +3,7 @@ ghost use Rattle.plan_report.specs.Terms.{link_name, node_name};
 
 use crate::cells::push_words;
 use net_core::{Link, LinkId, List, Name, NoMemory, NodeId};
-use part_names::{link_name, node_name};
+use plan_report::{link_name, node_name};
 use std::alloc::Global;
 use text_layout::Row;
 

@@ -9,7 +9,7 @@ use crate::names::{push_links, push_nodes};
 use crate::sheet::{PlanNumber, numbered};
 use flow_rows::{FlowRow, flow_rows};
 use net_core::{Demand, Instance, List, Name, Network, NoMemory, Routing, StateId};
-use part_names::{demand_name, node_name, state_name};
+use plan_report::{demand_name, node_name, state_name};
 use plan_types::Plan;
 use std::alloc::Global;
 use text_layout::Row;

@@ -8,7 +8,7 @@ ghost use Rattle.view_csv.{specs.Fields.{fields_of_link, link_fields, with_plan}
 
 use crate::sheet::{PlanNumber, numbered};
 use net_core::{Instance, Link, List, Network, NoMemory, Places, States};
-use part_names::{node_name, state_name};
+use plan_report::{node_name, state_name};
 use plan_types::Plan;
 use plan_view::{LinkRow, link_rows};
 use std::alloc::Global;

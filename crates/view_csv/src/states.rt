@@ -8,7 +8,7 @@ ghost use Rattle.view_csv.{specs.Fields.{fullest_field, link_names, with_plan, s
 use crate::names::push_links;
 use crate::sheet::{PlanNumber, numbered};
 use net_core::{Bytes, Instance, Link, LinkId, List, Network, NoMemory, States};
-use part_names::{link_name, state_name};
+use plan_report::{link_name, state_name};
 use plan_types::Plan;
 use plan_view::{StateRow, state_rows};
 use std::alloc::Global;

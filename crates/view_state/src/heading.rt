@@ -5,7 +5,7 @@ ghost use Rattle.view_text.specs.Terms.{problem_case};
 ghost use Rattle.view_state.specs.StateHeadings.{out_line, out_words, state_heading, state_title};
 
 use net_core::{Bytes, Link, LinkId, Listed, NoMemory, Problem, StateId};
-use part_names::{link_name, state_name};
+use plan_report::{link_name, state_name};
 
 /// The links that a state fails.
 fn failed_links(listed: &[Listed], state: u32) -> &[LinkId]

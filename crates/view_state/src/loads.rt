@@ -3,7 +3,7 @@ ghost use Rattle.view_cells.specs.Terms.{HasRows};
 ghost use Rattle.view_state.specs.StateTables.{load_cells, load_heads, loaded_cells};
 
 use net_core::{Bytes, Link, List, Network, NoMemory};
-use part_names::node_name;
+use plan_report::node_name;
 use plan_view::LoadRow;
 use std::alloc::Global;
 use text_layout::{Column, Row};

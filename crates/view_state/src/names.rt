@@ -3,7 +3,7 @@ ghost use Rattle.plan_report.specs.Terms.{state_name};
 ghost use Rattle.view_state.specs.NamedStates.{IsNamedState};
 
 use net_core::{Listed, StateId, States};
-use part_names::state_name;
+use plan_report::state_name;
 
 /// Whether two names are the same.
 fn are_alike(name: &[u8], other: &[u8]) -> bool

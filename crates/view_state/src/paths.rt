@@ -4,7 +4,7 @@ ghost use Rattle.view_state.specs.StateTables.{path_cells, path_heads};
 
 use flow_rows::FlowRow;
 use net_core::{Bytes, Demand, List, Network, NoMemory};
-use part_names::demand_name;
+use plan_report::demand_name;
 use std::alloc::Global;
 use text_layout::{Column, Row};
 use view_cells::cells::{push_joined, push_money, push_three, push_words};

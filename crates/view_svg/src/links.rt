@@ -8,7 +8,7 @@ use crate::escape::put_escaped;
 use crate::paths::change_of;
 use crate::spots::{put_curve, put_spot};
 use net_core::{Bytes, Instance, Link, LinkId, List, Network, NoMemory, Places, States};
-use part_names::state_name;
+use plan_report::state_name;
 use picture_layout::{Spot, Stroke};
 use plan_view::LinkRow;
 use std::alloc::Global;

@@ -5,7 +5,7 @@ ghost use Rattle.view_cells.specs.Terms.{joined_words, kinds_words, per_cent, Ha
 ghost use Rattle.view_text.specs.LinkCells.{cells_of_link, ends_text, link_cells, link_heads, total_cells};
 
 use net_core::{Bytes, Link, List, Name, Network, NoMemory, Places, States};
-use part_names::{node_name, state_name};
+use plan_report::{node_name, state_name};
 use plan_view::{LinkRow, PlanSummary};
 use std::alloc::Global;
 use text_layout::{Column, Row};

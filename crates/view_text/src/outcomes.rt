@@ -3,7 +3,7 @@ ghost use Rattle.view_cells.specs.Terms.{AddsText, HasRows};
 ghost use Rattle.view_text.specs.OutcomeCells.{HasOutcomes, outcome_cells, outcome_heads, failure_text, numbers_line, numbers_text, separation_text, unlinked_text};
 
 use net_core::{Bytes, List, Listed, Name, NoMemory, Places, StateId};
-use part_names::state_name;
+use plan_report::state_name;
 use plan_types::Outcome;
 use std::alloc::Global;
 use text_kit::write::put_decimal;

@@ -5,7 +5,7 @@ ghost use Rattle.view_cells.specs.Terms.{tenths_per_cent, HasRowsAbove, IsApart}
 ghost use Rattle.view_text.specs.StateCells.{bar_text, fullest_name, fullest_use, names_text, part_text, rerouted_text, state_cells, state_heads};
 
 use net_core::{Bytes, Link, LinkId, List, Network, NoMemory, Places, States};
-use part_names::{link_name, state_name};
+use plan_report::{link_name, state_name};
 use plan_view::StateRow;
 use std::alloc::Global;
 use text_layout::{Column, Row, put_right, put_spaces};

@@ -1,5 +1,6 @@
 ghost use Rattle.std.specs.Prelude.{◌≡◌};
-ghost use Rattle.plan_report.specs.Terms.{demand_name, link_name, node_name, state_name};
+ghost use Rattle.plan_terms.specs.Terms.{link_name};
+ghost use Rattle.plan_report.specs.Names.{demand_name, node_name, state_name};
 
 use net_core::{Demand, Link, LinkId, Listed, Name, NodeId, StateId};
 
