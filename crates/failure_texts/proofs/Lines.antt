@@ -1,7 +1,7 @@
 -- comment lines of further elements
 use Rattle.std.proofs.Common.{ℕ, ◌+◌, ◌<◌, ◌≤◌, List, flat_map, get_or, length, sym, subst, take, take_all}
 use Rattle.text_kit.specs.Terms.{Item}
-use Rattle.comment_lines.{specs.Comments.AddsLines, proofs.Lines.lines_then, proofs.Spacing.flat_more}
+use Rattle.report_comments.{specs.Comments.AddsLines, proofs.Lines.lines_then, proofs.Spacing.flat_more}
 
 -- the lines of a further element, after those of the elements before it
 pub lines_more : {X : Type 0} (f : X → List (List Item)) (xs : List X) (k : ℕ) (d : X) {a b c : List ℕ} → k < length xs

@@ -3,8 +3,7 @@ use Rattle.std.proofs.Common.{◌≡◌, ℕ, ◌≤◌, List, [], ◌∷◌, �
 use Rattle.net_core.proofs.Library.{All-from_recursion, AllByRecursion, flat_map-append}
 use Rattle.plan_terms.specs.Terms.{Demand, IsSurvivable, Link, LinkId, Listed, Network, link_name}
 use Rattle.text_kit.{specs.Terms.{AddsItems, Closing, IsFileOf, IsShortItem, Item, Verbatim, section, written}, proofs.Lemmas.{writable, written_is_read}}
-use Rattle.comment_lines.specs.Comments.{AddsLines, comment_line}
-use Rattle.report_comments.proofs.Endings.{EndsLine, comments_taken, ends_after, section_ends}
+use Rattle.report_comments.{specs.Comments.{AddsLines, comment_line}, proofs.Endings.{EndsLine, comments_taken, ends_after, section_ends}}
 use Rattle.model_reader.{specs.Failures.{IsShort, SpellsFailures, failures_header, list_items, state_items}, specs.declared.failures.FailureList.TheVariants.OneByOne}
 use Rattle.failure_texts.{specs.Fates.{AreFates, with_states}, specs.FailureTexts.{IsFailureList, able_state, able_states, failure_list_text, left_out}, specs.inner.FateItems.fate_items, specs.declared.fates.Fate.Fate, proofs.Listing.{listing, listing_states, listing_survived}}
 

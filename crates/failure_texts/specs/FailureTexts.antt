@@ -3,7 +3,7 @@ use Rattle.std.{specs.Prelude.{◌≡◌, ℕ, List, [], ◌∷◌, ◌++◌, co
 use Rattle.plan_terms.specs.Terms.{Demand, IsFirstSeparation, IsSurvivable, Link, Listed, Network, link_name, single_state}
 use Rattle.plan_report.specs.Terms.{demand_name}
 use Rattle.text_kit.specs.Terms.{Item, Verbatim, written}
-use Rattle.comment_lines.specs.Comments.{comment_line}
+use Rattle.report_comments.specs.Comments.{comment_line}
 use Rattle.model_reader.{specs.Failures.{SpellsFailures, failures_header, list_items}, specs.declared.failures.FailureList.TheVariants.OneByOne}
 use Rattle.failure_texts.{specs.Fates.{AreFates, with_states}, specs.declared.fates.Fate.Fate, specs.declared.answer.FailureAnswer.FailureAnswer, specs.declared.answer.FailureAnswer.TheVariants.{Apart, Printed}}
 

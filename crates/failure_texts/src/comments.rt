@@ -1,9 +1,9 @@
 ghost use Rattle.std.specs.Prelude.{◌∷◌, [], OnOk, flat_map};
-ghost use Rattle.comment_lines.specs.Comments.{AddsLines, AddsSpaced};
+ghost use Rattle.report_comments.specs.Comments.{AddsLines, AddsSpaced};
 ghost use Rattle.failure_texts.specs.FailureTexts.{left_out, left_out_items};
 
 use crate::fates::Fate;
-use comment_lines::puts::put_word;
+use report_comments::puts::put_word;
 use net_core::{Bytes, Demand, Link, NoMemory};
 use report_comments::{put_demand, put_link_name};
 

@@ -2,7 +2,7 @@
 use Rattle.std.specs.Prelude.{◌≡◌, ◌≢◌, ℕ, ◌≤◌, ◌++◌, List, [], All, AllPairs, Contains, flat_map, length, map}
 use Rattle.plan_terms.specs.Terms.{Case, CutLine, Notes}
 use Rattle.plan_report.specs.Terms.{Certificate, Plan}
-use Rattle.comment_lines.specs.Comments.{comment_line}
+use Rattle.report_comments.specs.Comments.{comment_line}
 use Rattle.trimmed_report.{specs.Terms.{IsTranscript, PlannedReport, IsAcceptable, IsSeparationOf, plan_commands, whole_report, Block}, specs.TrimmedReports.IsTrimmedReport}
 use Rattle.tree_search.{specs.Terms.Proof, specs.Proving.{IsProofOf, ShowsBound, ShowsCheapest}}
 use Rattle.tree_lines.specs.TreeLines.{proof_lines}

@@ -1,7 +1,7 @@
 ghost use Rattle.std.specs.Prelude.{◌≡◌, ◌++◌, IfOk, OnOk};
 ghost use Rattle.plan_terms.specs.Terms.{case_of};
 ghost use Rattle.plan_report.specs.Terms.{known_of, report_text, SpellsReport};
-ghost use Rattle.comment_lines.specs.Comments.{AddsLines};
+ghost use Rattle.report_comments.specs.Comments.{AddsLines};
 ghost use Rattle.trimmed_report.specs.Terms.{whole_report};
 ghost use Rattle.tree_lines.specs.TreeLines.{IsToldProof, proof_lines};
 ghost use Rattle.proof_report.specs.ProvedReports.{IsLinedReport, proved_report, proof_text};

@@ -2,7 +2,7 @@
 use Rattle.std.proofs.Common.{◌≡◌, ℕ, List, [], ◌∷◌, ◌++◌, refl, sym, ap, subst, ◌∙◌, append_assoc, flat_map, map, All}
 use Rattle.net_core.proofs.Library.{All-cons, All-head, All-nil, All-tail}
 use Rattle.text_kit.specs.Terms.{IsFileOf, Item, Opening, Closing, Verbatim, section, written, byte_after, word_of}
-use Rattle.comment_lines.{specs.Comments.{AddsLines, IsOneLine, comment_line, commented, spaced_items}, proofs.Passing.comments_are_no_items}
+use Rattle.report_comments.{specs.Comments.{AddsLines, IsOneLine, comment_line, commented, spaced_items}, proofs.Passing.comments_are_no_items}
 
 -- ---- texts whose last byte ends a line
 

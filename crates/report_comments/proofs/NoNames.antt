@@ -3,7 +3,7 @@ use Rattle.std.proofs.Common.{◌≡◌, ℕ, ◌≤◌, List, [], Option, lengt
 use Rattle.net_core.proofs.Library.{option_map_or, slice_get_past}
 use Rattle.plan_terms.specs.Terms.{Demand, IsName, Link, LinkId}
 use Rattle.plan_report.specs.Terms.{demand_name, link_name}
-use Rattle.comment_lines.{specs.Comments.IsOneLine, proofs.OneLine.name_one_line}
+use Rattle.report_comments.{specs.Comments.IsOneLine, proofs.OneLine.name_one_line}
 
 pub one_line : (w : List ℕ) → IsName w → IsOneLine w
 one_line w name = name_one_line w name

@@ -1,1 +1,3 @@
 pub mod ReportComments
+pub mod Comments
+pub mod Laws

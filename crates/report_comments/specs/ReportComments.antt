@@ -3,7 +3,7 @@ use Rattle.std.specs.Prelude.{ℕ, List}
 use Rattle.plan_terms.specs.Terms.{Evidence, Route, Master}
 use Rattle.plan_report.specs.Terms.{KnownNames, SpellsReport, report_text, Report}
 use Rattle.text_kit.specs.Terms.{Item}
-use Rattle.comment_lines.specs.Comments.{AddsLines}
+use Rattle.report_comments.specs.Comments.{AddsLines}
 
 -- evidence of a program that routes
 abbrev pub IsOfRouting : Evidence → Type 0

@@ -1,11 +1,10 @@
 ghost use Rattle.std.specs.Prelude.{◌≡◌, ◌∷◌, OnOk, flat_map};
 ghost use Rattle.plan_report.specs.Terms.{evidence_items, numbers_items, route_column_items, wide_items};
 ghost use Rattle.text_kit.specs.Terms.{Whole, enclosed};
-ghost use Rattle.comment_lines.specs.Comments.{AddsSpaced};
-ghost use Rattle.report_comments.specs.ReportComments.{IsOfRouting};
+ghost use Rattle.report_comments.{specs.Comments.AddsSpaced, specs.ReportComments.IsOfRouting};
 
 use crate::names::{put_demand, put_link, put_path};
-use comment_lines::puts::{put_close, put_field, put_numbers, put_open, put_whole, put_word};
+use crate::puts::{put_close, put_field, put_numbers, put_open, put_whole, put_word};
 use net_core::{Bytes, Caps, Demand, Evidence, Link, NoMemory, RouteColumn, WideKind};
 
 /// Appends a column of a routing program.

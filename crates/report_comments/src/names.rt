@@ -1,9 +1,9 @@
 ghost use Rattle.std.specs.Prelude.{◌≡◌, ◌∷◌, [], OnOk};
 ghost use Rattle.plan_report.specs.Terms.{demand_name, link_name, path_items};
 ghost use Rattle.text_kit.specs.Terms.{Verbatim};
-ghost use Rattle.comment_lines.specs.Comments.{AddsSpaced, IsOneLine};
+ghost use Rattle.report_comments.specs.Comments.{AddsSpaced, IsOneLine};
 
-use comment_lines::puts::{put_close, put_open, put_word};
+use crate::puts::{put_close, put_open, put_word};
 use net_core::{Bytes, Demand, Link, LinkId, NoMemory};
 
 /// The name of a link; empty if there is no such link.

@@ -2,7 +2,7 @@
 use Rattle.std.{proofs.Common.{◌≡◌, ℕ, zero, suc, ◌/◌, ◌^◌, ◌<◌, ◌==◌, not, List, [], ◌∷◌, ◌++◌, refl, ap, sym, ◌∙◌, append-nil, append_assoc, decimal, arith, ne_eqb}, proofs.lemmas.List.Folds.list_all-append}
 use Rattle.net_core.{proofs.Library.{and_from, list_all}, specs.declared.places.Places.Places, specs.Terms.digits_after_point}
 use Rattle.text_kit.specs.Terms.{Money, money_word, last_digit, last_digits}
-use Rattle.comment_lines.{specs.Comments.{AddsSpaced, IsOneLine}, proofs.OneLine.decimal_one_line}
+use Rattle.report_comments.{specs.Comments.{AddsSpaced, IsOneLine}, proofs.OneLine.decimal_one_line}
 
 digits_one_line : (k n : ℕ) → IsOneLine (last_digits k n)
 digits_one_line zero n = refl

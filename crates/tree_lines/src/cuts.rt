@@ -1,8 +1,8 @@
 ghost use Rattle.std.{specs.Prelude.{◌∷◌, [], OnOk, length, map, zip}, specs.List.range_with_len};
-ghost use Rattle.comment_lines.specs.Comments.{AddsLines, AddsSpaced};
+ghost use Rattle.report_comments.specs.Comments.{AddsLines, AddsSpaced};
 ghost use Rattle.tree_lines.specs.TreeLines.{box_cut_items};
 
-use comment_lines::puts::{put_field, put_lengths, put_whole};
+use report_comments::puts::{put_field, put_lengths, put_whole};
 use net_core::{Bytes, CutLine, NoMemory};
 
 /// Puts the words of a cut last.

@@ -1,9 +1,9 @@
 ghost use Rattle.std.{specs.Prelude.{◌∷◌, [], OnOk, length, map, zip}, specs.List.range_with_len};
 ghost use Rattle.text_kit.specs.Terms.{Verbatim};
-ghost use Rattle.comment_lines.specs.Comments.{AddsLines, AddsSpaced};
+ghost use Rattle.report_comments.specs.Comments.{AddsLines, AddsSpaced};
 ghost use Rattle.tree_lines.specs.TreeLines.{line_items, multiplier_items, table_word};
 
-use comment_lines::puts::{put_field, put_lengths, put_whole, put_word};
+use report_comments::puts::{put_field, put_lengths, put_whole, put_word};
 use net_core::{Bytes, NoMemory};
 use tree_check::{Line, Multiplier, TableKind};
 

@@ -1,13 +1,12 @@
 ghost use Rattle.std.specs.Prelude.{◌∷◌, [], All, OnOk, codes, map};
 ghost use Rattle.plan_report.specs.Terms.{link_name};
 ghost use Rattle.text_kit.specs.Terms.{Verbatim, Whole};
-ghost use Rattle.comment_lines.specs.Comments.{AddsLines, AddsSpaced, IsOneLine};
-ghost use Rattle.report_comments.specs.ReportComments.{IsOfRouting};
+ghost use Rattle.report_comments.{specs.Comments.{AddsLines, AddsSpaced, IsOneLine}, specs.ReportComments.IsOfRouting};
 ghost use Rattle.tree_check.specs.declared.proof.Node.TheVariants.{Stuck as StuckNode};
 ghost use Rattle.tree_lines.specs.TreeLines.{IsToldNode, box_certificate_items, node_items};
 
 use crate::lines::put_multipliers;
-use comment_lines::puts::{put_field, put_whole, put_word};
+use report_comments::puts::{put_field, put_whole, put_word};
 use net_core::{Bytes, Demand, Evidence, Link, LinkId, NoMemory};
 use report_comments::{put_evidence, put_link};
 use tree_check::{BoxCert, Node};

@@ -1,12 +1,12 @@
 ghost use Rattle.std.specs.Prelude.{◌∷◌, [], OnOk};
 ghost use Rattle.text_kit.specs.Terms.{Money};
-ghost use Rattle.comment_lines.specs.Comments.{AddsLines, AddsSpaced};
+ghost use Rattle.report_comments.specs.Comments.{AddsLines, AddsSpaced};
 ghost use Rattle.tree_lines.specs.TreeLines.{IsToldProof, proof_lines, verdict_items};
 
 use crate::cuts::put_cuts;
 use crate::lines::put_lines;
 use crate::nodes::put_nodes;
-use comment_lines::puts::put_word;
+use report_comments::puts::put_word;
 use net_core::{Bytes, Demand, Link, NoMemory, Places};
 use text_kit::write::put_money_word;
 use tree_check::{Proof, Verdict};

@@ -3,7 +3,7 @@ use Rattle.std.{proofs.Common.{◌≡◌, ℕ, ◌+◌, ◌≤◌, ◌==◌, Lis
 use Rattle.net_core.{proofs.Library.{AllByRecursion, All-head, All-tail}, specs.Terms.is_space}
 use Rattle.snd_tokens.specs.Terms.{line_length, run_length, Text, EndAt, text_from}
 use Rattle.text_kit.{specs.Terms.{Item, Begins, IsMadeOf, IsWritable, word_of}, proofs.Lemmas.{from_is, item_begins, space_passed, text_ends, drop_first, take_first}}
-use Rattle.comment_lines.{proofs.Passing.line_long, specs.Comments.{AddsLines, IsOneLine, comment_line, spaced_items}}
+use Rattle.report_comments.{proofs.Passing.line_long, specs.Comments.{AddsLines, IsOneLine, comment_line, spaced_items}}
 use Rattle.tree_reader.{specs.CommentTexts.{AreCommentsOf, Comments, CommentAt, comments_from}, proofs.Scanning.{comments_end, comments_hash, comments_space}}
 
 -- items after a space end the word before them

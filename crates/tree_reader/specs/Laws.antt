@@ -2,7 +2,7 @@
 use Rattle.std.specs.Prelude.{ℕ, ◌+◌, ◌<◌, ◌^◌, List, All, length}
 use Rattle.plan_terms.specs.Terms.{AreDemands, Demand, IsName, IsNetwork}
 use Rattle.plan_report.specs.Terms.{KnownNames}
-use Rattle.comment_lines.specs.Comments.{AddsLines}
+use Rattle.report_comments.specs.Comments.{AddsLines}
 use Rattle.tree_check.specs.declared.proof.Proof.{Proof}
 use Rattle.tree_lines.specs.TreeLines.{proof_lines}
 use Rattle.tree_reader.specs.Trees.{IsTreeInForm, SpellsTree, tree_of}

@@ -3,8 +3,7 @@ use Rattle.std.specs.Prelude.{ℕ, List, [], ◌∷◌, codes, flat_map, map}
 use Rattle.plan_terms.specs.Terms.{Demand, Link}
 use Rattle.plan_report.specs.Terms.{evidence_items, link_name}
 use Rattle.text_kit.specs.Terms.{Item, Verbatim, Whole}
-use Rattle.comment_lines.specs.Comments.{comment_line}
-use Rattle.report_comments.specs.ReportComments.{IsOfRouting}
+use Rattle.report_comments.{specs.Comments.comment_line, specs.ReportComments.IsOfRouting}
 use Rattle.trim_plan.{specs.Terms.{Stop, Cut, Wide}, specs.declared.trimmed_plan.Block.Block}
 
 -- why a module stays: a cut with its state, its right side and a length for each link; or evidence, as in a report

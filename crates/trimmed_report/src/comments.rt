@@ -1,9 +1,9 @@
 ghost use Rattle.std.specs.Prelude.{◌∷◌, [], All, OnOk, map};
 ghost use Rattle.trim_plan.specs.Terms.{Cut as CutStop};
-ghost use Rattle.comment_lines.specs.Comments.{AddsLines, AddsSpaced};
+ghost use Rattle.report_comments.specs.Comments.{AddsLines, AddsSpaced};
 ghost use Rattle.trimmed_report.specs.BlockLines.{IsTold, block_items, stop_items};
 
-use comment_lines::puts::{put_field, put_lengths, put_whole, put_word};
+use report_comments::puts::{put_field, put_lengths, put_whole, put_word};
 use net_core::{Bytes, CutLine, Demand, Link, NoMemory};
 use report_comments::{put_evidence, put_link};
 use trim_plan::Block;

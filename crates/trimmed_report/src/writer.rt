@@ -2,7 +2,7 @@ ghost use Rattle.std.specs.Prelude.{◌≡◌, ◌++◌, All, IfOk, OnOk, map};
 ghost use Rattle.plan_terms.specs.Terms.{case_of};
 ghost use Rattle.plan_report.specs.Terms.{known_of, report_text, SpellsReport};
 ghost use Rattle.lone_plan.specs.LonePlans.{whole_report};
-ghost use Rattle.comment_lines.specs.Comments.{AddsLines};
+ghost use Rattle.report_comments.specs.Comments.{AddsLines};
 ghost use Rattle.trimmed_report.{specs.BlockLines.{IsTold, block_items, block_lines}, specs.TrimmedReports.IsTrimmedReport};
 
 use crate::comments::put_blocks;

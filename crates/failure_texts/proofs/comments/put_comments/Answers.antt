@@ -1,5 +1,5 @@
 use Rattle.std.proofs.Common.{None, arith}
-use Rattle.comment_lines.proofs.Lines.{no_lines}
+use Rattle.report_comments.proofs.Lines.{no_lines}
 use Rattle.failure_texts.{specs.FailureTexts.left_out, proofs.Lines.{lines_more, lines_whole}}
 use Rattle.failure_texts.proofs.comments.put_comments.Goals as goal
 

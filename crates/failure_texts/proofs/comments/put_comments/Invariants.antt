@@ -1,5 +1,5 @@
 use Rattle.std.proofs.Common.{take, flat_map}
-use Rattle.comment_lines.specs.Comments.{AddsLines}
+use Rattle.report_comments.specs.Comments.{AddsLines}
 use Rattle.failure_texts.specs.FailureTexts.{left_out}
 use Rattle.failure_texts.proofs.comments.put_comments.Given as goal
 

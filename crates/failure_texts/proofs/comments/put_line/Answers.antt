@@ -1,5 +1,5 @@
 use Rattle.text_kit.proofs.Lemmas.{on_ok}
-use Rattle.comment_lines.proofs.Lines.{line_put}
+use Rattle.report_comments.proofs.Lines.{line_put}
 use Rattle.failure_texts.specs.FailureTexts.{left_out_items}
 use Rattle.failure_texts.proofs.comments.put_line.Goals as goal
 

@@ -1,9 +1,8 @@
 use Rattle.std.proofs.Common.{◌++◌, ◌∙◌, ◌≡◌, List, ℕ, ap, subst, sym}
 use Rattle.plan_terms.specs.Terms.{case_of}
 use Rattle.plan_report.specs.Terms.{IsReportInForm, SpellsReport, known_to, report_text, Report}
-use Rattle.comment_lines.specs.Comments.{AddsLines}
+use Rattle.report_comments.{specs.Comments.AddsLines, proofs.Spelling.reports_take_comments}
 use Rattle.trimmed_report.specs.Terms.{whole_report}
-use Rattle.report_comments.proofs.Spelling.{reports_take_comments}
 use Rattle.tree_search.specs.Terms.{Proof}
 use Rattle.tree_lines.specs.TreeLines.{IsToldProof, proof_lines}
 use Rattle.proof_report.{specs.ProvedReports.{proof_text, proved_report}, proofs.Told.proof_told}

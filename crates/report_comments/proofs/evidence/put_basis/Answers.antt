@@ -1,7 +1,7 @@
 use Rattle.std.proofs.Common.{◌∷◌, [], arith}
 use Rattle.plan_report.specs.Terms.{route_column_items}
 use Rattle.text_kit.specs.Terms.{Opening}
-use Rattle.comment_lines.proofs.Spacing.{spaced_list, spaced_next}
+use Rattle.report_comments.proofs.Spacing.{spaced_list, spaced_next}
 use Rattle.report_comments.proofs.evidence.put_basis.Goals as goal
 
 pub loop-column-preserved : goal.loop-column-preserved

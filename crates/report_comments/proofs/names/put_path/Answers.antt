@@ -1,7 +1,7 @@
 use Rattle.std.proofs.Common.{◌∷◌, [], arith}
 use Rattle.plan_report.specs.Terms.{link_name}
 use Rattle.text_kit.specs.Terms.{Verbatim, Opening}
-use Rattle.comment_lines.proofs.Spacing.{spaced_list, spaced_more}
+use Rattle.report_comments.proofs.Spacing.{spaced_list, spaced_more}
 use Rattle.report_comments.proofs.names.put_path.Goals as goal
 
 pub loop-e-preserved : goal.loop-e-preserved

@@ -1,5 +1,5 @@
 use Rattle.text_kit.proofs.Lemmas.{on_ok}
-use Rattle.comment_lines.proofs.Lines.{line_put}
+use Rattle.report_comments.proofs.Lines.{line_put}
 use Rattle.tree_lines.specs.TreeLines.{box_cut_items}
 use Rattle.tree_lines.proofs.cuts.put_cut.Goals as goal
 

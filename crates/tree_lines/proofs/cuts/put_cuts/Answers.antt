@@ -1,6 +1,6 @@
 use Rattle.std.proofs.Common.{arith, length, zip}
 use Rattle.net_core.proofs.Library.{range_with_len}
-use Rattle.comment_lines.proofs.Lines.{line_next, lines_all, no_lines}
+use Rattle.report_comments.proofs.Lines.{line_next, lines_all, no_lines}
 use Rattle.tree_lines.{specs.TreeLines.box_cut_items, proofs.Numbered.{placed_at, placed_length}}
 use Rattle.tree_lines.proofs.cuts.put_cuts.Goals as goal
 

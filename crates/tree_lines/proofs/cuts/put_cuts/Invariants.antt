@@ -1,6 +1,6 @@
 use Rattle.std.proofs.Common.{length, map, take, zip}
 use Rattle.net_core.proofs.Library.{range_with_len}
-use Rattle.comment_lines.specs.Comments.{AddsLines}
+use Rattle.report_comments.specs.Comments.{AddsLines}
 use Rattle.tree_lines.specs.TreeLines.{box_cut_items}
 use Rattle.tree_lines.proofs.cuts.put_cuts.Given as goal
 

@@ -1,6 +1,6 @@
 use Rattle.std.proofs.Common.{◌+◌, arith, length, zip}
 use Rattle.net_core.proofs.Library.{range_with_len}
-use Rattle.comment_lines.proofs.Lines.{line_next, lines_all, no_lines}
+use Rattle.report_comments.proofs.Lines.{line_next, lines_all, no_lines}
 use Rattle.tree_lines.{specs.TreeLines.line_items, proofs.Numbered.{placed_from, placed_from_length}}
 use Rattle.tree_lines.proofs.lines.put_lines.Goals as goal
 

@@ -1,6 +1,6 @@
 use Rattle.std.proofs.Common.{[], ◌∷◌, arith}
 use Rattle.text_kit.specs.Terms.{Whole}
-use Rattle.comment_lines.proofs.Spacing.{spaced_all, spaced_more, spaced_none, spaced_then}
+use Rattle.report_comments.proofs.Spacing.{spaced_all, spaced_more, spaced_none, spaced_then}
 use Rattle.tree_lines.proofs.lines.put_multipliers.Goals as goal
 
 pub loop-m-init : goal.loop-m-init

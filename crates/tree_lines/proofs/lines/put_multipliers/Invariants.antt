@@ -1,6 +1,6 @@
 use Rattle.std.proofs.Common.{[], ◌∷◌, take, flat_map}
 use Rattle.text_kit.specs.Terms.{Whole}
-use Rattle.comment_lines.specs.Comments.{AddsSpaced}
+use Rattle.report_comments.specs.Comments.{AddsSpaced}
 use Rattle.tree_lines.proofs.lines.put_multipliers.Given as goal
 
 abbrev pub invariant-loop-m : goal.invariant-loop-m

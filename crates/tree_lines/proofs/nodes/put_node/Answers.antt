@@ -1,5 +1,5 @@
 use Rattle.text_kit.proofs.Lemmas.{on_ok}
-use Rattle.comment_lines.proofs.Lines.{line_put}
+use Rattle.report_comments.proofs.Lines.{line_put}
 use Rattle.tree_lines.specs.TreeLines.{node_items}
 use Rattle.tree_lines.proofs.nodes.put_node.Goals as goal
 

@@ -1,5 +1,5 @@
 use Rattle.std.proofs.Common.{arith}
-use Rattle.comment_lines.proofs.Lines.{line_next, lines_all, no_lines}
+use Rattle.report_comments.proofs.Lines.{line_next, lines_all, no_lines}
 use Rattle.tree_lines.specs.TreeLines.{node_items}
 use Rattle.tree_lines.proofs.nodes.put_nodes.Goals as goal
 

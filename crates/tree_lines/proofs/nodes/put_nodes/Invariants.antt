@@ -1,5 +1,5 @@
 use Rattle.std.proofs.Common.{map, take}
-use Rattle.comment_lines.specs.Comments.{AddsLines}
+use Rattle.report_comments.specs.Comments.{AddsLines}
 use Rattle.tree_lines.specs.TreeLines.{node_items}
 use Rattle.tree_lines.proofs.nodes.put_nodes.Given as goal
 

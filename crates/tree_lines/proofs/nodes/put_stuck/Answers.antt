@@ -1,5 +1,5 @@
 use Rattle.text_kit.proofs.Lemmas.{on_ok}
-use Rattle.comment_lines.proofs.Spacing.{spaced_then}
+use Rattle.report_comments.proofs.Spacing.{spaced_then}
 use Rattle.tree_lines.proofs.nodes.put_stuck.Goals as goal
 
 pub returns : goal.returns

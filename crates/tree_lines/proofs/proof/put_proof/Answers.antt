@@ -2,7 +2,7 @@ use Rattle.std.proofs.Common.{ℕ, List, length, map, subst, zip}
 use Rattle.net_core.proofs.Library.{range_with_len}
 use Rattle.text_kit.proofs.Lemmas.{on_ok}
 use Rattle.plan_terms.specs.Terms.{CutLine}
-use Rattle.comment_lines.{specs.Comments.AddsLines, proofs.Lines.lines_then}
+use Rattle.report_comments.{specs.Comments.AddsLines, proofs.Lines.lines_then}
 use Rattle.tree_check.{specs.declared.proof.Node.Node, specs.Terms.Line}
 use Rattle.tree_lines.specs.TreeLines.{box_cut_items, line_items, node_items}
 use Rattle.tree_lines.proofs.proof.put_proof.Goals as goal

@@ -1,5 +1,5 @@
 use Rattle.text_kit.proofs.Lemmas.{on_ok}
-use Rattle.comment_lines.proofs.Lines.{line_put}
+use Rattle.report_comments.proofs.Lines.{line_put}
 use Rattle.trimmed_report.specs.BlockLines.{block_items}
 use Rattle.trimmed_report.proofs.comments.put_block.Goals as goal
 

@@ -1,5 +1,5 @@
 use Rattle.std.proofs.Common.{arith}
-use Rattle.comment_lines.proofs.Lines.{line_next, lines_all, no_lines}
+use Rattle.report_comments.proofs.Lines.{line_next, lines_all, no_lines}
 use Rattle.trimmed_report.specs.BlockLines.{block_items}
 use Rattle.trimmed_report.proofs.comments.put_blocks.Goals as goal
 

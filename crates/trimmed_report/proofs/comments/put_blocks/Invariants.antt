@@ -1,5 +1,5 @@
 use Rattle.std.proofs.Common.{map, take}
-use Rattle.comment_lines.specs.Comments.{AddsLines}
+use Rattle.report_comments.specs.Comments.{AddsLines}
 use Rattle.trimmed_report.specs.BlockLines.{block_items}
 use Rattle.trimmed_report.proofs.comments.put_blocks.Given as goal
 

@@ -1,8 +1,7 @@
 use Rattle.std.proofs.Common.{◌++◌, ◌∙◌, List, ℕ, ap, map, subst, sym}
 use Rattle.plan_terms.specs.Terms.{case_of}
 use Rattle.plan_report.specs.Terms.{IsReportInForm, SpellsReport, known_to, report_text, Report}
-use Rattle.comment_lines.specs.Comments.{AddsLines}
-use Rattle.report_comments.proofs.Spelling.{reports_take_comments}
+use Rattle.report_comments.{specs.Comments.AddsLines, proofs.Spelling.reports_take_comments}
 use Rattle.trimmed_report.{specs.BlockLines.{block_items, block_lines}, proofs.Blocks.blocks_told}
 use Rattle.trimmed_report.proofs.writer.write_trimmed.Goals as goal
 

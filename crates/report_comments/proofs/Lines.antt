@@ -2,7 +2,7 @@
 use Rattle.std.{proofs.Common.{◌≡◌, ℕ, ◌+◌, ◌<◌, ◌≤◌, List, [], ◌∷◌, ◌++◌, length, get_or, take, map, sym, ap, subst, ◌∙◌, append_assoc, append-nil, flat_map}, proofs.lemmas.List.{map-append, take_all}}
 use Rattle.net_core.proofs.Library.{All-append, All-cons, All-nil, flat_map-append, take_more}
 use Rattle.text_kit.specs.Terms.{Item}
-use Rattle.comment_lines.{specs.Comments.{AddsLines, AddsSpaced, IsOneLine, comment_line, spaced_items}, proofs.OneLine.spaced_one_line}
+use Rattle.report_comments.{specs.Comments.{AddsLines, AddsSpaced, IsOneLine, comment_line, spaced_items}, proofs.OneLine.spaced_one_line}
 
 abbrev is_line : List Item → Type 0
 is_line items = IsOneLine (spaced_items items)

@@ -3,7 +3,7 @@ use Rattle.std.{proofs.Common.{◌≡◌, ℕ, zero, suc, ◌+◌, ◌-◌, ◌<
 use Rattle.net_core.{proofs.Library.{All-head, All-tail, and_parts, cases_lt, list_all, prefix_len, prefix_len-le-length}, specs.Terms.is_word_byte}
 use Rattle.snd_tokens.{specs.declared.token.Token.Token, specs.declared.token.TokenKind.TokenKind, specs.Terms.{begun, extent, first_line, line_length, run_length, second_line, starts_token, text_from, text_of, token_bytes, token_of, tokens_from, tokens_past, Text, EndAt, trimmed}, specs.Lexemes.put_before}
 use Rattle.text_kit.specs.Terms.{Begins, Item, SpellsItem}
-use Rattle.comment_lines.{specs.Comments.{IsOneLine, commented}, specs.Laws.CommentsAreNoItems}
+use Rattle.report_comments.{specs.Comments.{IsOneLine, commented}, specs.Laws.CommentsAreNoItems}
 use Rattle.snd_tokens.specs.declared.token.TokenKind.TheVariants as kinds
 
 -- ---- runs that end before the end of a line

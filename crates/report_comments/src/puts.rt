@@ -1,6 +1,6 @@
 ghost use Rattle.std.specs.Prelude.{◌∷◌, [], OnOk, flat_map};
 ghost use Rattle.text_kit.specs.Terms.{Verbatim, Whole, Opening, Closing, enclosed};
-ghost use Rattle.comment_lines.specs.Comments.{AddsSpaced, IsOneLine};
+ghost use Rattle.report_comments.specs.Comments.{AddsSpaced, IsOneLine};
 
 use net_core::{Bytes, NoMemory};
 use text_kit::write::put_decimal;

@@ -1,7 +1,7 @@
 -- what comments change
 use Rattle.std.specs.Prelude.{ℕ, List, [], ◌∷◌, ◌++◌, All, flat_map}
 use Rattle.text_kit.specs.Terms.{IsFileOf, Item}
-use Rattle.comment_lines.specs.Comments.{IsOneLine, commented}
+use Rattle.report_comments.specs.Comments.{IsOneLine, commented}
 
 -- A file of items whose last byte ends a line is a file of these items with comments after it, too.
 abbrev pub CommentsAreNoItems : Type 0

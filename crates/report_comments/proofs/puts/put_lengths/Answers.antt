@@ -1,7 +1,7 @@
 use Rattle.std.proofs.Common.{◌∷◌, [], arith}
 use Rattle.text_kit.specs.Terms.{Whole}
-use Rattle.comment_lines.proofs.Spacing.{spaced_all, spaced_more, spaced_none}
-use Rattle.comment_lines.proofs.puts.put_lengths.Goals as goal
+use Rattle.report_comments.proofs.Spacing.{spaced_all, spaced_more, spaced_none}
+use Rattle.report_comments.proofs.puts.put_lengths.Goals as goal
 
 pub loop-n-init : goal.loop-n-init
 loop-n-init c = spaced_none c.args.text.now

@@ -2,7 +2,7 @@
 use Rattle.std.proofs.Common.{◌≡◌, ℕ, ◌+◌, ◌<◌, ◌≤◌, List, [], ◌∷◌, ◌++◌, length, get_or, take, refl, sym, ap, subst, ◌∙◌, append_assoc, append-nil, flat_map, Result, OnOk, take_all}
 use Rattle.net_core.proofs.Library.{AllByRecursion, flat_map-append, take_more}
 use Rattle.text_kit.{specs.Terms.{Item, Opening, Closing, enclosed, word_of}, proofs.Lemmas.on_ok}
-use Rattle.comment_lines.specs.Comments.{AddsSpaced, HasOneLine, spaced_items}
+use Rattle.report_comments.specs.Comments.{AddsSpaced, HasOneLine, spaced_items}
 
 pub spaced_both : (a b : List Item) → spaced_items (a ++ b) ≡ spaced_items a ++ spaced_items b
 spaced_both [] b = refl

@@ -2,7 +2,7 @@
 use Rattle.std.{proofs.Common.{◌≡◌, ℕ, ◌+◌, ◌%◌, ◌^◌, ◌<◌, ◌==◌, Bool, true, false, not, List, [], ◌∷◌, ◌++◌, decimal, refl, sym, ap, ◌∙◌, arith, append_assoc, append-nil, eqb-true, ne_eqb}, proofs.lemmas.Fmt.decimal_by_steps_wide, proofs.lemmas.List.Folds.list_all-append}
 use Rattle.net_core.{proofs.Library.{AllByRecursion, and_from, and_parts, list_all}, specs.Terms.{IsName, is_word_byte}}
 use Rattle.text_kit.specs.Terms.{Item, Whole, word_of}
-use Rattle.comment_lines.specs.Comments.{AddsSpaced, HasOneLine, IsOneLine, spaced_items}
+use Rattle.report_comments.specs.Comments.{AddsSpaced, HasOneLine, IsOneLine, spaced_items}
 
 abbrev goes_on : ℕ → Bool
 goes_on b = not (b == 10)

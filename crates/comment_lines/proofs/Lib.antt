@@ -1,4 +1,0 @@
-pub mod Lines
-pub mod OneLine
-pub mod Passing
-pub mod Spacing
