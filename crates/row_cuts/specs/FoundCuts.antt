@@ -4,7 +4,7 @@ use Rattle.plan_terms.specs.Terms.{Demand, Caps, Graph, Keeps}
 use Rattle.metric_cut.{specs.Cuts.IsCutOf, specs.declared.cut.Cut.Cut}
 use Rattle.route_law.specs.Terms.{ArePricedSomewhere}
 use Rattle.node_sets.specs.Boundaries.{IsViolatedAt}
-use Rattle.row_prices.specs.PathRows.{ArePricedNumbers}
+use Rattle.row_cuts.specs.PathRows.{ArePricedNumbers}
 
 module _ (g : Graph) (demands : List Demand) (caps : Caps) where
   -- a cut that the capacities violate, by its right side at the demands; its lengths are what the state keeps of priced ones

@@ -1,2 +1,5 @@
 pub mod FoundCuts
 pub mod inner
+pub mod KeyPaths
+pub mod Laws
+pub mod PathRows

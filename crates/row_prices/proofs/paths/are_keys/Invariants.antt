@@ -1,7 +1,0 @@
-use Rattle.plan_terms.specs.Terms.{graph_of}
-use Rattle.row_prices.specs.inner.Tests.{AreKeysBelow}
-use Rattle.row_prices.proofs.paths.are_keys.Given as goal
-
--- the demands so far have keys
-abbrev pub invariant-loop-k : goal.invariant-loop-k
-invariant-loop-k l = AreKeysBelow (graph_of l.graph) l.demands l.keys l.k

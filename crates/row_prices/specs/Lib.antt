@@ -1,4 +1,0 @@
-pub mod inner
-pub mod KeyPaths
-pub mod Laws
-pub mod PathRows
