@@ -12,7 +12,7 @@ use outside_io::Gate;
 use plan_import::lone_plan::{LonePlan, PlannedReport, plan_once};
 use plan_report::write_report;
 use plan_types::Report;
-use separation_texts::separated_line;
+use failure_texts::separated_line;
 use std::alloc::Global;
 use std::sync::Wait;
 use std::thread::Threads;

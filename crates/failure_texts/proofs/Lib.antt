@@ -4,3 +4,5 @@ pub mod Lines
 pub mod Listing
 pub mod Spelling
 pub mod Survived
+pub mod Growing
+pub mod Reaching

@@ -1,3 +1,4 @@
 pub mod FailureTexts
 pub mod Fates
 pub mod inner
+pub mod AllSeparations

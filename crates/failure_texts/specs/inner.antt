@@ -1,2 +1,3 @@
 pub mod FateItems
 pub mod Listings
+pub mod SeparationsSoFar

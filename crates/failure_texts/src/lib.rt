@@ -4,6 +4,10 @@
 mod answer;
 mod comments;
 mod fates;
+mod separation_list;
 mod states;
+mod texts;
 
 pub use answer::{FailureAnswer, failure_list};
+pub use separation_list::separations;
+pub use texts::{put_separations, separated_line};

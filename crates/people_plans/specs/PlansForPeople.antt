@@ -6,7 +6,7 @@ use Rattle.proof_report.{specs.Terms.{whole_report, AreCharged}, specs.ProvedRep
 use Rattle.tree_check.{specs.declared.proof.Proof.Proof, specs.declared.proof.Verdict.Verdict}
 use Rattle.check_answers.{specs.Separations.NamesFirstSeparation, specs.declared.status.Status.Status, specs.declared.status.Status.TheVariants.{BadNetwork, Done, NotSurvivable}}
 use Rattle.failure_states.specs.declared.separations.Separation.{Separation}
-use Rattle.separation_texts.specs.AllSeparations.{AreSeparations, separation_lines}
+use Rattle.failure_texts.specs.AllSeparations.{AreSeparations, separation_lines}
 use Rattle.view_text.{specs.Terms.{IsFirstBlock, IsReportView}, specs.declared.proof.CostProof.CostProof, specs.declared.proof.CostProof.TheVariants.{Cheapest, Above}}
 use Rattle.tree_check.specs.declared.proof.Verdict.TheVariants as verdict
 

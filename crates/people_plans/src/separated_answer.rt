@@ -8,7 +8,7 @@ ghost use Rattle.people_plans.specs.PlansForPeople.{SaysSeparations, separated_w
 use crate::answer::PlanAnswer;
 use check_answers::Status;
 use net_core::{Bytes, Instance, List, Name, NoMemory, StateId};
-use separation_texts::{put_separations, separated_line, separations};
+use failure_texts::{put_separations, separated_line, separations};
 use std::alloc::Global;
 
 /// Appends what is said before the lines of the separations.

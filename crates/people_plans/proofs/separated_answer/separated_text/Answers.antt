@@ -2,7 +2,7 @@ use Rattle.std.proofs.Common.{◌≡◌, ◌∙◌, ℕ, List, [], ◌∷◌, �
 use Rattle.plan_terms.specs.Terms.{case_of}
 use Rattle.plan_report.specs.Terms.{state_name}
 use Rattle.failure_states.specs.declared.separations.Separation.{Separation}
-use Rattle.separation_texts.specs.AllSeparations.{separation_lines}
+use Rattle.failure_texts.specs.AllSeparations.{separation_lines}
 use Rattle.people_plans.specs.PlansForPeople.{separated_words}
 use Rattle.people_plans.proofs.separated_answer.separated_text.Goals as goal
 

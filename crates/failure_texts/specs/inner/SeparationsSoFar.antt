@@ -3,7 +3,7 @@ use Rattle.std.specs.Prelude.{ℕ, ◌≤◌, List, All, AllPairs, Contains, len
 use Rattle.plan_terms.specs.Terms.{Case, Joins, Separates, graph_in}
 use Rattle.short_paths.{specs.DistanceTables.AreAllDistances, specs.declared.distance_table.DistanceTable.DistanceTable}
 use Rattle.failure_states.specs.declared.separations.Separation.{Separation}
-use Rattle.separation_texts.specs.AllSeparations.{ComesBefore, IsEarlier}
+use Rattle.failure_texts.specs.AllSeparations.{ComesBefore, IsEarlier}
 
 -- all separations that come before state s and demand k, in their order
 pub record AreSeparationsBefore (p : Case) (s k : ℕ) (found : List Separation) : Type 0 where

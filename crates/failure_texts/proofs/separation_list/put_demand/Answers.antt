@@ -1,8 +1,8 @@
 use Rattle.std.proofs.Common.{◌∙◌, ◌+◌, List, false, refl, ap, arith, get_or, subst, sym}
 use Rattle.net_core.proofs.Library.{both_ways}
 use Rattle.plan_terms.specs.Terms.{Demand, case_of}
-use Rattle.separation_texts.{specs.inner.SeparationsSoFar.AreSeparationsBefore, proofs.Growing.{passed_before, pushed_before}, proofs.Reaching.{far_separates, separates_far}}
-use Rattle.separation_texts.proofs.separation_list.put_demand.Goals as goal
+use Rattle.failure_texts.{specs.inner.SeparationsSoFar.AreSeparationsBefore, proofs.Growing.{passed_before, pushed_before}, proofs.Reaching.{far_separates, separates_far}}
+use Rattle.failure_texts.proofs.separation_list.put_demand.Goals as goal
 
 pub returns-in_ok-push : goal.returns-in_ok-push
 returns-in_ok-push c =

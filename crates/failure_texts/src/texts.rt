@@ -1,7 +1,7 @@
 ghost use Rattle.std.specs.Prelude.{◌≡◌, ◌++◌, ◌∷◌, [], IfOk, OnOk, codes, decimal};
 ghost use Rattle.plan_terms.specs.Terms.{case_of};
 ghost use Rattle.plan_report.specs.Terms.{state_name};
-ghost use Rattle.separation_texts.specs.AllSeparations.{separation_line, separation_lines, state_words};
+ghost use Rattle.failure_texts.specs.AllSeparations.{separation_line, separation_lines, state_words};
 
 use failure_states::Separation;
 use net_core::{Bytes, Instance, List, NoMemory, StateId, States};

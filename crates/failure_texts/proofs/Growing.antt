@@ -3,7 +3,7 @@ use Rattle.std.proofs.Common.{◌≡◌, ◌≢◌, ℕ, ◌+◌, ◌≤◌, ◌
 use Rattle.net_core.proofs.Library.{All-weaker, all_pairs_push, cases_eq, slice_get_within, All-push, Contains-append_left, Contains-append_right, Contains-get_or}
 use Rattle.plan_terms.specs.Terms.{Case, Separates}
 use Rattle.failure_states.specs.declared.separations.Separation.{Separation}
-use Rattle.separation_texts.{specs.AllSeparations.{AreSeparations, ComesBefore, IsEarlier}, specs.inner.SeparationsSoFar.AreSeparationsBefore}
+use Rattle.failure_texts.{specs.AllSeparations.{AreSeparations, ComesBefore, IsEarlier}, specs.inner.SeparationsSoFar.AreSeparationsBefore}
 
 abbrev separation_at : ℕ → ℕ → Separation
 separation_at s k = record { state = record { 0 = s }; demand = k }

@@ -1,7 +1,7 @@
 ghost use Rattle.std.specs.Prelude.{◌≡◌, ◌+◌, ◌<◌, ◌↔◌, IfOk, IsTrue, None, OnOk, length};
 ghost use Rattle.plan_terms.specs.Terms.{case_of};
 ghost use Rattle.short_paths.specs.DistanceTables.{distance_at};
-ghost use Rattle.separation_texts.{specs.AllSeparations.AreSeparations, specs.inner.SeparationsSoFar.{AreSeparationsBefore, IsTableOf}};
+ghost use Rattle.failure_texts.{specs.AllSeparations.AreSeparations, specs.inner.SeparationsSoFar.{AreSeparationsBefore, IsTableOf}};
 
 use failure_states::Separation;
 use net_core::{Demand, Instance, Lengths, List, NoMemory, StateId};

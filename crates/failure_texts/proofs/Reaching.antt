@@ -3,7 +3,7 @@ use Rattle.std.proofs.Common.{◌≡◌, ℕ, ◌<◌, List, Option, None, Some,
 use Rattle.net_core.proofs.Library.{slice_get_read}
 use Rattle.plan_terms.specs.Terms.{AreApart, AreDemands, Case, Demand, IsDemand, IsDistance, Joins, Separates, graph_in}
 use Rattle.short_paths.{specs.DistanceTables.distance_at, specs.declared.distance_table.DistanceTable.DistanceTable}
-use Rattle.separation_texts.specs.inner.SeparationsSoFar.{IsTableOf}
+use Rattle.failure_texts.specs.inner.SeparationsSoFar.{IsTableOf}
 
 -- nodes that are apart have no distance
 apart_none : (joins : ℕ → ℕ → ℕ → Type 0) (lengths : List ℕ) (a b : ℕ) (o : Option ℕ) → IsDistance joins lengths a b o → AreApart joins a b → o ≡ None

@@ -1,6 +1,6 @@
 use Rattle.plan_terms.specs.Terms.{case_of}
-use Rattle.separation_texts.specs.inner.SeparationsSoFar.{AreSeparationsBefore}
-use Rattle.separation_texts.proofs.separation_list.separations.Given as goal
+use Rattle.failure_texts.specs.inner.SeparationsSoFar.{AreSeparationsBefore}
+use Rattle.failure_texts.proofs.separation_list.separations.Given as goal
 
 -- those of the states so far
 abbrev pub invariant-loop-s : goal.invariant-loop-s

@@ -1,2 +1,0 @@
-pub mod AllSeparations
-pub mod inner
