@@ -4,3 +4,4 @@ mod Plans
 pub mod RowLists
 mod Rounding
 mod Sums
+pub mod Steps

@@ -6,3 +6,4 @@ pub mod Rows
 pub mod Sound
 pub mod Terms
 pub mod inner
+pub mod FlowRows

@@ -5,3 +5,4 @@ pub use Rattle.plan_view.specs.Reroutes.{brought_beyond, brought, goes_as, rerou
 pub use Rattle.plan_view.specs.Rounding.{IsCeiling, IsNearest}
 pub use Rattle.plan_view.specs.Rows.{AreLinkRows, AreLoadRows, AreStateRows, IsLinkRow, IsLoadRow, IsPlanSummary, IsStateRow, failed_links}
 pub use Rattle.plan_view.specs.Sound.{IsSoundPlan}
+pub use Rattle.plan_view.specs.FlowRows.{end_beyond, flow_row, nodes_along, rounded_over, start_of}

@@ -3,6 +3,7 @@
 
 mod fractions;
 mod greatest;
+mod link_flows;
 mod links;
 mod loads;
 mod parts;
@@ -12,6 +13,7 @@ mod state_loads;
 mod states;
 mod summary;
 
+pub use link_flows::{FlowRow, flow_rows};
 pub use links::link_rows;
 pub use loads::load_of;
 pub use parts::gap_of;

@@ -1,9 +1,8 @@
 -- the fields of the rows of links, states and flows: their numbers are those of the rows
 use Rattle.std.{specs.Prelude.{ℕ, ◌/◌, ◌%◌, List, [], ◌∷◌, ◌++◌, Option, None, Some, codes, decimal, map, slice_get}, specs.Option.option_map_or}
-use Rattle.flow_rows.specs.declared.rows.FlowRow.{FlowRow}
+use Rattle.plan_view.{specs.declared.link_flows.FlowRow.FlowRow, specs.declared.rows.LinkRow.LinkRow, specs.declared.rows.StateRow.StateRow}
 use Rattle.plan_report.specs.Terms.{KnownNames, demand_name, node_name, state_name}
 use Rattle.plan_terms.specs.Terms.{Demand, Link, LinkId, NodeId, link_name}
-use Rattle.plan_view.{specs.declared.rows.LinkRow.LinkRow, specs.declared.rows.StateRow.StateRow}
 use Rattle.text_kit.specs.Terms.{money_word}
 use Rattle.view_cells.specs.Terms.{joined_words, kinds_words}
 

@@ -1,5 +1,5 @@
 ghost use Rattle.std.specs.Prelude.{◌≡◌, ◌+◌, ◌++◌, ◌∷◌, [], IfOk, OnOk, length, map};
-ghost use Rattle.flow_rows.specs.Terms.{flow_row};
+ghost use Rattle.plan_view.specs.Terms.{flow_row};
 ghost use Rattle.plan_report.specs.Terms.{demand_name, known_of, state_name};
 ghost use Rattle.plan_terms.specs.Terms.{case_of};
 ghost use Rattle.text_kit.specs.Terms.{money_word};
@@ -7,7 +7,7 @@ ghost use Rattle.view_csv.{specs.Fields.{ends_fields, flow_fields, link_names, n
 
 use crate::names::{push_links, push_nodes};
 use crate::sheet::{PlanNumber, numbered};
-use flow_rows::{FlowRow, flow_rows};
+use plan_view::{FlowRow, flow_rows};
 use net_core::{Demand, Instance, List, Name, Network, NoMemory, Routing, StateId};
 use plan_report::{demand_name, node_name, state_name};
 use plan_types::Plan;

@@ -1,9 +1,8 @@
 -- how many cells rows have
 use Rattle.std.proofs.Common.{ℕ, ◌≤◌, List, [], ◌∷◌, Option, None, Some, All, arith, length, map, slice_get}
 use Rattle.net_core.proofs.Library.{All-from_recursion, option_map_or}
-use Rattle.flow_rows.specs.declared.rows.FlowRow.{FlowRow}
+use Rattle.plan_view.{specs.declared.link_flows.FlowRow.FlowRow, specs.declared.rows.LoadRow.LoadRow}
 use Rattle.plan_terms.specs.Terms.{Demand, Link, Places}
-use Rattle.plan_view.specs.declared.rows.LoadRow.{LoadRow}
 use Rattle.view_text.proofs.Few.{each_fits, fits}
 use Rattle.view_state.specs.StateTables.{load_cells, load_heads, loaded_cells, path_cells, path_heads}
 

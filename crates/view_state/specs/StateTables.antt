@@ -1,9 +1,8 @@
 -- the cells of what links carry in a state, and of the paths that demands take there
 use Rattle.std.{specs.Prelude.{ℕ, List, [], ◌∷◌, codes, map, slice_get}, specs.Option.option_map_or}
-use Rattle.flow_rows.specs.declared.rows.FlowRow.{FlowRow}
+use Rattle.plan_view.{specs.declared.link_flows.FlowRow.FlowRow, specs.declared.rows.LoadRow.LoadRow}
 use Rattle.plan_report.specs.Terms.{demand_name, node_name}
 use Rattle.plan_terms.specs.Terms.{Demand, Link, Places}
-use Rattle.plan_view.specs.declared.rows.LoadRow.{LoadRow}
 use Rattle.text_kit.specs.Terms.{money_word}
 use Rattle.view_cells.specs.Terms.{joined_words, per_cent}
 

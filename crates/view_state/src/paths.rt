@@ -2,7 +2,7 @@ ghost use Rattle.std.{specs.Prelude.{◌≡◌, ◌≤◌, ◌++◌, ◌∷◌, 
 ghost use Rattle.view_cells.specs.Terms.{HasRows, IsApart};
 ghost use Rattle.view_state.specs.StateTables.{path_cells, path_heads};
 
-use flow_rows::FlowRow;
+use plan_view::FlowRow;
 use net_core::{Bytes, Demand, List, Network, NoMemory};
 use plan_report::demand_name;
 use std::alloc::Global;

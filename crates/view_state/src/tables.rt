@@ -1,13 +1,12 @@
 ghost use Rattle.std.specs.Prelude.{◌≡◌, ◌≤◌, IfOk, OnOk, length, map};
-ghost use Rattle.flow_rows.specs.Terms.{flow_row};
+ghost use Rattle.plan_view.specs.Terms.{flow_row, IsSoundPlan};
 ghost use Rattle.plan_terms.specs.Terms.{case_of};
-ghost use Rattle.plan_view.specs.Terms.{IsSoundPlan};
 ghost use Rattle.view_cells.specs.Terms.{AddsText};
 ghost use Rattle.view_state.specs.StateViews.{HasStateTables, ShowsStateRows, state_flows};
 
 use crate::loads::loads_text;
 use crate::paths::paths_text;
-use flow_rows::{FlowRow, flow_rows};
+use plan_view::{FlowRow, flow_rows};
 use net_core::{Bytes, Instance, List, NoMemory, Routing};
 use plan_types::Plan;
 use plan_view::{LoadRow, load_rows};

@@ -1,5 +1,5 @@
 use Rattle.std.proofs.Common.{◌++◌, List, ap, map, ℕ, ◌∙◌}
-use Rattle.flow_rows.specs.declared.rows.FlowRow.{FlowRow}
+use Rattle.plan_view.specs.declared.link_flows.FlowRow.{FlowRow}
 use Rattle.plan_report.specs.Terms.{known_to}
 use Rattle.plan_terms.specs.Terms.{case_of}
 use Rattle.text_kit.proofs.Lemmas.{on_ok}

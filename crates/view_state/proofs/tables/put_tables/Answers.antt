@@ -1,7 +1,6 @@
 use Rattle.std.proofs.Common.{List, subst, ◌∙◌}
-use Rattle.flow_rows.specs.declared.rows.FlowRow.{FlowRow}
+use Rattle.plan_view.{specs.declared.link_flows.FlowRow.FlowRow, specs.declared.rows.LoadRow.LoadRow}
 use Rattle.plan_terms.specs.Terms.{case_of}
-use Rattle.plan_view.specs.declared.rows.LoadRow.{LoadRow}
 use Rattle.text_kit.proofs.Lemmas.{on_ok}
 use Rattle.view_cells.specs.Terms.{AddsText}
 use Rattle.view_state.{specs.StateViews.ShowsStateRows, proofs.StateRows.tables_shown}

@@ -2,7 +2,7 @@
 use Rattle.std.proofs.Common.{◌≡◌, ℕ, ◌+◌, ◌<◌, List, [], ◌∷◌, ◌++◌, ap, get_or, length, refl, sym, take, ◌∙◌}
 use Rattle.net_core.proofs.Library.{take_more}
 use Rattle.plan_terms.specs.Terms.{Link, LinkId, NodeId}
-use Rattle.flow_rows.{specs.FlowRows.{end_beyond, nodes_along}, specs.inner.Ends.node_after}
+use Rattle.plan_view.{specs.FlowRows.{end_beyond, nodes_along}, specs.inner.Ends.node_after}
 
 after_one : (links : List Link) (n : NodeId) (es : List LinkId) (e : LinkId)
     → node_after links n (es ++ e ∷ []) ≡ end_beyond links (node_after links n es) e

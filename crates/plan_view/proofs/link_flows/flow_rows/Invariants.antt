@@ -1,6 +1,6 @@
 use Rattle.std.proofs.Common.{◌≡◌, map, take}
-use Rattle.flow_rows.specs.FlowRows.{flow_row}
-use Rattle.flow_rows.proofs.rows.flow_rows.Given as goal
+use Rattle.plan_view.specs.FlowRows.{flow_row}
+use Rattle.plan_view.proofs.link_flows.flow_rows.Given as goal
 
 -- the rows so far
 abbrev pub invariant-loop-flow : goal.invariant-loop-flow

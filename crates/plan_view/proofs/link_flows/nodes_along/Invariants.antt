@@ -1,6 +1,6 @@
 use Rattle.std.proofs.Common.{◌≡◌, take}
-use Rattle.flow_rows.{specs.FlowRows.nodes_along, specs.inner.Ends.node_after}
-use Rattle.flow_rows.proofs.rows.nodes_along.Given as goal
+use Rattle.plan_view.{specs.FlowRows.nodes_along, specs.inner.Ends.node_after}
+use Rattle.plan_view.proofs.link_flows.nodes_along.Given as goal
 
 -- the nodes so far, and the last of them
 abbrev pub invariant-loop-e : goal.invariant-loop-e

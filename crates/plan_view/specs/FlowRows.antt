@@ -1,7 +1,7 @@
 -- what people read of a flow
 use Rattle.std.{specs.Prelude.{ℕ, ◌+◌, ◌/◌, ◌%◌, List, [], ◌∷◌, cond, min, nat_eq, slice_get}, specs.Option.option_map_or}
 use Rattle.plan_terms.specs.Terms.{Demand, Flow, Link, LinkId, NodeId}
-use Rattle.flow_rows.specs.declared.rows.FlowRow.{FlowRow}
+use Rattle.plan_view.specs.declared.link_flows.FlowRow.{FlowRow}
 
 -- the end of link e that isn't n; where there is no such link, n
 abbrev pub end_beyond : List Link → NodeId → LinkId → NodeId

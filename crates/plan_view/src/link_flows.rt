@@ -1,5 +1,5 @@
 ghost use Rattle.std.specs.Prelude.{◌≡◌, IfOk, map};
-ghost use Rattle.flow_rows.specs.FlowRows.{end_beyond, flow_row, nodes_along, rounded_over, start_of};
+ghost use Rattle.plan_view.specs.FlowRows.{end_beyond, flow_row, nodes_along, rounded_over, start_of};
 
 use net_core::{Copied, Demand, Flow, Link, LinkId, List, NoMemory, NodeId, Path, Routing};
 use std::alloc::Global;

@@ -1,5 +1,5 @@
-use Rattle.flow_rows.proofs.Steps.{after_more, along_more}
-use Rattle.flow_rows.proofs.rows.nodes_along.Goals as goal
+use Rattle.plan_view.proofs.Steps.{after_more, along_more}
+use Rattle.plan_view.proofs.link_flows.nodes_along.Goals as goal
 
 pub loop-e-preserved : goal.loop-e-preserved
 loop-e-preserved c = (

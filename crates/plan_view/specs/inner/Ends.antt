@@ -1,7 +1,7 @@
 -- where a path ends
 use Rattle.std.specs.Prelude.{List, [], ◌∷◌}
 use Rattle.plan_terms.specs.Terms.{Link, LinkId, NodeId}
-use Rattle.flow_rows.specs.FlowRows.{end_beyond}
+use Rattle.plan_view.specs.FlowRows.{end_beyond}
 
 -- the node that a path from n reaches
 abbrev pub node_after : List Link → NodeId → List LinkId → NodeId

@@ -1,3 +1,0 @@
-pub mod FlowRows
-pub mod Terms
-pub mod inner
