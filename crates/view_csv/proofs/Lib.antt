@@ -1,2 +1,3 @@
 pub mod PlanRows
 pub mod StateFlows
+mod Written

@@ -1,11 +1,10 @@
 -- rows of outcomes, one after another
 use Rattle.std.proofs.Common.{◌≡◌, ℕ, ◌+◌, ◌≤◌, ◌<◌, List, [], ◌∷◌, ◌++◌, append-nil, append_assoc, ap, get_or, length, refl, subst, sym, take, take_all, ◌∙◌}
 use Rattle.net_core.proofs.Library.{take_more}
-use Rattle.csv_rows.specs.CommaSeparated.{csv_text}
 use Rattle.plan_terms.specs.Terms.{Case, StateId}
 use Rattle.plan_report.specs.Terms.{Outcome, Unsurvivable}
 use Rattle.view_cells.specs.Terms.{AddsText}
-use Rattle.view_csv.{specs.Columns.sheet_columns, specs.Sheets.{AddsRows, AreOutcomeRows, IsSheet, ShowsOutcome}, specs.declared.sheet.Sheet.Sheet}
+use Rattle.view_csv.{specs.CommaSeparated.csv_text, specs.Columns.sheet_columns, specs.Sheets.{AddsRows, AreOutcomeRows, IsSheet, ShowsOutcome}, specs.declared.sheet.Sheet.Sheet}
 
 pub none_shown : (sheet : Sheet) (p : Case) (caller serial version position : ℕ) (state : StateId) (demand : List ℕ) (rows : List (List (List ℕ)))
     → AddsRows (ShowsOutcome sheet p (Unsurvivable caller serial version position state demand)) rows rows

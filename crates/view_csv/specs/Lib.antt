@@ -2,3 +2,4 @@ pub mod Columns
 pub mod Fields
 pub mod Sheets
 pub mod Terms
+pub mod CommaSeparated

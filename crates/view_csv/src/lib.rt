@@ -10,8 +10,10 @@ mod flows;
 mod links;
 mod names;
 mod outcomes;
+mod rows;
 pub mod sheet;
 mod states;
 
 pub use outcomes::put_sheet;
+pub use rows::put_csv;
 pub use sheet::Sheet;

@@ -8,7 +8,7 @@ use crate::flows::put_flows;
 use crate::links::put_links;
 use crate::sheet::{PlanNumber, Sheet, sheet_columns};
 use crate::states::put_states;
-use csv_rows::put_csv;
+use crate::put_csv;
 use net_core::{Bytes, Instance, List, NoMemory, Problem};
 use plan_types::{Outcome, Plan};
 use std::alloc::Global;

@@ -1,6 +1,6 @@
 ghost use Rattle.std.specs.Prelude.{◌≡◌, ◌++◌, IfOk, OnOk};
 ghost use Rattle.csv.{specs.Records.fields_of, specs.Writing.{default_writer, row_text}};
-ghost use Rattle.csv_rows.specs.CommaSeparated.{csv_text};
+ghost use Rattle.view_csv.specs.CommaSeparated.{csv_text};
 
 use csv::{ByteRecord, WriterBuilder};
 use net_core::{Bytes, List, NoMemory};

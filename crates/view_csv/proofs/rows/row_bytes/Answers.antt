@@ -1,7 +1,7 @@
 use Rattle.std.proofs.Common.{◌≢◌, ◌∙◌, sym}
-use Rattle.csv_rows.proofs.Written.{on_no_err}
+use Rattle.view_csv.proofs.Written.{on_no_err}
 use Rattle.csv.specs.declared.writer.QuoteStyle.TheVariants as style
-use Rattle.csv_rows.proofs.rows.row_bytes.Goals as goal
+use Rattle.view_csv.proofs.rows.row_bytes.Goals as goal
 
 pub returns-in-Ok : goal.returns-in-Ok
 returns-in-Ok c =

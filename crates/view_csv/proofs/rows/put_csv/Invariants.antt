@@ -1,6 +1,6 @@
 use Rattle.std.proofs.Common.{◌≡◌, ◌++◌, take}
-use Rattle.csv_rows.specs.CommaSeparated.{csv_text}
-use Rattle.csv_rows.proofs.rows.put_csv.Given as goal
+use Rattle.view_csv.specs.CommaSeparated.{csv_text}
+use Rattle.view_csv.proofs.rows.put_csv.Given as goal
 
 -- the lines so far
 abbrev pub invariant-loop-row : goal.invariant-loop-row

@@ -1,6 +1,6 @@
 use Rattle.std.proofs.Common.{◌≡◌, [], take}
 use Rattle.csv.specs.Records.{fields_of, partial_of}
-use Rattle.csv_rows.proofs.rows.fields_of_row.Given as goal
+use Rattle.view_csv.proofs.rows.fields_of_row.Given as goal
 
 -- the fields so far, and no field begun
 abbrev pub invariant-loop-field : goal.invariant-loop-field
