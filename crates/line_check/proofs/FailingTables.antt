@@ -1,9 +1,8 @@
 -- able counts meet a failing table line
 use Rattle.std.proofs.Common.{◌≡◌, ℕ, zero, suc, ◌+◌, ◌*◌, ◌<◌, ◌≤◌, ◌⊎◌, inl, inr, ⊎_elim, Bool, true, false, List, [], ◌∷◌, length, length-take, map, slice_index, take, zip, refl, ap, subst, sym, ◌∙◌, arith, if◌then◌else◌, nat_eq, eqb-true, mul-le-mul_left}
 use Rattle.net_core.proofs.Library.{cases_Bool, cases_lt, get_or-map, length-map, slice_get_past, sum_by-cons, option_map_or}
-use Rattle.cover_table.specs.CoverWeights.{CoversNeed, IsLeastWeight, total_of_kinds}
 use Rattle.plan_terms.specs.Terms.{AreCounts, Case, Listed, fails, names_link}
-use Rattle.line_check.{specs.Inequalities.{MeetsLine, entry, module_number, need_of, over_modules}, specs.Laws.surviving_counts, specs.Lines.{AreKinds, IsSpared, IsTableOver, NeverFails, capped, weight_of}, specs.declared.inequality.Inequality.Inequality, specs.declared.line.TableKind.TheVariants.Failing, proofs.OverModules.over-le, proofs.KindWeights.{over_gap, over_some, table_entry, used, used_weighs, weight_at}, proofs.PlainTables.{table_weighs, used_covers}}
+use Rattle.line_check.{specs.CoverWeights.{CoversNeed, IsLeastWeight, total_of_kinds}, specs.Inequalities.{MeetsLine, entry, module_number, need_of, over_modules}, specs.Laws.surviving_counts, specs.Lines.{AreKinds, IsSpared, IsTableOver, NeverFails, capped, weight_of}, specs.declared.inequality.Inequality.Inequality, specs.declared.line.TableKind.TheVariants.Failing, proofs.OverModules.over-le, proofs.KindWeights.{over_gap, over_some, table_entry, used, used_weighs, weight_at}, proofs.PlainTables.{table_weighs, used_covers}}
 
 -- ---- what is left in a state
 

@@ -1,9 +1,8 @@
 -- weights by kinds, and how much is used of each kind
 use Rattle.std.proofs.Common.{◌≡◌, ℕ, zero, suc, ◌+◌, ◌*◌, ◌<◌, ◌≤◌, ⊎_elim, true, false, eq-eqb, ne_eqb, List, [], ◌∷◌, length, map, min, slice_index, zip, refl, ap, subst, sym, ◌∙◌, arith, if◌then◌else◌, nat_eq, eqb-true}
 use Rattle.net_core.proofs.Library.{cases_Bool, cases_lt, get_or-map-range_with_len, range_with_len, sum_by-cons, below-le}
-use Rattle.cover_table.specs.CoverWeights.{total_of_kinds}
 use Rattle.plan_terms.specs.Terms.{Link, sum_below}
-use Rattle.line_check.{specs.Inequalities.{MeetsLine, entry, module_number, need_of, over_modules, table_of}, specs.Lines.{capped, weight_of}, specs.declared.inequality.Inequality.Inequality, proofs.OverModules.{over-plus, over-same, over-times}}
+use Rattle.line_check.{specs.CoverWeights.total_of_kinds, specs.Inequalities.{MeetsLine, entry, module_number, need_of, over_modules, table_of}, specs.Lines.{capped, weight_of}, specs.declared.inequality.Inequality.Inequality, proofs.OverModules.{over-plus, over-same, over-times}}
 
 -- ---- tables of modules
 

@@ -18,3 +18,5 @@ pub mod RisingKinds
 pub mod SameTables
 pub mod KindsSoFar
 pub mod TableParts
+pub mod Covers
+pub mod Rows

@@ -1,9 +1,8 @@
 -- able counts meet a plain table line
 use Rattle.std.proofs.Common.{◌≡◌, ℕ, ◌*◌, ◌<◌, ◌≤◌, ⊎_elim, List, length, map, slice_index, zip, refl, ap, subst, sym, ◌∙◌, arith}
 use Rattle.net_core.proofs.Library.{Contains-get_or, cases_lt, get_or_default, length-map}
-use Rattle.cover_table.specs.CoverWeights.{CoversNeed}
 use Rattle.plan_terms.specs.Terms.{AreCounts, Case, Link}
-use Rattle.line_check.{specs.Inequalities.{MeetsLine, entry, module_number, need_of, over_modules}, specs.Lines.{AreKinds, IsTableOver, capped, table_line, weight_of}, specs.declared.inequality.Inequality.Inequality, specs.declared.line.TableKind.TheVariants.Plain, proofs.OverModules.over-same, proofs.KindWeights.{capped_meets, table_entry, used, used_weighs, weight_at, weight_none}}
+use Rattle.line_check.{specs.CoverWeights.CoversNeed, specs.Inequalities.{MeetsLine, entry, module_number, need_of, over_modules}, specs.Lines.{AreKinds, IsTableOver, capped, table_line, weight_of}, specs.declared.inequality.Inequality.Inequality, specs.declared.line.TableKind.TheVariants.Plain, proofs.OverModules.over-same, proofs.KindWeights.{capped_meets, table_entry, used, used_weighs, weight_at, weight_none}}
 
 -- by its own kinds, a module weighs what it gives
 own_weight : (links : List Link) (over : Inequality) (kinds : List ℕ) → AreKinds links over kinds → (e m : ℕ) → e < length links → m < module_number links e

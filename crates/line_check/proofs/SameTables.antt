@@ -1,8 +1,7 @@
 -- one table line of these weights
 use Rattle.std.proofs.Common.{◌≡◌, ℕ, ◌+◌, ◌≤◌, ⊎_elim, List, slice_index, take, ap, subst, sym, ◌∙◌, arith}
-use Rattle.cover_table.specs.CoverWeights.{IsLeastWeight}
 use Rattle.plan_terms.specs.Terms.{Case}
-use Rattle.line_check.{specs.Inequalities.need_of, specs.Lines.{IsFailedWeight, IsTableOver, IsTableRight, IsWeightWithout, table_line}, specs.declared.inequality.Inequality.Inequality, specs.declared.line.TableKind.TableKind, specs.declared.line.TableKind.TheVariants.{Plain, Failing}, proofs.RisingKinds.kinds_same}
+use Rattle.line_check.{specs.CoverWeights.IsLeastWeight, specs.Inequalities.need_of, specs.Lines.{IsFailedWeight, IsTableOver, IsTableRight, IsWeightWithout, table_line}, specs.declared.inequality.Inequality.Inequality, specs.declared.line.TableKind.TableKind, specs.declared.line.TableKind.TheVariants.{Plain, Failing}, proofs.RisingKinds.kinds_same}
 
 least_same : (sizes weights : List ℕ) (need a b : ℕ) → IsLeastWeight sizes weights need a → IsLeastWeight sizes weights need b → a ≡ b
 least_same sizes weights need a b is_a is_b = omega (arith, is_a.weight, is_b.weight, is_a.at_most is_b.numbers is_b.cover, is_b.at_most is_a.numbers is_a.cover)

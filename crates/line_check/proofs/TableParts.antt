@@ -1,9 +1,8 @@
 -- the parts of table lines
 use Rattle.std.proofs.Common.{◌≡◌, ℕ, zero, suc, ◌+◌, ◌<◌, ◌≤◌, ⊎_elim, ◌↔◌, Bool, true, false, add-one, ne_eqb, List, [], ◌∷◌, drop, length, min, slice_index, zip, refl, ap, subst, arith}
 use Rattle.net_core.proofs.Library.{both_ways, cases_lt}
-use Rattle.cover_table.specs.CoverWeights.{CoversNeed}
 use Rattle.plan_terms.specs.Terms.{Case, Link}
-use Rattle.line_check.{specs.Inequalities.{module_number, need_of}, specs.Lines.{AreKinds, IsTableOver, IsTableRight, IsWeightWithout, NeverFails, capped, weight_of}, specs.declared.inequality.Inequality.Inequality, specs.declared.line.TableKind.TableKind, specs.declared.line.TableKind.TheVariants.{Plain, Failing}, specs.inner.Tables.GivesOn, proofs.RisingKinds.kinds_same}
+use Rattle.line_check.{specs.CoverWeights.CoversNeed, specs.Inequalities.{module_number, need_of}, specs.Lines.{AreKinds, IsTableOver, IsTableRight, IsWeightWithout, NeverFails, capped, weight_of}, specs.declared.inequality.Inequality.Inequality, specs.declared.line.TableKind.TableKind, specs.declared.line.TableKind.TheVariants.{Plain, Failing}, specs.inner.Tables.GivesOn, proofs.RisingKinds.kinds_same}
 
 -- ---- the weight of a kind
 

@@ -4,3 +4,4 @@ pub mod Laws
 pub mod Testing
 pub mod Terms
 pub mod inner
+pub mod CoverWeights

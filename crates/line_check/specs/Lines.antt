@@ -2,8 +2,7 @@
 use Rattle.std.{specs.Prelude.{◌≡◌, ℕ, zero, suc, ◌+◌, ◌-◌, ◌/◌, ◌^◌, ◌≤◌, ◌<◌, ◌⊎◌, ◌↔◌, Bool, true, false, if◌then◌else◌, nat_eq, List, [], ◌∷◌, ◌++◌, Some, All, Contains, length, map, min, slice_get, slice_index, take, zip}, proofs.Common.{inl, inr}}
 use Rattle.plan_terms.specs.Terms.{Case, CutLine, IsCut, Link, fails}
 use Rattle.master_bound.specs.declared.answer.Multiplier.{Multiplier}
-use Rattle.cover_table.specs.CoverWeights.{IsLeastWeight}
-use Rattle.line_check.{specs.Inequalities.{AreNamedBy, WeightedLine, entry, line_of_cut, module_number, module_price, need_of, summed_need, table_of}, specs.declared.inequality.Inequality.Inequality, specs.declared.line.Line.Line, specs.declared.line.Line.TheVariants.{Divided, Table}, specs.declared.line.TableKind.TableKind, specs.declared.line.TableKind.TheVariants.{Plain, Failing}}
+use Rattle.line_check.{specs.CoverWeights.IsLeastWeight, specs.Inequalities.{AreNamedBy, WeightedLine, entry, line_of_cut, module_number, module_price, need_of, summed_need, table_of}, specs.declared.inequality.Inequality.Inequality, specs.declared.line.Line.Line, specs.declared.line.Line.TheVariants.{Divided, Table}, specs.declared.line.TableKind.TableKind, specs.declared.line.TableKind.TheVariants.{Plain, Failing}}
 
 -- ---- divided lines (Chvátal and Gomory's rounding)
 

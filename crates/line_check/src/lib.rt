@@ -13,6 +13,7 @@ mod kinds;
 pub mod law;
 pub mod line;
 mod sums;
+mod table;
 mod tables;
 pub mod tested_lines;
 
@@ -20,4 +21,5 @@ pub use inequality::Inequality;
 pub use line::{Line, TableKind};
 pub use master_bound::Multiplier;
 pub use sums::{line_in, module_price, summed_need, times};
+pub use table::least_weights;
 pub use tested_lines::Tested;

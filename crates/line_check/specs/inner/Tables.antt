@@ -1,8 +1,7 @@
 -- what the code of table lines has so far
 use Rattle.std.specs.Prelude.{◌≡◌, ◌↔◌, ℕ, ◌+◌, ◌<◌, ◌≤◌, List, Contains, length, slice_index, take}
-use Rattle.cover_table.specs.CoverWeights.{IsLeastWeight}
 use Rattle.plan_terms.specs.Terms.{Link}
-use Rattle.line_check.{specs.Inequalities.module_number, specs.Lines.{GivesSome, capped}, specs.declared.inequality.Inequality.Inequality}
+use Rattle.line_check.{specs.CoverWeights.IsLeastWeight, specs.Inequalities.module_number, specs.Lines.{GivesSome, capped}, specs.declared.inequality.Inequality.Inequality}
 
 -- some of the first modules of a link gives this number
 abbrev pub GivesOn : Inequality → ℕ → ℕ → ℕ → Type 0

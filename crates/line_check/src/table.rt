@@ -1,5 +1,5 @@
 ghost use Rattle.std.specs.Prelude.{◌≡◌, ℕ, ◌+◌, ◌<◌, ◌≤◌, ◌^◌, All, IfOk, length, slice_index, take};
-ghost use Rattle.cover_table.{specs.CoverWeights.IsLeastWeight, specs.inner.Rows.IsNextRow};
+ghost use Rattle.line_check.{specs.CoverWeights.IsLeastWeight, specs.inner.Rows.IsNextRow};
 
 use net_core::{List, NoMemory};
 use std::alloc::Global;

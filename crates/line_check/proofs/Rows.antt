@@ -1,7 +1,7 @@
 -- rows of a table of least weights
 use Rattle.std.proofs.Common.{◌≡◌, ℕ, zero, suc, ◌+◌, ◌-◌, ◌*◌, ◌<◌, ◌≤◌, ◌^◌, ⊎_elim, List, [], ◌∷◌, ◌++◌, length, length-append, length-take, slice_index, take, subst, sym, arith}
 use Rattle.net_core.proofs.Library.{cases_lt, get_or_append_left, get_or_push, take_more}
-use Rattle.cover_table.{specs.CoverWeights.IsLeastWeight, specs.inner.Rows.{AreCoverBounds, IsCoverBound, IsNextRow}, proofs.Covers.{bound_more, least_bound, nothing_bounds}}
+use Rattle.line_check.{specs.CoverWeights.IsLeastWeight, specs.inner.Rows.{AreCoverBounds, IsCoverBound, IsNextRow}, proofs.Covers.{bound_more, least_bound, nothing_bounds}}
 
 -- a row's entry bounds the covers of its place, and is low
 record IsLowBound (sizes weights : List ℕ) (r bound : ℕ) : Type 0 where

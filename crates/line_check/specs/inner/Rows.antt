@@ -1,6 +1,6 @@
 -- rows of a table of least weights: one for each need, from 0 on
 use Rattle.std.specs.Prelude.{◌≡◌, ℕ, ◌+◌, ◌-◌, ◌<◌, ◌≤◌, ◌^◌, ◌⊎◌, List, length, min, slice_index}
-use Rattle.cover_table.specs.CoverWeights.{CoversNeed, total_of_kinds}
+use Rattle.line_check.specs.CoverWeights.{CoversNeed, total_of_kinds}
 
 -- the first entries of the row after a row, by one kind more
 pub record IsNextFront (row : List ℕ) (size weight : ℕ) (next : List ℕ) : Type 0 where

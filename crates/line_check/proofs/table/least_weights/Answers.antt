@@ -1,6 +1,6 @@
 use Rattle.std.proofs.Common.{◌≡◌, ◌+◌, [], ◌∷◌, ◌++◌, ◌∙◌, ap, arith, length, length-append, slice_index, subst, sym, take}
-use Rattle.cover_table.{specs.CoverWeights.IsLeastWeight, specs.inner.Rows.IsNextRow, proofs.Rows.{IsStep, bounds_more, least_at, listed_more}}
-use Rattle.cover_table.proofs.table.least_weights.Goals as goal
+use Rattle.line_check.{specs.CoverWeights.IsLeastWeight, specs.inner.Rows.IsNextRow, proofs.Rows.{IsStep, bounds_more, least_at, listed_more}}
+use Rattle.line_check.proofs.table.least_weights.Goals as goal
 
 pub loop-k-preserved : goal.loop-k-preserved
 loop-k-preserved c =

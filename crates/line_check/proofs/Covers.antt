@@ -1,7 +1,7 @@
 -- covers by one kind more
 use Rattle.std.proofs.Common.{◌≡◌, ℕ, zero, suc, ◌+◌, ◌-◌, ◌*◌, ◌<◌, ◌≤◌, ◌^◌, ◌⊎◌, inl, inr, ⊎_elim, List, [], ◌∷◌, ◌++◌, length, length-append, map, min, zip, refl, ap, subst, sym, arith}
 use Rattle.net_core.proofs.Library.{cases_lt, length-map, sum_by-cons}
-use Rattle.cover_table.{specs.CoverWeights.{CoversNeed, IsLeastWeight, total_of_kinds}, specs.inner.Rows.IsCoverBound}
+use Rattle.line_check.{specs.CoverWeights.{CoversNeed, IsLeastWeight, total_of_kinds}, specs.inner.Rows.IsCoverBound}
 
 pub total-cons : (x : ℕ) (xs : List ℕ) (n : ℕ) (ns : List ℕ) → total_of_kinds (x ∷ xs) (n ∷ ns) ≡ x * n + total_of_kinds xs ns
 total-cons x xs n ns = sum_by-cons (λ (p : ℕ × ℕ). p.0 * p.1) (x, n) (zip xs ns)

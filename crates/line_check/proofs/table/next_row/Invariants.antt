@@ -1,6 +1,6 @@
 use Rattle.std.proofs.Common.{◌≡◌, ◌<◌, ◌≤◌, ◌^◌, All, length}
-use Rattle.cover_table.specs.inner.Rows.{IsNextFront}
-use Rattle.cover_table.proofs.table.next_row.Given as goal
+use Rattle.line_check.specs.inner.Rows.{IsNextFront}
+use Rattle.line_check.proofs.table.next_row.Given as goal
 
 -- the entries so far
 abbrev pub invariant-loop-r : goal.invariant-loop-r

@@ -1,6 +1,6 @@
 use Rattle.std.proofs.Common.{◌≡◌, ℕ, ◌+◌, ◌<◌, ◌≤◌, ◌^◌, All, length, slice_index, take}
-use Rattle.cover_table.{specs.CoverWeights.IsLeastWeight, specs.inner.Rows.AreCoverBounds}
-use Rattle.cover_table.proofs.table.least_weights.Given as goal
+use Rattle.line_check.{specs.CoverWeights.IsLeastWeight, specs.inner.Rows.AreCoverBounds}
+use Rattle.line_check.proofs.table.least_weights.Given as goal
 
 -- the least weights of covers by the first kinds
 abbrev pub invariant-loop-k : goal.invariant-loop-k

@@ -1,2 +1,0 @@
-pub mod CoverWeights
-pub mod inner
