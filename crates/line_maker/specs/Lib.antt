@@ -1,3 +1,4 @@
 pub mod Made
 pub mod Terms
 pub mod inner
+pub mod Orders

@@ -9,9 +9,14 @@
 mod candidate;
 mod coarse;
 mod divisors;
+mod entry;
 mod known;
+mod law;
+mod nodes;
 mod numbers;
+mod order;
 mod pairs;
+mod places;
 mod point;
 mod rounds;
 mod score;
@@ -19,4 +24,7 @@ mod sums;
 
 pub use box_program;
 pub use coarse::coarse_lines;
+pub use entry::Entry;
+pub use law::names_are_kept;
+pub use order::{Ordered, in_order};
 pub use rounds::lines_at;

@@ -6,9 +6,9 @@ use Rattle.plan_report.specs.Terms.{CertLine, Plan}
 use Rattle.line_check.{specs.Terms.{names_by, Multiplier}, proofs.NamesOn.tested_front}
 use Rattle.tree_check.{specs.Terms.{Tested, Inequality, TreeBox}, specs.declared.boxes.Span.Span, specs.declared.proof.BoxCert.BoxCert, proofs.Naming.{holds_map, value_map}}
 use Rattle.plan_swaps.specs.Terms.{IsTestOf as IsAbleTestOf}
-use Rattle.proof_order.{specs.Orders.cuts_among, specs.declared.entry.Entry.Entry}
+use Rattle.line_maker.{specs.Orders.cuts_among, specs.declared.entry.Entry.Entry}
 use Rattle.tree_boxes.{specs.declared.aim.Aim.Aim, specs.declared.known.Known.Known, specs.declared.certs.Valued.Valued, specs.declared.search.Search.Search, specs.declared.twigs.OpenBox.OpenBox, specs.declared.twigs.Twig.Twig, specs.Searches.{Extends, HasLearned, IsAim, IsKnown, IsSearch, IsOwnCert, handed_in, most_entries}, specs.Finds.{IsOpenBox, IsSearchBox, IsTwigOf, IsValued}, proofs.Knowing.known_same, proofs.OwnValues.IsOwnLine}
-use Rattle.proof_order.specs.declared.entry.Entry.TheVariants as entry
+use Rattle.line_maker.specs.declared.entry.Entry.TheVariants as entry
 use Rattle.tree_boxes.specs.declared.twigs.Twig.TheVariants as twig
 
 -- ---- items after items

@@ -4,9 +4,9 @@ use Rattle.net_core.proofs.Library.{All-map, All-push, get_or_from_slice_get, sl
 use Rattle.plan_terms.specs.Terms.{Case, CutLine, IsCut, Link}
 use Rattle.line_check.{specs.Terms.{line_of_cut, Source, sources_of, AreTested, IsTestedAs, names_by}, proofs.NamesOn.cut_names, proofs.TestedMore.tested_more}
 use Rattle.tree_check.{specs.Terms.{HasBoxValue, TreeBox, EmptiesBox, HasValueIn, names_in, Tested}, specs.declared.proof.BoxCert.BoxCert, specs.declared.tests.Tests.Tests}
-use Rattle.proof_order.{specs.Orders.{cuts_among, is_cut_entry, lines_among, source_of}, specs.declared.entry.Entry.Entry, proofs.NamesKept.source_at}
+use Rattle.line_maker.{specs.Orders.{cuts_among, is_cut_entry, lines_among, source_of}, specs.declared.entry.Entry.Entry, proofs.NamesKept.source_at}
 use Rattle.tree_boxes.{specs.declared.aim.Aim.Aim, specs.declared.known.Known.Known, specs.Searches.{IsKnown, IsSoundEntry, aimed}}
-use Rattle.proof_order.specs.declared.entry.Entry.TheVariants as entry
+use Rattle.line_maker.specs.declared.entry.Entry.TheVariants as entry
 
 -- ---- entries
 

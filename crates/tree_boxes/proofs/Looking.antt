@@ -7,11 +7,11 @@ use Rattle.plan_terms.specs.Terms.{AreCounts, AreDemands, Case, CutLine, Evidenc
 use Rattle.plan_types.specs.declared.plan.Plan.{Plan}
 use Rattle.tree_check.{specs.Terms.{IsFixedBox, least_counts, HasBoxValue, TreeBox, EmptiesBox, Tested}, specs.declared.boxes.Span.Span, specs.declared.proof.Node.TheVariants.Empty}
 use Rattle.line_check.specs.Terms.{line_of_cut, names_by}
-use Rattle.proof_order.specs.declared.entry.Entry.{Entry}
+use Rattle.line_maker.specs.declared.entry.Entry.{Entry}
 use Rattle.tree_boxes.{specs.Causes.{HasFreeValue, IsUnsettled}, specs.declared.certs.Valued.Valued, specs.declared.found.Cheaper.Cheaper, specs.declared.search.Search.Search, specs.declared.known.Known.Known, specs.Finds.{AreCheaperCounts, IsFoundAt, IsSearchBox, IsValued}, specs.Searches.{IsKnown, IsSearch, handed_in}, proofs.Extending.low_box, proofs.FreeValues.free_value, proofs.LeastCosts.free_reaches, proofs.Knowing.{entry_at, place_names}, proofs.ViolatedCuts.violated_empties, proofs.WideForms.wide_form}
 use Rattle.tree_boxes.specs.declared.found.Found.TheVariants as found
 use Rattle.tree_boxes.specs.declared.twigs.Twig.TheVariants as twig
-use Rattle.proof_order.specs.declared.entry.Entry.TheVariants as entry
+use Rattle.line_maker.specs.declared.entry.Entry.TheVariants as entry
 
 -- ---- settled boxes
 

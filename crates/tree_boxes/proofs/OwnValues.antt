@@ -4,9 +4,9 @@ use Rattle.plan_terms.specs.Terms.{Case, CutLine}
 use Rattle.plan_report.specs.Terms.{CertLine, Plan}
 use Rattle.line_check.specs.Terms.{AreNamedBy, line_of_cut, names_by, Multiplier}
 use Rattle.tree_check.{specs.Terms.{HasBoxValue, IsBoxValue, TreeBox}, specs.declared.proof.BoxCert.BoxCert}
-use Rattle.proof_order.specs.declared.entry.Entry.{Entry}
+use Rattle.line_maker.specs.declared.entry.Entry.{Entry}
 use Rattle.tree_boxes.{specs.Causes.{HasPlanValue, lines_of_plan}, specs.declared.known.Known.Known, specs.Searches.{IsKnown, IsOwnCert}, proofs.Knowing.{entry_at, place_names}}
-use Rattle.proof_order.specs.declared.entry.Entry.TheVariants as entry
+use Rattle.line_maker.specs.declared.entry.Entry.TheVariants as entry
 
 -- an index with its numerator is a line of the plan's certificate
 abbrev pub IsOwnLine : List Entry → Multiplier → CertLine → Type 0

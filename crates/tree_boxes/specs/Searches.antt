@@ -5,9 +5,9 @@ use Rattle.plan_types.specs.declared.plan.Plan.{Plan}
 use Rattle.plan_swaps.specs.Terms.{IsTestOf as IsAbleTestOf, IsRoutedPlan}
 use Rattle.line_check.specs.Testing.{AreTested}
 use Rattle.tree_check.{specs.Trees.TreeBox, specs.declared.proof.BoxCert.BoxCert}
-use Rattle.proof_order.{specs.Orders.{cuts_among, lines_among, source_of}, specs.declared.entry.Entry.Entry}
+use Rattle.line_maker.{specs.Orders.{cuts_among, lines_among, source_of}, specs.declared.entry.Entry.Entry}
 use Rattle.tree_boxes.{specs.Causes.IsUnsettled, specs.declared.aim.Aim.Aim, specs.declared.search.Search.Search, specs.declared.known.Known.Known}
-use Rattle.proof_order.specs.declared.entry.Entry.TheVariants as entry
+use Rattle.line_maker.specs.declared.entry.Entry.TheVariants as entry
 
 -- a cut of the case, or a line
 abbrev pub IsSoundEntry : Case → Entry → Type 0

@@ -10,7 +10,7 @@ use line_check::tested_lines::{tested_cut, tested_line, tested_lines};
 use line_check::{Line, Tested};
 use line_maker::box_program::{Lines, Solution, common_unit, divisor_of, solved};
 use net_core::{CutLine, Instance, List, NoMemory};
-use proof_order::Entry;
+use line_maker::Entry;
 use std::alloc::Global;
 use std::mem;
 use tree_check::Boxed;

@@ -9,7 +9,7 @@ use line_check::{Line, Tested};
 use line_maker::box_program::Solution;
 use line_maker::{coarse_lines, lines_at};
 use net_core::{Copied, CutLine, List, NoMemory};
-use proof_order::Entry;
+use line_maker::Entry;
 use std::alloc::Global;
 use table_maker::{Part, TableTask, narrow_lines, set_cuts, table_lines};
 use tree_check::{BoxCert, Boxed};

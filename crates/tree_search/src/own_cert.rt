@@ -5,7 +5,7 @@ use net_core::{CutLine, List, NoMemory};
 use plan_types::Plan;
 use std::alloc::Global;
 use tree_boxes::index_of;
-use tree_boxes::proof_order::Entry;
+use tree_boxes::line_maker::Entry;
 use tree_check::{BoxCert, Multiplier};
 
 /// The certificate of a plan as one of boxes, with its cuts given by their indices in the list.

@@ -14,7 +14,7 @@ use std::alloc::Global;
 use std::mem;
 use tree_boxes::able_counts::AbleTest;
 use tree_boxes::plan_swaps::swap;
-use tree_boxes::proof_order::{Entry, Ordered, in_order};
+use tree_boxes::line_maker::{Entry, Ordered, in_order};
 use tree_boxes::{
     Aim, Cheaper, Known, MOST_FURTHER, MOST_SET_CUTS, Search, empty_cert, first_items,
 };

@@ -1,6 +1,6 @@
 use Rattle.std.{proofs.Common.{ap, arith, length, map}, specs.Vec.Iter.into_iter_items}
 use Rattle.tree_boxes.proofs.Knowing.{entries_more}
-use Rattle.proof_order.specs.declared.entry.Entry.TheVariants as entry
+use Rattle.line_maker.specs.declared.entry.Entry.TheVariants as entry
 use Rattle.tree_boxes.proofs.known.entries_of.Goals as goal
 
 pub loop-cut-preserved : goal.loop-cut-preserved

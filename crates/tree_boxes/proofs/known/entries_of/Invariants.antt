@@ -1,5 +1,5 @@
 use Rattle.std.{proofs.Common.{◌≡◌, ◌++◌, length, map}, specs.Vec.Iter.{into_iter_items, into_iter_len}}
-use Rattle.proof_order.specs.declared.entry.Entry.TheVariants as entry
+use Rattle.line_maker.specs.declared.entry.Entry.TheVariants as entry
 use Rattle.tree_boxes.proofs.known.entries_of.Given as goal
 
 -- with those that are left, the entries so far are all

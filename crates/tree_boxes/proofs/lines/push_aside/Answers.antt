@@ -1,6 +1,6 @@
 use Rattle.std.proofs.Common.{◌∙◌, ◌≤◌, List, ap, length, arith}
 use Rattle.net_core.proofs.Library.{on_ok_weaker}
-use Rattle.proof_order.specs.declared.entry.Entry.{Entry}
+use Rattle.line_maker.specs.declared.entry.Entry.{Entry}
 use Rattle.tree_boxes.{specs.Searches.{aimed, most_entries}, proofs.Extending.{aside, aside_learned, aside_search, entries_most, learned_on, most_on}}
 use Rattle.tree_boxes.proofs.lines.push_aside.Goals as goal
 

@@ -1,7 +1,7 @@
 use Rattle.std.proofs.Common.{refl}
 use Rattle.plan_terms.specs.Terms.{case_of}
 use Rattle.tree_boxes.{proofs.Extending.extends_push, proofs.Knowing.known_more}
-use Rattle.proof_order.specs.declared.entry.Entry.TheVariants as entry
+use Rattle.line_maker.specs.declared.entry.Entry.TheVariants as entry
 use Rattle.tree_boxes.proofs.known.Known.push.Goals as goal
 
 pub returns-clause-known : goal.returns-clause-known

@@ -2,7 +2,7 @@ use Rattle.std.proofs.Common.{List, inr, subst}
 use Rattle.plan_terms.specs.Terms.{case_of}
 use Rattle.line_check.{specs.Terms.IsTestedAs, specs.declared.tested_lines.Tested.Tested}
 use Rattle.tree_boxes.proofs.Knowing.{known_more}
-use Rattle.proof_order.specs.declared.entry.Entry.TheVariants as entry
+use Rattle.line_maker.specs.declared.entry.Entry.TheVariants as entry
 use Rattle.tree_boxes.proofs.known.Known.push_line.Goals as goal
 
 pub returns-clause-known : goal.returns-clause-known

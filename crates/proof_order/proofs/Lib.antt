@@ -1,3 +1,0 @@
-mod Moves
-pub mod NamesKept
-pub mod Placed

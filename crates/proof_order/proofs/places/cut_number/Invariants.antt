@@ -1,7 +1,0 @@
-use Rattle.std.proofs.Common.{◌≡◌, ◌≤◌}
-use Rattle.proof_order.specs.Orders.{cuts_before}
-use Rattle.proof_order.proofs.places.cut_number.Given as goal
-
--- the count is that of the cuts so far
-abbrev pub invariant-loop-entry : goal.invariant-loop-entry
-invariant-loop-entry l = (l.count ≡ cuts_before l.fn.entries l.entry-index) × (l.count ≤ l.entry-index)
