@@ -6,7 +6,7 @@ use people_commands::people_views::view_report;
 use std::alloc::Global;
 use std::sync::Wait;
 use std::thread::Threads;
-use view_forms::ViewForm;
+use people_views::ViewForm;
 use worked_networks::{DemandRow, LinkRow, TEN, network, problem};
 
 /// A module that costs nothing.

@@ -5,7 +5,7 @@ use people_files::Halt;
 use people_views::{state_form, view_report};
 use std::alloc::Global;
 use view_csv::Sheet;
-use view_forms::ViewForm;
+use people_views::ViewForm;
 
 /// A report, the sheet of it that is asked for or else a state, and the text.
 type Row = (&'static str, Option<Sheet>, &'static str, &'static str);

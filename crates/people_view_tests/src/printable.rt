@@ -4,7 +4,7 @@ use people_views::{picture_form, view_report};
 use sndlib_reader::read_network;
 use std::alloc::Global;
 use view_csv::Sheet;
-use view_forms::ViewForm;
+use people_views::ViewForm;
 use worked_networks::problem;
 
 /// Every printable byte that a name may have: all but the parentheses.

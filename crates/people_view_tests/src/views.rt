@@ -4,7 +4,7 @@ use net_core::{Bytes, List, NoMemory, Problem};
 use people_files::Halt;
 use people_views::view_report;
 use std::alloc::Global;
-use view_forms::ViewForm;
+use people_views::ViewForm;
 use worked_networks::{problem, triangle};
 
 /// A report, the lines below it with one of them replaced by another, and the result: a status, and the message, or a part of the view.

@@ -3,3 +3,4 @@ pub mod ProofLines
 pub mod ReportEnds
 pub mod StateForms
 pub mod Terms
+pub mod Forms

@@ -8,10 +8,9 @@ use Rattle.report_reader.specs.ReadingReport.{report_of}
 use Rattle.check_answers.{specs.Checks.IsJudged, specs.declared.status.Status.Status, specs.declared.status.Status.TheVariants.{BadReport, Done, Rejected}}
 use Rattle.fault_texts.specs.Quotes.{note_text}
 use Rattle.fault_messages.specs.Terms.{finding_message, AreReportNotes, report_message}
-use Rattle.view_forms.{specs.Terms.HasForm, specs.declared.form.ViewForm.ViewForm}
 use Rattle.view_text.specs.declared.proof.CostProof.{CostProof}
 use Rattle.people_files.specs.Messages.{ShowsFault}
-use Rattle.people_views.{specs.AcceptedReports.IsAcceptedReport, specs.ProofLines.{FailsAtLines, ReadsProof}}
+use Rattle.people_views.{specs.Forms.HasForm, specs.declared.form.ViewForm.ViewForm, specs.AcceptedReports.IsAcceptedReport, specs.ProofLines.{FailsAtLines, ReadsProof}}
 
 -- the bytes spell no report of a case, and the message shows the place of their first fault
 abbrev pub ShowsReportFault : Case → List ℕ → List ℕ → List ℕ → Type 0

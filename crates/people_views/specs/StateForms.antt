@@ -4,8 +4,8 @@ use Rattle.check_answers.{specs.declared.status.Status.Status, specs.declared.st
 use Rattle.fault_texts.specs.Quotes.{IsQuote}
 use Rattle.fault_messages.specs.NearNames.{IsNearestNote}
 use Rattle.plan_terms.specs.Terms.{Listed}
-use Rattle.view_forms.{specs.declared.form.ViewForm.ViewForm, specs.declared.form.ViewForm.TheVariants.{Picture, State}}
 use Rattle.view_state.specs.Terms.{IsNamedState}
+use Rattle.people_views.{specs.declared.form.ViewForm.ViewForm, specs.declared.form.ViewForm.TheVariants.{Picture, State}}
 
 -- the names of all states, the one without failures first
 abbrev pub state_names : List Listed → List (List ℕ)

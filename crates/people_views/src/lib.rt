@@ -8,6 +8,7 @@
 #![tactic(auto)]
 
 mod accepted_form;
+pub mod form;
 mod plan_proof;
 mod report_check;
 mod spelled_report;
@@ -16,6 +17,6 @@ mod trees;
 mod views;
 
 pub use accepted_form::put_accepted;
+pub use form::{ViewForm, put_form};
 pub use states::{picture_form, state_form};
-pub use view_forms;
 pub use views::view_report;

@@ -1,10 +1,9 @@
 ghost use Rattle.std.specs.Prelude.{◌≡◌, ◌++◌, ℕ, List, IfOk, MatchResult, OnOk, codes};
 ghost use Rattle.fault_texts.specs.Quotes.{IsQuote};
 ghost use Rattle.people_files.specs.Endings.{Halts};
-ghost use Rattle.view_forms.specs.Terms.{IsFormOf};
 ghost use Rattle.view_state.specs.Terms.{IsNamedState};
 ghost use Rattle.view_text.specs.Terms.{problem_case};
-ghost use Rattle.people_views.specs.StateForms.{IsStateMessage, LacksState, NamesState, PicturesState, state_hint, state_names};
+ghost use Rattle.people_views.{specs.Forms.IsFormOf, specs.StateForms.{IsStateMessage, LacksState, NamesState, PicturesState, state_hint, state_names}};
 
 use check_answers::Status;
 use fault_messages::put_nearest_note;
@@ -13,7 +12,7 @@ use net_core::{Bytes, List as Items, Listed, NoMemory, Problem, States};
 use node_places::Place;
 use people_files::{Halt, told};
 use std::alloc::Global;
-use view_forms::ViewForm;
+use crate::ViewForm;
 use view_state::named_state;
 
 /// The names of all states, the one without failures first.

@@ -1,8 +1,7 @@
 ghost use Rattle.view_text.specs.Terms.{problem_case};
 ghost use Rattle.plan_report.specs.Terms.{IsReportInForm, known_of};
 ghost use Rattle.people_files.specs.Endings.{HasCauseForPeople};
-ghost use Rattle.view_forms.specs.Terms.{IsFormOf};
-ghost use Rattle.people_views.{specs.AcceptedReports.IsAcceptedReport, specs.ReportEnds.{EndsReport, ViewsAccepted, ViewsReport}};
+ghost use Rattle.people_views.{specs.Forms.IsFormOf, specs.AcceptedReports.IsAcceptedReport, specs.ReportEnds.{EndsReport, ViewsAccepted, ViewsReport}};
 
 use crate::accepted_form::put_accepted_form;
 use crate::plan_proof::read_proof;
@@ -12,7 +11,7 @@ use net_core::{Bytes, List, Problem};
 use people_files::Halt;
 use plan_types::Report;
 use std::alloc::Global;
-use view_forms::ViewForm;
+use crate::ViewForm;
 
 /// The view of an accepted report, whose bytes these are, with what the lines below it show.
 fn accepted_view(

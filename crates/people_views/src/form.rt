@@ -1,6 +1,6 @@
 ghost use Rattle.std.specs.Prelude.{All, OnOk};
 ghost use Rattle.view_text.specs.Terms.{HasSoundPlan, HoldsOfSingle, problem_case, AddsText};
-ghost use Rattle.view_forms.specs.Forms.{HasForm, IsFormOf};
+ghost use Rattle.people_views.specs.Forms.{HasForm, IsFormOf};
 
 use net_core::{Bytes, NoMemory, Problem};
 use node_places::Place;

@@ -6,7 +6,7 @@ use Rattle.view_csv.specs.Terms.{IsSheet}
 use Rattle.view_state.specs.Terms.{IsStateView}
 use Rattle.view_svg.specs.Terms.{IsReportPicture}
 use Rattle.view_text.{specs.Terms.IsReportView, specs.declared.proof.CostProof.CostProof}
-use Rattle.view_forms.{specs.declared.form.ViewForm.ViewForm, specs.declared.form.ViewForm.TheVariants.{Picture, State, Tables, Values}}
+use Rattle.people_views.{specs.declared.form.ViewForm.ViewForm, specs.declared.form.ViewForm.TheVariants.{Picture, State, Tables, Values}}
 
 -- a case can be read in this form: the state is one of its own
 abbrev pub IsFormOf : Case → ViewForm → Type 0
