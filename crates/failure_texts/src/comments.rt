@@ -3,8 +3,8 @@ ghost use Rattle.report_comments.specs.Comments.{AddsLines, AddsSpaced};
 ghost use Rattle.failure_texts.specs.FailureTexts.{left_out, left_out_items};
 
 use crate::fates::Fate;
-use report_comments::puts::put_word;
 use net_core::{Bytes, Demand, Link, NoMemory};
+use report_comments::puts::put_word;
 use report_comments::{put_demand, put_link_name};
 
 /// Puts the words on a link last whose failure separates the demand at a place.

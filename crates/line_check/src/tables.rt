@@ -4,8 +4,8 @@ ghost use Rattle.line_check.{specs.Inequalities.{need_of, table_of}, specs.Lines
 
 use crate::inequality::Inequality;
 use crate::kinds::{capped, kinds_of};
-use crate::line::TableKind;
 use crate::least_weights;
+use crate::line::TableKind;
 use net_core::{Instance, Link, LinkId, List, NoMemory, StateId, States};
 use std::alloc::Global;
 

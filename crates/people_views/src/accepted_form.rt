@@ -2,10 +2,10 @@ ghost use Rattle.std.specs.Prelude.{OnOk};
 ghost use Rattle.view_text.specs.Terms.{AddsText, HoldsOfSingle, IsReportView, problem_case};
 ghost use Rattle.people_views.{specs.Forms.{HasForm, IsFormOf}, specs.AcceptedReports.IsAcceptedReport};
 
+use crate::{ViewForm, put_form};
 use net_core::{Bytes, NoMemory, Problem};
 use plan_types::Report;
 use std::alloc::Global;
-use crate::{ViewForm, put_form};
 use view_text::{CostProof, put_view};
 
 /// Puts the view of an accepted report last, of a network whose file has this name, with what is known of the cost of a single plan. Where

@@ -5,6 +5,7 @@ ghost use Rattle.view_state.specs.Terms.{IsNamedState};
 ghost use Rattle.view_text.specs.Terms.{problem_case};
 ghost use Rattle.people_views.{specs.Forms.IsFormOf, specs.StateForms.{IsStateMessage, LacksState, NamesState, PicturesState, state_hint, state_names}};
 
+use crate::ViewForm;
 use check_answers::Status;
 use fault_messages::put_nearest_note;
 use fault_texts::put_quote;
@@ -12,7 +13,6 @@ use net_core::{Bytes, List as Items, Listed, NoMemory, Problem, States};
 use node_places::Place;
 use people_files::{Halt, told};
 use std::alloc::Global;
-use crate::ViewForm;
 use view_state::named_state;
 
 /// The names of all states, the one without failures first.

@@ -3,6 +3,7 @@ ghost use Rattle.plan_report.specs.Terms.{IsReportInForm, known_of};
 ghost use Rattle.people_files.specs.Endings.{HasCauseForPeople};
 ghost use Rattle.people_views.{specs.Forms.IsFormOf, specs.AcceptedReports.IsAcceptedReport, specs.ReportEnds.{EndsReport, ViewsAccepted, ViewsReport}};
 
+use crate::ViewForm;
 use crate::accepted_form::put_accepted_form;
 use crate::plan_proof::read_proof;
 use crate::report_check::accept;
@@ -11,7 +12,6 @@ use net_core::{Bytes, List, Problem};
 use people_files::Halt;
 use plan_types::Report;
 use std::alloc::Global;
-use crate::ViewForm;
 
 /// The view of an accepted report, whose bytes these are, with what the lines below it show.
 fn accepted_view(

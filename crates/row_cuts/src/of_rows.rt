@@ -2,10 +2,10 @@ ghost use Rattle.std.specs.Prelude.{◌≡◌, ◌<◌, IfOk, IfSome, length};
 ghost use Rattle.plan_terms.specs.Terms.{graph_of};
 ghost use Rattle.row_cuts.{specs.PathRows.{ArePricedNumbers, path_row}, specs.FoundCuts.IsRowCut, specs.inner.Kept.IsKeptCut};
 
+use crate::{PathRow, priced_numbers};
 use metric_cut::{Cut, are_narrow};
 use net_core::{Lengths, NoMemory, Path, RouteTask};
 use node_sets::is_violated;
-use crate::{PathRow, priced_numbers};
 use std::alloc::Global;
 
 /// The cut of what the state keeps of lengths, where the capacities violate it. Where a number is 2^62 or more, it isn't asked.

@@ -1,8 +1,8 @@
 ghost use Rattle.std.specs.Prelude.{◌≡◌, ◌++◌, OnOk};
 ghost use Rattle.text_layout.specs.Cells.{left_cell, right_cell, spaces};
 
-use net_core::{Bytes, NoMemory};
 use crate::characters;
+use net_core::{Bytes, NoMemory};
 
 /// Appends `count` spaces. Each function of this crate that appends something takes time in its bytes, and asks for memory only if the text
 /// has no room left; if memory runs out, the text may end with a part of what was to be appended.

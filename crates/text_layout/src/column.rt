@@ -1,9 +1,9 @@
 ghost use Rattle.std.specs.Prelude.{◌≡◌, [], IfOk, get_or, length};
 ghost use Rattle.text_layout.{specs.Places.characters, specs.Cells.{AreWidened, IsLeastWidth, IsWidened}};
 
+use crate::characters;
 use net_core::{Bytes, List, NoMemory};
 use std::alloc::Global;
-use crate::characters;
 
 /// How the cells of a column are laid out.
 #[derive(Clone, Copy, Debug, PartialEq, Eq)]

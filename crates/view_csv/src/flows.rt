@@ -7,10 +7,10 @@ ghost use Rattle.view_csv.{specs.Fields.{ends_fields, flow_fields, link_names, n
 
 use crate::names::{push_links, push_nodes};
 use crate::sheet::{PlanNumber, numbered};
-use plan_view::{FlowRow, flow_rows};
 use net_core::{Demand, Instance, List, Name, Network, NoMemory, Routing, StateId};
 use plan_report::{demand_name, node_name, state_name};
 use plan_types::Plan;
+use plan_view::{FlowRow, flow_rows};
 use std::alloc::Global;
 use text_layout::Row;
 use view_cells::cells::{push_money, push_pair, push_words};

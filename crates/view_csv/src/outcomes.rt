@@ -6,9 +6,9 @@ ghost use Rattle.view_csv.{specs.Columns.sheet_columns, specs.Sheets.{AddsRows, 
 
 use crate::flows::put_flows;
 use crate::links::put_links;
+use crate::put_csv;
 use crate::sheet::{PlanNumber, Sheet, sheet_columns};
 use crate::states::put_states;
-use crate::put_csv;
 use net_core::{Bytes, Instance, List, NoMemory, Problem};
 use plan_types::{Outcome, Plan};
 use std::alloc::Global;
