@@ -3,7 +3,8 @@ use Rattle.std.specs.Prelude.{◌≡◌, ℕ, ◌⊎◌, List, All, length}
 use Rattle.plan_terms.specs.Terms.{Notes, Case}
 use Rattle.plan_types.specs.declared.report.Report.{Report}
 use Rattle.report_checker.specs.Terms.{Finding, IsAcceptedOutcome, IsBelowAllAble, HasNoFinding, IsFirstOfReport}
-use Rattle.check_answers.{specs.Findings.{accepted_line, rejected_line}, specs.declared.status.Status.Status, specs.declared.status.Status.TheVariants.{Done, Rejected}}
+use Rattle.outside_io.{specs.declared.status.Status.Status, specs.declared.status.Status.TheVariants.{Done, Rejected}}
+use Rattle.check_answers.specs.Findings.{accepted_line, rejected_line}
 
 -- What a check says of a report: that no finding holds, and then each outcome is what an accepted one is known to be and each plan's
 -- bound holds for all able counts; or the first finding.

@@ -1,4 +1,3 @@
-pub mod Statuses
 pub mod Findings
 pub mod Checks
 pub mod Separations

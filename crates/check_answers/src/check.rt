@@ -3,9 +3,9 @@ ghost use Rattle.plan_terms.specs.Terms.{case};
 ghost use Rattle.plan_report.specs.Terms.{known_of, IsReportInForm};
 ghost use Rattle.check_answers.{specs.Findings.{accepted_line, rejected_line}, specs.Checks.IsJudged};
 
-use crate::answer::Answer;
+use outside_io::Answer;
 use crate::finding::{accepted_line, rejected_line};
-use crate::status::Status;
+use outside_io::Status;
 use net_core::{NoMemory, Problem};
 use plan_types::Report;
 use report_checker::check_report;

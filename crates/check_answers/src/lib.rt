@@ -6,12 +6,8 @@
 //! ```
 #![tactic(auto)]
 
-mod answer;
 mod check;
 mod finding;
-mod status;
 
-pub use answer::Answer;
 pub use check::answer_check;
 pub use finding::put_word;
-pub use status::Status;

@@ -10,7 +10,8 @@ use Rattle.flow_file.specs.declared.flow.FlowFile.{FlowFile}
 use Rattle.flow_import.specs.declared.fault.ImportFault.{ImportFault}
 use Rattle.proof_report.{specs.Terms.{whole_report, Block, block_lines, IsTrimmedReport, AreCharged}, specs.ProvedReports.{IsProvedReport, proved_report, proof_text}, specs.declared.ending.ProvedReport.ProvedReport}
 use Rattle.text_kit.specs.Terms.{money_word}
-use Rattle.check_answers.{specs.Separations.NamesFirstSeparation, specs.declared.status.Status.Status, specs.declared.status.Status.TheVariants.{Done, BadNetwork, NotSurvivable, BadImport}}
+use Rattle.check_answers.specs.Separations.{NamesFirstSeparation}
+use Rattle.outside_io.{specs.declared.status.Status.Status, specs.declared.status.Status.TheVariants.{Done, BadNetwork, NotSurvivable, BadImport}}
 use Rattle.command_answers.specs.ImportFaults.{import_fault_line}
 
 -- ---- reports

@@ -8,7 +8,8 @@ ghost use Rattle.check_answers.specs.Findings.{spaced};
 ghost use Rattle.command_answers.{specs.ImportFaults.{import_fault_line, import_fault_words}, specs.Answers.EndsImported};
 
 use crate::plan::{planned, separated};
-use check_answers::{Answer, Status, put_word};
+use check_answers::put_word;
+use outside_io::{Answer, Status};
 use flow_file::FlowFile;
 use flow_import::ImportFault;
 use net_core::{Bytes, Instance, List, NoMemory, Problem};

@@ -6,7 +6,7 @@ ghost use Rattle.proof_report.specs.Terms.{IsSeparationOf, whole_report};
 ghost use Rattle.check_answers.specs.Separations.{NamesFirstSeparation};
 ghost use Rattle.command_answers.specs.Answers.{EndsPlan};
 
-use check_answers::{Answer, Status};
+use outside_io::{Answer, Status};
 use net_core::{Instance, Name, Network, NoMemory, Problem, StateId, States};
 use outside_io::Gate;
 use plan_import::lone_plan::{LonePlan, PlannedReport, plan_once};

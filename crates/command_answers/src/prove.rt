@@ -1,11 +1,11 @@
 ghost use Rattle.std.specs.Prelude.{◌≡◌, ◌≤◌, IfOk};
 ghost use Rattle.plan_terms.specs.Terms.{case, case_of};
 ghost use Rattle.proof_report.{specs.Terms.AreCharged, specs.ProvedReports.{IsProofEnding, IsProvedReport}};
-ghost use Rattle.check_answers.specs.declared.status.Status.{Status};
+ghost use Rattle.outside_io.specs.declared.status.Status.{Status};
 ghost use Rattle.command_answers.specs.Answers.{EndsProve, EndsCharged, free_module_line};
 
 use crate::plan::separated;
-use check_answers::{Answer, Status};
+use outside_io::{Answer, Status};
 use net_core::{Instance, List, NoMemory, Problem};
 use outside_io::Gate;
 use proof_report::{ProofEnding, ProvedReport, are_charged, prove_once, write_lined};

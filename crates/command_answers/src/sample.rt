@@ -4,10 +4,10 @@ ghost use Rattle.sample_net.specs.Samples.{no_notes, sample_demands, sample_link
 ghost use Rattle.plan_import.specs.Terms.{IsTranscript, plan_commands};
 ghost use Rattle.proof_report.specs.Terms.{whole_report};
 ghost use Rattle.text_kit.specs.Terms.{money_word};
-ghost use Rattle.check_answers.specs.declared.status.Status.{Status};
+ghost use Rattle.outside_io.specs.declared.status.Status.{Status};
 ghost use Rattle.command_answers.specs.Answers.{IsSummary, quality_word, raw_lines, sample_case, size_line, summary};
 
-use check_answers::{Answer, Status};
+use outside_io::{Answer, Status};
 use model_reader::single_links;
 use net_core::{Bytes, Demands, Instance, List, Network, NoMemory, Places};
 use outside_io::OpenGate;

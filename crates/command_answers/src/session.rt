@@ -6,7 +6,7 @@ ghost use Rattle.plan_types.specs.declared.report.Report.{Report as Rep};
 ghost use Rattle.command_answers.specs.Answers.{IsPrintedReport};
 
 use crate::plan::reported;
-use check_answers::{Answer, Status};
+use outside_io::{Answer, Status};
 use net_core::{NoMemory, Problem};
 use outside_io::Gate;
 use plan_import::session_run::run_session;

@@ -4,7 +4,7 @@ ghost use Rattle.proof_report.specs.Terms.{IsTrimEnding, IsTrimmedReport};
 ghost use Rattle.command_answers.specs.Answers.{EndsTrim};
 
 use crate::plan::separated;
-use check_answers::{Answer, Status};
+use outside_io::{Answer, Status};
 use net_core::{Instance, List, NoMemory, Problem};
 use outside_io::Gate;
 use plan_import::lone_plan::PlannedReport;

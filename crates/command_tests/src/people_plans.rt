@@ -1,4 +1,4 @@
-use check_answers::Status;
+use outside_io::Status;
 use net_core::{Bytes, Module, Problem};
 use outside_io::OpenGate;
 use people_commands::people_plans::{PlanAnswer, plan_for_people};

@@ -3,7 +3,7 @@ use Rattle.std.proofs.Common.{◌≡◌, ℕ, List, Result, Err, codes, subst}
 use Rattle.plan_terms.specs.Terms.{Demand, Network}
 use Rattle.sndlib_reader.{specs.Terms.{kind_word, network_of}, specs.declared.fault.ReadKind.ReadKind}
 use Rattle.text_kit.{specs.Terms.{AnswersAs, Fails, Read}, specs.declared.refusal.Refusal.Refusal, specs.declared.refusal.Refusal.TheVariants.Bad}
-use Rattle.check_answers.{specs.declared.status.Status.Status, specs.declared.status.Status.TheVariants.BadNetwork}
+use Rattle.outside_io.{specs.declared.status.Status.Status, specs.declared.status.Status.TheVariants.BadNetwork}
 use Rattle.input_files.{specs.Inputs.{RefusesNetworkFile, SpellsNetwork}, specs.Refusals.{Refuses, refusal_line}, specs.inner.Steps.Says, specs.Stops.Stops, specs.declared.stop.Stop.Stop, proofs.Stopping.stop_map}
 use Rattle.sndlib_reader.specs.NetworkFiles as networks
 

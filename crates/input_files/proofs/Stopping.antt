@@ -2,8 +2,7 @@
 use Rattle.std.proofs.Common.{◌≢◌, ℕ, List, [], Option, inl, inr}
 use Rattle.plan_terms.specs.Terms.{Demand, Network}
 use Rattle.model_reader.specs.declared.model.Model.{Model}
-use Rattle.outside_io.specs.Outside.{Files}
-use Rattle.check_answers.{specs.declared.status.Status.Status, specs.declared.status.Status.TheVariants.{BadModel, ReadFault}}
+use Rattle.outside_io.{specs.Outside.Files, specs.declared.status.Status.Status, specs.declared.status.Status.TheVariants.{BadModel, ReadFault}}
 use Rattle.input_files.{specs.InputWords.{PlanWords, default}, specs.Inputs.{Fetched, HasModel, RefusesModelFile, SpellsNetwork, StopsAtFailures, StopsAtFile, StopsAtInputs, input_limit}, specs.Stops.Stops, specs.declared.stop.Stop.Stop}
 use Rattle.input_files.specs.declared.stop.Stop.TheVariants as stop
 

@@ -1,7 +1,7 @@
 -- the files of a plan, read one after another, and the possible outcomes of each
 use Rattle.std.specs.Prelude.{◌≡◌, ◌≢◌, ℕ, ◌^◌, ◌⊎◌, Bool, true, false, List, [], ◌∷◌, ◌++◌, Option, codes}
 use Rattle.plan_terms.specs.Terms.{Case, Demand, Link, Network, Notes, Places, Listed, settled_links, settled_notes}
-use Rattle.outside_io.specs.Outside.{Fetches, Files}
+use Rattle.outside_io.{specs.Outside.{Fetches, Files}, specs.declared.status.Status.Status, specs.declared.status.Status.TheVariants.{BadFailures, BadModel, BadNetwork, NoFile, ReadFault, TooLong}}
 use Rattle.model_reader.{specs.Terms.{failures_of, failures_word, model_word, model_of}, specs.declared.model.Model.Model}
 use Rattle.sndlib_reader.specs.Terms.{kind_word, network_of}
 use Rattle.plan_report.specs.Terms.{KnownNames, SpellsReport}
@@ -9,7 +9,6 @@ use Rattle.flow_file.{specs.FlowFiles.SpellsFlows, specs.FlowKinds.flows_kind_wo
 use Rattle.report_reader.specs.ReadingReport.{report_of}
 use Rattle.report_words.specs.Terms.{report_kind_word}
 use Rattle.session_script.specs.Terms.{script_kind_word, script_of, SpellsScript}
-use Rattle.check_answers.{specs.declared.status.Status.Status, specs.declared.status.Status.TheVariants.{BadFailures, BadModel, BadNetwork, NoFile, ReadFault, TooLong}}
 use Rattle.input_files.{specs.InputWords.{PlanWords, default}, specs.Refusals.{Refuses, unused_line}}
 use Rattle.outside_io.specs.declared.shelf.Fetch.TheVariants as fetch
 use Rattle.model_reader.specs.Failures as failures

@@ -1,6 +1,6 @@
 -- runs that end at one of their files
 use Rattle.std.specs.Prelude.{ℕ, List, []}
-use Rattle.check_answers.{specs.declared.status.Status.Status, specs.declared.status.Status.TheVariants.ReadFault}
+use Rattle.outside_io.{specs.declared.status.Status.Status, specs.declared.status.Status.TheVariants.ReadFault}
 use Rattle.input_files.{specs.InputWords.PlanWords, specs.declared.stop.Stop.Stop, specs.declared.words.PlanFiles.PlanFiles}
 use Rattle.input_files.specs.declared.stop.Stop.TheVariants as stop
 

@@ -8,7 +8,7 @@ ghost use Rattle.input_files.{specs.InputWords.default, specs.Inputs.{Fetched, H
 use crate::refusal::{UnusedFailures, not_fetched, refused};
 use crate::stop::Stop;
 use crate::words::{DEFAULT, PlanFiles};
-use check_answers::Status;
+use outside_io::Status;
 use model_reader::{
     FailuresRefusal, Model, ModelRefusal, only_none, read_failures, read_model, single_links,
 };

@@ -7,7 +7,7 @@ ghost use Rattle.input_files.{specs.Inputs.{Fetched, RefusesFlowFile, RefusesRep
 use crate::inputs::{INPUT_LIMIT, fetch_file};
 use crate::refusal::refused;
 use crate::stop::Stop;
-use check_answers::Status;
+use outside_io::Status;
 use flow_file::{FlowFile, FlowsRefusal, read_flows};
 use net_core::{Places, Problem};
 use outside_io::Shelf;

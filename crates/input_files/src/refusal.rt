@@ -2,7 +2,7 @@ ghost use Rattle.std.specs.Prelude.{◌≡◌, ◌≢◌, ◌++◌, ◌∷◌, [
 ghost use Rattle.input_files.{specs.Refusals.refusal_line, specs.inner.Steps.Says, specs.Stops.Stops};
 
 use crate::stop::Stop;
-use check_answers::{Answer, Status};
+use outside_io::{Answer, Status};
 use net_core::{Bytes, List, NoMemory};
 use std::alloc::Global;
 use text_kit::FaultWord;

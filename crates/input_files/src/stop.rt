@@ -1,4 +1,4 @@
-use check_answers::Answer;
+use outside_io::Answer;
 use net_core::NoMemory;
 
 /// Why a run ends before its plan is made.

@@ -6,18 +6,22 @@
 //! stream took the bytes, is outside what is proved.
 #![tactic(auto)]
 
+mod answer;
 pub mod figures;
 pub mod files;
 pub mod gate;
 pub mod memory;
 pub mod shelf;
 pub mod sink;
+mod status;
 pub mod stream;
 
+pub use answer::Answer;
 pub use figures::{RoundFigures, TreeFigures};
 pub use files::FileShelf;
 pub use gate::{Gate, OpenGate};
 pub use memory::{MemFile, MemShelf, MemSink, have_different_names};
 pub use shelf::{Fetch, ReadFault, Shelf};
 pub use sink::{Failed, Sink};
+pub use status::Status;
 pub use stream::StreamSink;

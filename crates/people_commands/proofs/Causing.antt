@@ -1,7 +1,6 @@
 -- how the result of one step becomes the result of the run
 use Rattle.std.proofs.Common.{◌≡◌, ◌∙◌, ℕ, List, [], Option, Result, Ok, Err, String, inr, subst, sym, ◌≢◌, MatchResult, Global}
-use Rattle.outside_io.specs.Outside.{Files}
-use Rattle.check_answers.{specs.declared.status.Status.Status, specs.declared.status.Status.TheVariants.{Done, ReadFault}}
+use Rattle.outside_io.{specs.Outside.Files, specs.declared.status.Status.Status, specs.declared.status.Status.TheVariants.{Done, ReadFault}}
 use Rattle.people_plans.specs.declared.answer.PlanAnswer.{PlanAnswer}
 use Rattle.people_words.specs.PeopleCommands.{PeopleCommand, IsPeopleCommand}
 use Rattle.people_files.{specs.Endings.{FailsReading, HasCauseForPeople}, specs.declared.stop.Halt.Halt, specs.declared.stop.Told.Told, proofs.Causing.halt_map}

@@ -1,7 +1,7 @@
 -- planning prints a text only if it has made a plan
 use Rattle.std.{proofs.Common.{◌≡◌, ◌∙◌, ◌≤◌, ℕ, Bool, List, [], Option, None, Some, inl, inr, sym, ◌≢◌, IfSome}, specs.Option.option_map_or}
 use Rattle.plan_terms.specs.Terms.{Case, Notes}
-use Rattle.check_answers.{specs.declared.status.Status.Status, specs.declared.status.Status.TheVariants.{Done, ReadFault}}
+use Rattle.outside_io.{specs.declared.status.Status.Status, specs.declared.status.Status.TheVariants.{Done, ReadFault}}
 use Rattle.people_plans.specs.PlansForPeople.{EndsPlanForPeople}
 
 module _ (network : List ℕ) (splits : Option ℕ) (wanted : Bool) (p : Case) (notes : Notes) (status : Status) (text message : List ℕ) where

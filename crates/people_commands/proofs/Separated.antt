@@ -2,7 +2,7 @@
 use Rattle.std.{proofs.Common.{◌≡◌, ℕ, List, [], ◌++◌, refl, subst}, specs.Option.option_map_or}
 use Rattle.plan_terms.specs.Terms.{Demand, IsFirstSeparation, Network}
 use Rattle.plan_report.specs.Terms.{demand_name}
-use Rattle.check_answers.specs.declared.status.Status.TheVariants.{NotSurvivable}
+use Rattle.outside_io.specs.declared.status.Status.TheVariants.{NotSurvivable}
 use Rattle.failure_texts.specs.Fates.{with_states}
 use Rattle.people_commands.{specs.Endings.{SaysApart, apart_words}, specs.inner.Causes.apart_line}
 

@@ -2,7 +2,7 @@
 use Rattle.std.proofs.Common.{◌≡◌, ◌∙◌, ℕ, List, [], ◌∷◌, Result, Ok, Err, inl, inr, sym, IfOk, MatchResult}
 use Rattle.plan_terms.specs.Terms.{Case, Notes}
 use Rattle.plan_report.specs.Terms.{Outcome, Planned, Unsurvivable}
-use Rattle.check_answers.{specs.declared.status.Status.Status, specs.declared.status.Status.TheVariants.{BadWords, ReadFault}}
+use Rattle.outside_io.{specs.declared.status.Status.Status, specs.declared.status.Status.TheVariants.{BadWords, ReadFault}}
 use Rattle.people_files.{specs.Endings.{FailsReading, Halts, HasCauseForPeople, halt_status}, specs.declared.stop.Halt.Halt}
 use Rattle.people_views.{specs.ProofLines.{FailsAtLines, FailsAtOutcomeLines}, specs.Terms.{IsFormOf, ViewForm, EndsReport, LacksState, NamesState, PicturesState}}
 use Rattle.people_words.specs.PeopleCommands.{AskedForm}

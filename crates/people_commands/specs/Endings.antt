@@ -1,8 +1,8 @@
 -- the result of a run for people: its status, the text that it prints, and the message on standard error
 use Rattle.std.{specs.Prelude.{◌≡◌, ℕ, ◌⊎◌, List, [], ◌++◌, Option, String, codes}, specs.Global.Global}
 use Rattle.plan_terms.specs.Terms.{Case, Demand, Network, Notes}
-use Rattle.outside_io.{specs.Outside.{Fetches, Files, Rose, Takes, TakesPrefix}, specs.declared.sink.Failed.Failed, specs.declared.sink.Failed.TheVariants.{DiskFull, Other}}
-use Rattle.check_answers.{specs.declared.status.Status.Status, specs.declared.status.Status.TheVariants.{BadNetwork, BadWords, Done, NoMemory, NotSurvivable, WriteFault}, specs.Separations.NamesFirstSeparation}
+use Rattle.outside_io.{specs.Outside.{Fetches, Files, Rose, Takes, TakesPrefix}, specs.declared.sink.Failed.Failed, specs.declared.sink.Failed.TheVariants.{DiskFull, Other}, specs.declared.status.Status.Status, specs.declared.status.Status.TheVariants.{BadNetwork, BadWords, Done, NoMemory, NotSurvivable, WriteFault}}
+use Rattle.check_answers.specs.Separations.{NamesFirstSeparation}
 use Rattle.failure_texts.{specs.FailureTexts.IsFailureList, specs.Fates.with_states}
 use Rattle.input_files.specs.Inputs.{Fetched, SpellsNetwork, input_limit, report_limit}
 use Rattle.people_words.specs.PeopleCommands.{AskedForm, AskedPlan, PeopleCommand, Help, HelpOn, Version, Failures, View, Plan, IsPeopleCommand}

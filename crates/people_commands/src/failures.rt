@@ -5,7 +5,7 @@ ghost use Rattle.input_files.specs.Shelves.{KeepsShelf};
 ghost use Rattle.people_files.specs.Endings.{FailsReading, Halts, HasCauseForPeople};
 ghost use Rattle.people_commands.{specs.Endings.{EndsFailures, ListsFailures, SaysApart, apart_words}, specs.inner.Causes.apart_line};
 
-use check_answers::Status;
+use outside_io::Status;
 use failure_texts::{FailureAnswer, failure_list};
 use net_core::{Bytes, Demands, List, Network, NoMemory};
 use outside_io::Shelf;

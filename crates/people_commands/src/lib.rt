@@ -8,6 +8,6 @@ pub mod run;
 mod usage;
 mod view;
 
-pub use check_answers::Status;
+pub use outside_io::Status;
 pub use people_plans;
 pub use people_views;

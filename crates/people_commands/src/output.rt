@@ -1,9 +1,9 @@
 ghost use Rattle.std.specs.Prelude.{◌≡◌, ◌≤◌, [], MatchResult, Ok, Err};
-ghost use Rattle.check_answers.specs.declared.status.Status.{Status};
+ghost use Rattle.outside_io.specs.declared.status.Status.{Status};
 ghost use Rattle.people_commands.specs.Endings.{PutsBoth, TellsBeside};
 
 use crate::usage::write_message;
-use check_answers::Status;
+use outside_io::Status;
 use net_core::{Bytes, List};
 use outside_io::Sink;
 use people_files::Halt;

@@ -1,5 +1,5 @@
 ghost use Rattle.std.specs.Prelude.{◌≡◌, ◌≤◌, IfSome};
-ghost use Rattle.view_text.specs.Terms.{problem_case};
+ghost use Rattle.plan_view.specs.Terms.{problem_case};
 ghost use Rattle.input_files.specs.Shelves.{KeepsShelf};
 ghost use Rattle.people_files.specs.Endings.{FailsReading};
 ghost use Rattle.people_plans.specs.PlansForPeople.{EndsPlanForPeople};
@@ -7,7 +7,7 @@ ghost use Rattle.people_words.specs.AskedCommands.{asked_plan};
 ghost use Rattle.people_commands.{specs.Endings.EndsPeoplePlan, specs.inner.Printing.{GivesAnswer, HasPrintedCause}};
 
 use crate::output::Printed;
-use check_answers::Status;
+use outside_io::Status;
 use net_core::Problem;
 use outside_io::Shelf;
 use people_files::{Halt, Told, load_case};

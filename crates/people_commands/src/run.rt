@@ -2,7 +2,7 @@ ghost use Rattle.std.specs.Prelude.{◌≡◌, ◌≤◌, ℕ, List, [], IfOk};
 ghost use Rattle.input_files.specs.Shelves.{KeepsShelf};
 ghost use Rattle.people_files.specs.Endings.{FailsReading, Halts};
 ghost use Rattle.people_words.specs.AskedCommands.{people_command};
-ghost use Rattle.check_answers.specs.declared.status.Status.{Status};
+ghost use Rattle.outside_io.specs.declared.status.Status.{Status};
 ghost use Rattle.people_commands.{specs.Endings.{EndsForPeople, EndsPeopleCommand, PutsBoth, usage_message}, specs.inner.Printing.HasPrintedCause};
 
 use crate::failures::failures_file;
@@ -10,7 +10,7 @@ use crate::output::{Printed, alone, say, tell};
 use crate::plan::plan_files;
 use crate::usage::{HELP, MEMORY_MESSAGE, USAGE, VERSION, topic_help};
 use crate::view::view_files;
-use check_answers::Status;
+use outside_io::Status;
 use net_core::{Bytes, List as Items, NoMemory};
 use outside_io::{Shelf, Sink};
 use people_files::{Halt, told};

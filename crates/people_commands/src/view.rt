@@ -1,5 +1,5 @@
 ghost use Rattle.std.specs.Prelude.{MatchResult};
-ghost use Rattle.view_text.specs.Terms.{problem_case};
+ghost use Rattle.plan_view.specs.Terms.{problem_case};
 ghost use Rattle.people_views.specs.Terms.{IsFormOf};
 ghost use Rattle.input_files.specs.Shelves.{KeepsShelf};
 ghost use Rattle.people_files.{specs.Endings.{FailsReading, Halts, HasCauseForPeople}, specs.CaseInputs.named_case};

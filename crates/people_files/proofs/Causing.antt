@@ -1,6 +1,6 @@
 -- how the result of one step becomes the result of the run
 use Rattle.std.proofs.Common.{◌≡◌, ◌∙◌, ℕ, List, [], Result, Ok, Err, subst, sym, IfOk, MatchResult}
-use Rattle.check_answers.{specs.declared.status.Status.Status, specs.declared.status.Status.TheVariants.{Done, ReadFault}}
+use Rattle.outside_io.{specs.declared.status.Status.Status, specs.declared.status.Status.TheVariants.{Done, ReadFault}}
 use Rattle.people_files.{specs.Endings.{Halts, HasCauseForPeople, halt_status}, specs.declared.stop.Halt.Halt}
 use Rattle.people_files.specs.declared.stop.Halt.TheVariants as halt
 

@@ -2,8 +2,7 @@
 use Rattle.std.proofs.Common.{◌≢◌, List, Option, inl, inr}
 use Rattle.plan_terms.specs.Terms.{Demand, Network}
 use Rattle.model_reader.specs.declared.model.Model.{Model}
-use Rattle.outside_io.specs.Outside.{Files}
-use Rattle.check_answers.specs.declared.status.Status.TheVariants.{BadModel, BadNetwork}
+use Rattle.outside_io.{specs.Outside.Files, specs.declared.status.Status.TheVariants.{BadModel, BadNetwork}}
 use Rattle.input_files.specs.Terms.{default, Fetched, HasModel, SpellsNetwork, input_limit}
 use Rattle.people_files.{specs.Endings.Halts, specs.CaseInputs.{CaseWords, FailsAtFailures, FailsAtInputs}, specs.Messages.{FailsAtFile, ShowsModelFault, ShowsNetworkFault}, specs.declared.stop.Halt.Halt, proofs.Causing.halt_map}
 

@@ -4,7 +4,7 @@ use Rattle.plan_terms.specs.Terms.{Demand, Network}
 use Rattle.sndlib_reader.{specs.Terms.{kind_word, network_of}, specs.declared.fault.ReadKind.ReadKind}
 use Rattle.text_kit.{specs.Terms.{AnswersAs, Fails, Read}, specs.declared.refusal.Refusal.Refusal, specs.declared.refusal.Refusal.TheVariants.Bad}
 use Rattle.input_files.specs.Terms.{SpellsNetwork, refusal_line}
-use Rattle.check_answers.{specs.declared.status.Status.Status, specs.declared.status.Status.TheVariants.BadNetwork}
+use Rattle.outside_io.{specs.declared.status.Status.Status, specs.declared.status.Status.TheVariants.BadNetwork}
 use Rattle.fault_messages.specs.Terms.{network_message, AreNetworkNotes}
 use Rattle.people_files.{specs.Endings.Halts, specs.Messages.{ShowsFault, ShowsNetworkFault, ShowsPlace}, specs.declared.stop.Halt.Halt, proofs.Causing.halt_map}
 use Rattle.sndlib_reader.specs.NetworkFiles as networks

@@ -1,9 +1,8 @@
 -- the files of a planning for people, read one after another, and the possible outcomes of each
 use Rattle.std.specs.Prelude.{◌≡◌, ◌≢◌, ℕ, ◌⊎◌, ◌++◌, Bool, true, false, List, [], Option}
 use Rattle.plan_terms.specs.Terms.{Case, Demand, Link, Listed, Network, Notes}
-use Rattle.outside_io.specs.Outside.{Files}
+use Rattle.outside_io.{specs.Outside.Files, specs.declared.status.Status.Status, specs.declared.status.Status.TheVariants.{BadFailures, BadModel, BadNetwork}}
 use Rattle.model_reader.specs.declared.model.Model.{Model}
-use Rattle.check_answers.{specs.declared.status.Status.Status, specs.declared.status.Status.TheVariants.{BadFailures, BadModel, BadNetwork}}
 use Rattle.input_files.specs.Terms.{PlanWords, default, Fetched, HasModel, HasStates, IsSettled, SpellsNetwork, input_limit, unused_line, named}
 use Rattle.people_files.{specs.Messages.{FailsAtFile, ShowsFailuresFault, ShowsModelFault, ShowsNetworkFault, unused_words}, specs.declared.words.CaseFiles.CaseFiles}
 use Rattle.model_reader.specs.Failures as failures

@@ -1,6 +1,6 @@
 -- runs that end with a message and print nothing, or print a text
 use Rattle.std.specs.Prelude.{◌≡◌, ℕ, List, [], Result, Ok, Err, IsErrAnd}
-use Rattle.check_answers.{specs.declared.status.Status.Status, specs.declared.status.Status.TheVariants.{Done, NoMemory, ReadFault}}
+use Rattle.outside_io.{specs.declared.status.Status.Status, specs.declared.status.Status.TheVariants.{Done, NoMemory, ReadFault}}
 use Rattle.people_files.specs.declared.stop.Halt.{Halt}
 use Rattle.people_files.specs.declared.stop.Halt.TheVariants as halt
 

@@ -1,10 +1,9 @@
 -- what is said of a file that ends a run
 use Rattle.std.specs.Prelude.{◌≡◌, ℕ, ◌⊎◌, min, List, [], ◌++◌, Option, Result, codes, length}
 use Rattle.plan_terms.specs.Terms.{Link}
-use Rattle.outside_io.{specs.Outside.Files, specs.declared.shelf.ReadFault.ReadFault, specs.declared.shelf.ReadFault.TheVariants.{Folder, NoRight, Other}}
+use Rattle.outside_io.{specs.Outside.Files, specs.declared.shelf.ReadFault.ReadFault, specs.declared.shelf.ReadFault.TheVariants.{Folder, NoRight, Other}, specs.declared.status.Status.Status, specs.declared.status.Status.TheVariants.{NoFile, TooLong}}
 use Rattle.sndlib_reader.specs.Terms.{kind_word, network_of}
 use Rattle.model_reader.specs.Terms.{SpellsFailures, failures_of, failures_word, model_word, SpellsModel, model_of}
-use Rattle.check_answers.{specs.declared.status.Status.Status, specs.declared.status.Status.TheVariants.{NoFile, TooLong}}
 use Rattle.fault_messages.specs.Terms.{failures_message, model_message, network_message, AreFailuresNotes, AreModelNotes, AreNetworkNotes}
 use Rattle.fault_texts.specs.FaultTexts.{IsFaultText}
 use Rattle.input_files.specs.Terms.{Fetched, SpellsNetwork, StopsAtFetch, Refuses}

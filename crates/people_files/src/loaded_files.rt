@@ -7,7 +7,7 @@ ghost use Rattle.people_files.specs.Messages as words;
 
 use crate::refusal::{FaultyFile, not_fetched, place_in, refused, unread};
 use crate::stop::Halt;
-use check_answers::Status;
+use outside_io::Status;
 use fault_messages::{network_notes, network_sentence};
 use input_files::{INPUT_LIMIT, REPORT_LIMIT};
 use net_core::{Bytes, Demands, List as Items, Network};

@@ -4,7 +4,7 @@ ghost use Rattle.input_files.specs.Refusals.{refusal_line, unused_line};
 ghost use Rattle.people_files.{specs.Endings.Halts, specs.Messages.{ShowsPlace, unused_words}};
 
 use crate::stop::{Halt, Told};
-use check_answers::Status;
+use outside_io::Status;
 use fault_texts::{Sentence, put_fault};
 use input_files::UnusedFailures;
 use net_core::{Bytes, List, NoMemory};

@@ -1,4 +1,4 @@
-use check_answers::Status;
+use outside_io::Status;
 use net_core::{Bytes, NoMemory};
 
 /// A status, and the message of a run that ends with it and prints nothing.

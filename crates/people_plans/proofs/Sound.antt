@@ -4,10 +4,10 @@ use Rattle.net_core.proofs.Library.{All-cons, All-weaker, Contains-append_left}
 use Rattle.plan_terms.specs.Terms.{AreDemands, Case, CutLine, Demand, Notes}
 use Rattle.plan_types.specs.Terms.{IsCertifiedPlan}
 use Rattle.plan_report.specs.Terms.{Plan, Outcome, Planned}
-use Rattle.plan_view.specs.Terms.{IsSoundPlan}
+use Rattle.plan_view.specs.Terms.{IsSoundPlan, HasSoundPlan, case_of_plan}
 use Rattle.proof_report.{proofs.Lemmas.lone_plans_carry, proofs.Certain.certified_certain, proofs.Known.{certified_told, lines_shown}, specs.ProvedReports.{IsLinedReport, certificate_cuts, proved_report}, specs.declared.ending.ProvedReport.ProvedReport}
 use Rattle.tree_check.{specs.declared.proof.Verdict.Verdict, specs.declared.proof.Verdict.TheVariants.{Cheapest, Above}}
-use Rattle.view_text.{specs.Terms.{HasSoundPlan, HoldsOfSingle, HoldsProof, case_of_plan}, specs.declared.proof.CostProof.CostProof}
+use Rattle.view_text.{specs.Terms.{HoldsOfSingle, HoldsProof}, specs.declared.proof.CostProof.CostProof}
 use Rattle.people_plans.specs.PlansForPeople.{cost_told, told_outcomes, told_of_proof}
 
 front_contains : (xs ys : List CutLine) (n : ℕ) → take n ys ≡ xs → (x : CutLine) → Contains xs x → Contains ys x

@@ -4,7 +4,8 @@ use Rattle.plan_terms.specs.Terms.{Case, Link, Notes}
 use Rattle.plan_report.specs.Terms.{SpellsReport, known_to, report_text, Outcome}
 use Rattle.proof_report.{specs.Terms.{whole_report, AreCharged}, specs.ProvedReports.{IsLinedReport, proof_text, proved_report}, specs.declared.ending.ProvedReport.ProvedReport}
 use Rattle.tree_check.{specs.declared.proof.Proof.Proof, specs.declared.proof.Verdict.Verdict}
-use Rattle.check_answers.{specs.Separations.NamesFirstSeparation, specs.declared.status.Status.Status, specs.declared.status.Status.TheVariants.{BadNetwork, Done, NotSurvivable}}
+use Rattle.check_answers.specs.Separations.{NamesFirstSeparation}
+use Rattle.outside_io.{specs.declared.status.Status.Status, specs.declared.status.Status.TheVariants.{BadNetwork, Done, NotSurvivable}}
 use Rattle.failure_states.specs.declared.separations.Separation.{Separation}
 use Rattle.failure_texts.specs.AllSeparations.{AreSeparations, separation_lines}
 use Rattle.view_text.{specs.Terms.{IsFirstBlock, IsReportView}, specs.declared.proof.CostProof.CostProof, specs.declared.proof.CostProof.TheVariants.{Cheapest, Above}}

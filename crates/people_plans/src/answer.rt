@@ -1,4 +1,4 @@
-use check_answers::Status;
+use outside_io::Status;
 use net_core::Bytes;
 
 /// What people are told of a plan. The text is for standard output, and the message for standard error.

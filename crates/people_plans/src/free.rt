@@ -1,10 +1,10 @@
 ghost use Rattle.std.specs.Prelude.{◌≡◌, ℕ, [], IfOk, MatchOption};
 ghost use Rattle.proof_report.specs.Terms.{AreCharged};
-ghost use Rattle.check_answers.specs.declared.status.Status.{Status};
+ghost use Rattle.outside_io.specs.declared.status.Status.{Status};
 ghost use Rattle.people_plans.specs.PlansForPeople.{IsFirstFreeLink, free_link_message};
 
 use crate::answer::PlanAnswer;
-use check_answers::Status;
+use outside_io::Status;
 use net_core::{Bytes, Link, List, NoMemory};
 use proof_report::are_dear;
 use std::alloc::Global;

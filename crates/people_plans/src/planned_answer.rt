@@ -1,12 +1,13 @@
 ghost use Rattle.std.specs.Prelude.{◌≡◌, ◌++◌, ◌<◌, ◌^◌, All, IfOk, false, length, true};
 ghost use Rattle.plan_report.specs.Terms.{SpellsReport, known_to, report_text};
 ghost use Rattle.proof_report.{specs.Terms.whole_report, specs.ProvedReports.{IsLinedReport, proof_text, proved_report}};
-ghost use Rattle.view_text.specs.Terms.{HasSoundPlan, HoldsOfSingle, IsFirstBlock, IsReportView, problem_case};
-ghost use Rattle.check_answers.specs.declared.status.Status.{Status};
+ghost use Rattle.plan_view.specs.Terms.{HasSoundPlan, problem_case};
+ghost use Rattle.view_text.specs.Terms.{HoldsOfSingle, IsFirstBlock, IsReportView};
+ghost use Rattle.outside_io.specs.declared.status.Status.{Status};
 ghost use Rattle.people_plans.specs.PlansForPeople.{PrintsPlan, told_outcomes, told_of_proof};
 
 use crate::answer::PlanAnswer;
-use check_answers::Status;
+use outside_io::Status;
 use net_core::{Bytes, Copied, Instance, List, NoMemory, Problem};
 use plan_types::Outcome;
 use proof_report::{ProvedReport, write_lined};

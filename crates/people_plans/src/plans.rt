@@ -1,5 +1,5 @@
 ghost use Rattle.std.specs.Prelude.{◌≤◌, IfOk, IfSome};
-ghost use Rattle.view_text.specs.Terms.{problem_case};
+ghost use Rattle.plan_view.specs.Terms.{problem_case};
 ghost use Rattle.proof_report.specs.Terms.{AreCharged};
 ghost use Rattle.people_plans.specs.PlansForPeople.{EndsPlanForPeople, EndsPlanWithin};
 

@@ -2,11 +2,11 @@ ghost use Rattle.std.specs.Prelude.{◌≡◌, ◌++◌, ◌∷◌, [], IfOk, On
 ghost use Rattle.plan_terms.specs.Terms.{case_of};
 ghost use Rattle.plan_report.specs.Terms.{state_name};
 ghost use Rattle.proof_report.specs.Terms.{IsSeparationOf};
-ghost use Rattle.check_answers.specs.declared.status.Status.{Status};
+ghost use Rattle.outside_io.specs.declared.status.Status.{Status};
 ghost use Rattle.people_plans.specs.PlansForPeople.{SaysSeparations, separated_words};
 
 use crate::answer::PlanAnswer;
-use check_answers::Status;
+use outside_io::Status;
 use net_core::{Bytes, Instance, List, Name, NoMemory, StateId};
 use failure_texts::{put_separations, separated_line, separations};
 use std::alloc::Global;

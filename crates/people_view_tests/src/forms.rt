@@ -4,7 +4,7 @@ use net_core::{Bytes, Problem};
 use people_files::Halt;
 use people_views::{state_form, view_report};
 use std::alloc::Global;
-use view_csv::Sheet;
+use plan_view::Sheet;
 use people_views::ViewForm;
 
 /// A report, the sheet of it that is asked for or else a state, and the text.

@@ -3,7 +3,7 @@ use people_files::Halt;
 use people_views::{picture_form, view_report};
 use sndlib_reader::read_network;
 use std::alloc::Global;
-use view_csv::Sheet;
+use plan_view::Sheet;
 use people_views::ViewForm;
 use worked_networks::problem;
 

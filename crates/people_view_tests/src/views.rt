@@ -1,5 +1,5 @@
 use crate::texts::{DEARER, EMPTY, REPORT, SHORT, TREE};
-use check_answers::Status;
+use outside_io::Status;
 use net_core::{Bytes, List, NoMemory, Problem};
 use people_files::Halt;
 use people_views::view_report;

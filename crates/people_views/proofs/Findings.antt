@@ -5,7 +5,8 @@ use Rattle.plan_terms.specs.Terms.{Case, Notes}
 use Rattle.plan_report.specs.Terms.{Outcome, Report}
 use Rattle.plan_checker.specs.Terms.{HoldNone, HoldsAt, IsFirstFinding, Kind}
 use Rattle.report_checker.specs.Terms.{Finding, outcome_findings, HasNoFinding, IsFirstOfReport, whole_findings}
-use Rattle.check_answers.{specs.Checks.IsJudged, specs.declared.status.Status.Status, specs.declared.status.Status.TheVariants.Rejected}
+use Rattle.check_answers.specs.Checks.{IsJudged}
+use Rattle.outside_io.{specs.declared.status.Status.Status, specs.declared.status.Status.TheVariants.Rejected}
 
 none_first : (kinds : List Kind) (f : Finding) → HoldNone kinds → IsFirstFinding kinds f → ⊥
 none_first [] f none first = first

@@ -3,11 +3,10 @@ use Rattle.std.proofs.Common.{◌≡◌, ℕ, List, All, get_or, length, subst, 
 use Rattle.plan_terms.specs.Terms.{AreDemands, Case, Demand, Notes}
 use Rattle.plan_types.specs.Terms.{IsCarryingPlan, IsCertifiedPlan}
 use Rattle.plan_report.specs.Terms.{IsOutcomeInForm, IsPlanInForm, known_to, Plan, Outcome, Planned, Unsurvivable, Report}
-use Rattle.plan_view.specs.Terms.{IsSoundPlan}
+use Rattle.plan_view.specs.Terms.{IsSoundPlan, HasSoundPlan, case_of_plan}
 use Rattle.plan_checker.specs.Terms.{HoldNone, IsAcceptedPlan}
 use Rattle.report_checker.specs.Terms.{DemandsDiffer, IsAcceptedOutcome, outcome_findings}
 use Rattle.cut_pool.specs.Histories.{demands_left}
-use Rattle.view_text.specs.Terms.{HasSoundPlan, case_of_plan}
 use Rattle.people_views.{specs.AcceptedReports.IsAcceptedReport, proofs.KeptDemands.demands_kept, proofs.SameDemands.same_demands}
 
 -- the case with these demands

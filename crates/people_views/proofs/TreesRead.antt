@@ -3,10 +3,11 @@ use Rattle.std.proofs.Common.{◌≡◌, ◌∙◌, ℕ, Bool, true, false, List
 use Rattle.net_core.proofs.Library.{false≢true}
 use Rattle.plan_terms.specs.Terms.{Case}
 use Rattle.plan_types.specs.declared.plan.Plan.{Plan}
-use Rattle.check_answers.specs.declared.status.Status.TheVariants.{BadReport, Rejected}
+use Rattle.outside_io.specs.declared.status.Status.TheVariants.{BadReport, Rejected}
 use Rattle.tree_check.specs.Proofs.{IsAcceptedProof}
 use Rattle.tree_reader.{specs.CommentTexts.comments_from, specs.TreeWords.has_tree_line, specs.declared.tree.ReadTree.ReadTree}
-use Rattle.view_text.{specs.Terms.case_of_plan, specs.declared.proof.CostProof.CostProof}
+use Rattle.plan_view.specs.Terms.{case_of_plan}
+use Rattle.view_text.specs.declared.proof.CostProof.{CostProof}
 use Rattle.people_files.{specs.Endings.Halts, specs.declared.stop.Halt.Halt, proofs.Causing.halt_map}
 use Rattle.people_views.specs.ProofLines.{FailsAtPlanLines, FailsAtTree, HasTreeLine, ReadsPlanProof, ShowsByTree, ShowsNoTree, SpellsPlanTree, TellsRejectedTree, lines_begin, proof_by, told_by}
 

@@ -4,13 +4,14 @@ use Rattle.plan_terms.specs.Terms.{Case}
 use Rattle.plan_report.specs.Terms.{known_to, Plan, Outcome, Planned, Unsurvivable}
 use Rattle.snd_tokens.specs.Terms.{tokens_from}
 use Rattle.report_words.specs.Terms.{report_kind_word}
-use Rattle.check_answers.specs.declared.status.Status.{Status}
+use Rattle.outside_io.specs.declared.status.Status.{Status}
 use Rattle.tree_check.{specs.Proofs.{AnswersProof, IsAcceptedProof}, specs.declared.proof.Proof.Proof, specs.declared.proof.TreeAnswer.TheVariants.Rejected, specs.declared.proof.Verdict.Verdict}
 use Rattle.tree_reader.{specs.CommentTexts.comments_from, specs.ReadingTrees.tree_at, specs.ReportEnds.end_after, specs.TreeWords.has_tree_line, specs.Trees.SpellsTree, specs.declared.tree.ReadTree.ReadTree}
 use Rattle.fault_messages.specs.ReportMessages.{proof_message}
-use Rattle.view_text.{specs.Terms.case_of_plan, specs.declared.proof.CostProof.CostProof, specs.declared.proof.CostProof.TheVariants.{Nothing, Cheapest, Above}}
+use Rattle.plan_view.specs.Terms.{case_of_plan}
+use Rattle.view_text.{specs.declared.proof.CostProof.CostProof, specs.declared.proof.CostProof.TheVariants.{Nothing, Cheapest, Above}}
 use Rattle.people_files.specs.Messages.{HasNoNotes, ShowsFault}
-use Rattle.check_answers.specs.declared.status.Status.TheVariants as ends
+use Rattle.outside_io.specs.declared.status.Status.TheVariants as ends
 use Rattle.tree_check.specs.declared.proof.Verdict.TheVariants as verdict
 
 -- where the report ends, below which its comment lines follow

@@ -5,7 +5,8 @@ use Rattle.plan_report.specs.Terms.{SpellsReport, known_to, Report}
 use Rattle.report_checker.specs.Terms.{Finding, IsFirstOfReport}
 use Rattle.report_words.specs.Terms.{report_kind_word}
 use Rattle.report_reader.specs.ReadingReport.{report_of}
-use Rattle.check_answers.{specs.Checks.IsJudged, specs.declared.status.Status.Status, specs.declared.status.Status.TheVariants.{BadReport, Done, Rejected}}
+use Rattle.check_answers.specs.Checks.{IsJudged}
+use Rattle.outside_io.{specs.declared.status.Status.Status, specs.declared.status.Status.TheVariants.{BadReport, Done, Rejected}}
 use Rattle.fault_texts.specs.Quotes.{note_text}
 use Rattle.fault_messages.specs.Terms.{finding_message, AreReportNotes, report_message}
 use Rattle.view_text.specs.declared.proof.CostProof.{CostProof}

@@ -1,6 +1,6 @@
 -- states that are shown by their names, and what is said of a name that none has
 use Rattle.std.specs.Prelude.{◌≡◌, ℕ, List, ◌∷◌, ◌++◌, codes, map}
-use Rattle.check_answers.{specs.declared.status.Status.Status, specs.declared.status.Status.TheVariants.BadWords}
+use Rattle.outside_io.{specs.declared.status.Status.Status, specs.declared.status.Status.TheVariants.BadWords}
 use Rattle.fault_texts.specs.Quotes.{IsQuote}
 use Rattle.fault_messages.specs.NearNames.{IsNearestNote}
 use Rattle.plan_terms.specs.Terms.{Listed}

@@ -1,5 +1,7 @@
 ghost use Rattle.std.specs.Prelude.{OnOk};
-ghost use Rattle.view_text.specs.Terms.{AddsText, HoldsOfSingle, IsReportView, problem_case};
+ghost use Rattle.text_kit.specs.Terms.{AddsText};
+ghost use Rattle.view_text.specs.Terms.{HoldsOfSingle, IsReportView};
+ghost use Rattle.plan_view.specs.Terms.{problem_case};
 ghost use Rattle.people_views.{specs.Forms.{HasForm, IsFormOf}, specs.AcceptedReports.IsAcceptedReport};
 
 use crate::{ViewForm, put_form};

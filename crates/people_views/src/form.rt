@@ -1,12 +1,15 @@
 ghost use Rattle.std.specs.Prelude.{All, OnOk};
-ghost use Rattle.view_text.specs.Terms.{HasSoundPlan, HoldsOfSingle, problem_case, AddsText};
+ghost use Rattle.plan_view.specs.Terms.{HasSoundPlan, problem_case};
+ghost use Rattle.view_text.specs.Terms.{HoldsOfSingle};
+ghost use Rattle.text_kit.specs.Terms.{AddsText};
 ghost use Rattle.people_views.specs.Forms.{HasForm, IsFormOf};
 
 use net_core::{Bytes, NoMemory, Problem};
 use node_places::Place;
 use plan_types::Outcome;
 use std::alloc::Global;
-use view_csv::{Sheet, put_sheet};
+use plan_view::Sheet;
+use view_csv::put_sheet;
 use view_state::put_state_view;
 use view_svg::put_report_picture;
 use view_text::{CostProof, put_view};

@@ -1,11 +1,12 @@
 ghost use Rattle.std.specs.Prelude.{◌≡◌, ◌≤◌, All, IfErr, IfOk, length};
 ghost use Rattle.plan_terms.specs.Terms.{AreDemands};
-ghost use Rattle.view_text.{specs.Reports.HoldsOfOutcome, specs.Terms.{HasSoundPlan, HoldsOfSingle, HoldsProof, case_of_plan, problem_case}};
+ghost use Rattle.view_text.{specs.Reports.HoldsOfOutcome, specs.Terms.{HoldsOfSingle, HoldsProof}};
+ghost use Rattle.plan_view.specs.Terms.{HasSoundPlan, case_of_plan, problem_case};
 ghost use Rattle.people_files.specs.Endings.{Halts};
 ghost use Rattle.people_views.specs.ProofLines.{FailsAtLines, FailsAtOutcomeLines, FailsAtPlanLines, FailsAtTree, ReadsOutcomeProof, ReadsPlanProof, ReadsProof, ShowsByTree, ShowsNoTree, SpellsPlanTree, lines_begin};
 
 use crate::trees::checked_tree;
-use check_answers::Status;
+use outside_io::Status;
 use fault_messages::proof_sentence;
 use net_core::Problem;
 use people_files::{FaultyFile, Halt, refused};

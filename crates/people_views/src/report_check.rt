@@ -2,11 +2,12 @@ ghost use Rattle.std.specs.Prelude.{◌≡◌, ◌++◌, IfErr, IfOk, OnOk};
 ghost use Rattle.plan_report.specs.Terms.{IsReportInForm, known_of};
 ghost use Rattle.report_checker.specs.ReportFindings.{HasNoFinding};
 ghost use Rattle.check_answers.specs.Checks.{IsJudged};
-ghost use Rattle.view_text.specs.Terms.{problem_case};
+ghost use Rattle.plan_view.specs.Terms.{problem_case};
 ghost use Rattle.people_files.specs.Endings.{Halts};
 ghost use Rattle.people_views.{specs.AcceptedReports.IsAcceptedReport, specs.ReportEnds.{SaysFinding, TellsFinding, said_text}};
 
-use check_answers::{Status, answer_check};
+use check_answers::answer_check;
+use outside_io::Status;
 use fault_messages::finding_sentence;
 use fault_texts::{Sentence, put_note};
 use net_core::{Bytes, List, NoMemory, Problem};

@@ -1,10 +1,10 @@
 ghost use Rattle.std.specs.Prelude.{◌≡◌, IfErr, IfOk};
 ghost use Rattle.plan_report.specs.Terms.{SpellsReport, known_of};
-ghost use Rattle.view_text.specs.Terms.{problem_case};
+ghost use Rattle.plan_view.specs.Terms.{problem_case};
 ghost use Rattle.people_files.specs.Endings.{Halts};
 ghost use Rattle.people_views.specs.ReportEnds.{ShowsReportFault};
 
-use check_answers::Status;
+use outside_io::Status;
 use fault_messages::{report_notes, report_sentence};
 use net_core::Problem;
 use people_files::{FaultyFile, Halt, place_in, refused};

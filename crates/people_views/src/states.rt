@@ -2,11 +2,11 @@ ghost use Rattle.std.specs.Prelude.{◌≡◌, ◌++◌, ℕ, List, IfOk, MatchR
 ghost use Rattle.fault_texts.specs.Quotes.{IsQuote};
 ghost use Rattle.people_files.specs.Endings.{Halts};
 ghost use Rattle.view_state.specs.Terms.{IsNamedState};
-ghost use Rattle.view_text.specs.Terms.{problem_case};
+ghost use Rattle.plan_view.specs.Terms.{problem_case};
 ghost use Rattle.people_views.{specs.Forms.IsFormOf, specs.StateForms.{IsStateMessage, LacksState, NamesState, PicturesState, state_hint, state_names}};
 
 use crate::ViewForm;
-use check_answers::Status;
+use outside_io::Status;
 use fault_messages::put_nearest_note;
 use fault_texts::put_quote;
 use net_core::{Bytes, List as Items, Listed, NoMemory, Problem, States};

@@ -1,11 +1,12 @@
 ghost use Rattle.std.specs.Prelude.{◌≡◌, ◌+◌, ◌++◌, IfErr, IfOk, OnOk, codes, decimal, length};
 ghost use Rattle.plan_terms.specs.Terms.{AreDemands};
 ghost use Rattle.tree_check.specs.Proofs.{IsAcceptedProof};
-ghost use Rattle.view_text.specs.Terms.{HoldsProof, case_of_plan, problem_case};
+ghost use Rattle.view_text.specs.Terms.{HoldsProof};
+ghost use Rattle.plan_view.specs.Terms.{case_of_plan, problem_case};
 ghost use Rattle.people_files.specs.Endings.{Halts};
 ghost use Rattle.people_views.specs.ProofLines.{TellsRejectedTree, end_wrong, proof_by, told_by, tree_message, tree_wrong};
 
-use check_answers::Status;
+use outside_io::Status;
 use net_core::{Bytes, Copied, List, NoMemory, Problem};
 use people_files::{Halt, told};
 use plan_types::Plan;

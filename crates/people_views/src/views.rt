@@ -1,4 +1,4 @@
-ghost use Rattle.view_text.specs.Terms.{problem_case};
+ghost use Rattle.plan_view.specs.Terms.{problem_case};
 ghost use Rattle.plan_report.specs.Terms.{IsReportInForm, known_of};
 ghost use Rattle.people_files.specs.Endings.{HasCauseForPeople};
 ghost use Rattle.people_views.{specs.Forms.IsFormOf, specs.AcceptedReports.IsAcceptedReport, specs.ReportEnds.{EndsReport, ViewsAccepted, ViewsReport}};

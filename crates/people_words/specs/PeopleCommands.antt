@@ -1,7 +1,7 @@
 -- commands for people, and the words that give them
 use Rattle.std.{specs.Prelude.{◌≡◌, ◌≢◌, ◌≤◌, ℕ, ◌⊎◌, Bool, true, false, List, [], ◌∷◌, Option, None, Some, String, codes, is_some, length, map, string_bytes}, specs.Global.Global, specs.Str.Parse.{IsNumeral, digits_value}}
 use Rattle.people_files.{specs.Terms.default, specs.CaseInputs.CaseWords}
-use Rattle.view_csv.{specs.declared.sheet.Sheet.Sheet, specs.declared.sheet.Sheet.TheVariants.{Links, States, Flows}}
+use Rattle.plan_view.{specs.declared.sheet.Sheet.Sheet, specs.declared.sheet.Sheet.TheVariants.{Links, States, Flows}}
 use Rattle.people_words.{specs.declared.words.HelpTopic.HelpTopic, specs.GivenWords.{AreRead, GivenOption, TakesOptions, value_given}}
 use Rattle.people_words.specs.declared.words.HelpTopic.TheVariants as topics
 

@@ -1,6 +1,6 @@
 ghost use Rattle.std.specs.Prelude.{◌≡◌, ◌≤◌, ◌<◌, ◌^◌, ◌↔◌, ◌∷◌, [], ℕ, Bool, List, Option, None, IfOk, IfSome, IsTrue, MatchOption, codes, is_some, map, option_map, string_bytes};
 ghost use Rattle.people_files.specs.CaseInputs.{CaseWords, named_case};
-ghost use Rattle.view_csv.specs.declared.sheet.Sheet.{Sheet};
+ghost use Rattle.plan_view.specs.declared.sheet.Sheet.{Sheet};
 ghost use Rattle.people_words.{specs.PeopleCommands.{AskedForm, AskedPlan, AsksPlan, PeopleCommand, IsPeopleCommand, IsGiven, IsLoneWord, IsOfParts, IsOfReport, IsOfWord, IsSplitsWord, IsViewOf, NamesCase, NamesAnyForm, NamesFile, NamesForm, NamesOption, NamesPicture, NamesSheet, NamesSplits, NamesSurvival, NamesTopic, NamesViewForm, view_options}, specs.GivenWords.TakesOptions, specs.AskedCommands.{asked_form, people_command, asked_plan}, specs.declared.words.HelpTopic.HelpTopic, specs.inner.Causes.given_option};
 
 use crate::given::{Given, OptionValue, given_by};
@@ -10,7 +10,7 @@ use net_core::NoMemory;
 use people_files::CaseFiles;
 use people_files::input_files::{DEFAULT, PlanFiles};
 use std::alloc::Global;
-use view_csv::Sheet;
+use plan_view::Sheet;
 
 /// The options of a view.
 const VIEW_OPTIONS: [&str; 6] = [

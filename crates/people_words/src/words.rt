@@ -1,7 +1,7 @@
 ghost use Rattle.std.{specs.Prelude.◌≤◌, specs.Option.option_map_or};
 
 use people_files::CaseFiles;
-use view_csv::Sheet;
+use plan_view::Sheet;
 
 /// A command that help is asked for.
 #[derive(Clone, Copy)]

@@ -1,3 +1,4 @@
+pub mod Cases
 pub mod Loads
 pub mod Parts
 pub mod Reroutes

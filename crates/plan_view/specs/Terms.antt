@@ -6,3 +6,4 @@ pub use Rattle.plan_view.specs.Rounding.{IsCeiling, IsNearest}
 pub use Rattle.plan_view.specs.Rows.{AreLinkRows, AreLoadRows, AreStateRows, IsLinkRow, IsLoadRow, IsPlanSummary, IsStateRow, failed_links}
 pub use Rattle.plan_view.specs.Sound.{IsSoundPlan}
 pub use Rattle.plan_view.specs.FlowRows.{end_beyond, flow_row, nodes_along, rounded_over, start_of}
+pub use Rattle.plan_view.specs.Cases.{HasSoundPlan, case_of_plan, problem_case}

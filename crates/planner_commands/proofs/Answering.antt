@@ -1,9 +1,8 @@
 -- how the result of one step becomes the result of the run
 use Rattle.std.proofs.Common.{ℕ, List, Option, Result, Ok, Err, inr}
 use Rattle.plan_terms.specs.Terms.{Problem, Notes, Case, case}
-use Rattle.outside_io.specs.Outside.{Files}
+use Rattle.outside_io.{specs.Outside.Files, specs.declared.answer.Answer.Answer, specs.declared.status.Status.Status}
 use Rattle.input_files.{specs.Terms.{PlanWords, EndsAfterInputs, HasInputs, Stops}, specs.declared.stop.Stop.Stop, proofs.Stopping.stop_map}
-use Rattle.check_answers.{specs.declared.answer.Answer.Answer, specs.declared.status.Status.Status}
 use Rattle.planner_commands.{specs.Run.Ends, specs.inner.Steps.HasCause}
 
 -- the input files are all read, and the run ends with this result

@@ -1,13 +1,13 @@
 -- the result of a run: its status, and the text that it writes
 use Rattle.std.{specs.Prelude.{◌≡◌, ◌≢◌, ℕ, ◌⊎◌, List, [], Option, String}, specs.Global.Global}
 use Rattle.plan_terms.specs.Terms.{Notes, Case}
-use Rattle.outside_io.specs.Outside.{Files, Rose, Takes, TakesPrefix}
+use Rattle.outside_io.{specs.Outside.{Files, Rose, Takes, TakesPrefix}, specs.declared.status.Status.Status, specs.declared.status.Status.TheVariants.{Done, BadWords, WriteFault, BadScript, BadReport, NoMemory, BadFlows}}
 use Rattle.plan_report.specs.Terms.{known_to, SpellsReport, Report}
 use Rattle.session_script.{specs.declared.script.Command.Command, specs.declared.script.Script.Script, specs.Terms.SpellsScript}
 use Rattle.sample_net.specs.Samples.{no_notes}
 use Rattle.flow_file.{specs.FlowFiles.SpellsFlows, specs.declared.flow.FlowFile.FlowFile}
 use Rattle.input_files.specs.Inputs.{EndsAfterInputs, Fetched, RefusesFlowFile, RefusesReportFile, RefusesScriptFile, StopsAtFile, input_limit, report_limit}
-use Rattle.check_answers.{specs.Checks.IsJudged, specs.declared.status.Status.Status, specs.declared.status.Status.TheVariants.{Done, BadWords, WriteFault, BadScript, BadReport, NoMemory, BadFlows}}
+use Rattle.check_answers.specs.Checks.{IsJudged}
 use Rattle.command_answers.specs.Answers.{IsPrintedReport, EndsPlan, EndsTrim, EndsProve, EndsImported, sample_case, IsSummary}
 use Rattle.planner_commands.specs.Commands.{IsCommand, usage}
 use Rattle.planner_commands.specs.Commands as commands

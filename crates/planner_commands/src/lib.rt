@@ -6,4 +6,4 @@ mod output;
 pub mod run;
 mod words;
 
-pub use check_answers::Status;
+pub use outside_io::Status;

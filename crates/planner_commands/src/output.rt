@@ -2,7 +2,7 @@ ghost use Rattle.std.specs.Prelude.{◌≡◌, ◌≢◌, ◌≤◌, [], OnErr};
 ghost use Rattle.outside_io.specs.Outside.{Puts, Rose};
 ghost use Rattle.planner_commands.specs.Run.{PutsText};
 
-use check_answers::Status;
+use outside_io::Status;
 use outside_io::{Failed, Sink};
 
 /// How many bytes are put at a time.

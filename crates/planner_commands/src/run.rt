@@ -3,14 +3,15 @@ ghost use Rattle.plan_terms.specs.Terms.{case};
 ghost use Rattle.sample_net.specs.Samples.{no_notes};
 ghost use Rattle.command_answers.specs.Answers.{IsSummary, sample_case};
 ghost use Rattle.input_files.specs.Terms.{KeepsShelf, named};
-ghost use Rattle.check_answers.specs.declared.status.Status.{Status};
+ghost use Rattle.outside_io.specs.declared.status.Status.{Status};
 ghost use Rattle.planner_commands.{specs.Commands.usage, specs.Run.{Ends, EndsCheck, EndsCommand, PutsText}, specs.inner.Steps.HasCause};
 ghost use Rattle.planner_commands.specs.Commands as commands;
 
 use crate::command::command_of;
 use crate::output::say;
 use crate::words::{Command, FourFiles, ProofWords, SampleWords};
-use check_answers::{Answer, Status, answer_check};
+use check_answers::answer_check;
+use outside_io::{Answer, Status};
 use command_answers::{
     answer_import, answer_plan, answer_prove, answer_sample, answer_session, answer_trim,
 };

@@ -3,7 +3,7 @@
 
 mod run;
 
-use check_answers::Status;
+use outside_io::Status;
 use net_core::NoMemory;
 use outside_io::{FileShelf, OpenGate, StreamSink};
 use run::run;

@@ -1,9 +1,9 @@
 ghost use Rattle.std.specs.Prelude.{◌≡◌, ℕ, List, ◌≤◌};
 ghost use Rattle.planner_commands.specs.Run.{Ends, PutsText};
 ghost use Rattle.input_files.specs.Shelves.{KeepsShelf};
-ghost use Rattle.check_answers.specs.declared.status.Status.{Status};
+ghost use Rattle.outside_io.specs.declared.status.Status.{Status};
 
-use check_answers::Status;
+use outside_io::Status;
 use outside_io::{Gate, Shelf, Sink};
 use planner_commands::run as commands;
 use std::alloc::Global;

@@ -8,4 +8,4 @@ pub use Rattle.text_kit.specs.Names.{any_name, found_or, long_name_fault, named_
 pub use Rattle.text_kit.specs.Numbers.{number_or, number_word}
 pub use Rattle.text_kit.specs.Places.{EndsBefore, place}
 pub use Rattle.text_kit.specs.Reading.{Ending, Parenthesis, Read, Reading, TheEnd, TheWord, after, close_at, each_at, end_at, expected, give, list_at, mapped, no_fault, not_empty, of_length, open_at, over_at, past_ending, placed, sound, step_at, whole_at, word_at, ◌>>=◌}
-pub use Rattle.text_kit.specs.Written.{AddsItems, IsShortItem, IsWritable, byte_after, last_digit, last_digits, money_word, word_of, written}
+pub use Rattle.text_kit.specs.Written.{AddsItems, AddsText, IsShortItem, IsWritable, byte_after, last_digit, last_digits, money_word, word_of, written}

@@ -54,3 +54,7 @@ IsShortItem Closing = Unit {0}
 pub record AddsItems (old : List ℕ) (items : List Item) (new : List ℕ) : Type 0 where
   pub text : new ≡ old ++ written items
   pub each : AllByRecursion IsShortItem items
+
+-- a text of this kind was put after what was there
+abbrev pub AddsText : (List ℕ → Type 0) → List ℕ → List ℕ → Type 0
+AddsText IsText old new = (text : List ℕ) × IsText text × (new ≡ old ++ text)

@@ -2,3 +2,4 @@ pub mod Appended
 pub mod Apart
 pub mod Lemmas
 pub mod ModuleWords
+pub mod Few

@@ -21,6 +21,3 @@ pub record HasRowsAbove (above below : List (List (List ℕ))) (text : List ℕ)
   pub has_lower : HasRows below lower
   pub printed : text ≡ upper ++ lower
 
--- a text of this kind was put after what was there
-abbrev pub AddsText : (List ℕ → Type 0) → List ℕ → List ℕ → Type 0
-AddsText IsText old new = (text : List ℕ) × IsText text × (new ≡ old ++ text)

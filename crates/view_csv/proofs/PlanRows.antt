@@ -3,8 +3,9 @@ use Rattle.std.proofs.Common.{◌≡◌, ℕ, ◌+◌, ◌≤◌, ◌<◌, List,
 use Rattle.net_core.proofs.Library.{take_more}
 use Rattle.plan_terms.specs.Terms.{Case, StateId}
 use Rattle.plan_report.specs.Terms.{Outcome, Unsurvivable}
-use Rattle.view_cells.specs.Terms.{AddsText}
-use Rattle.view_csv.{specs.CommaSeparated.csv_text, specs.Columns.sheet_columns, specs.Sheets.{AddsRows, AreOutcomeRows, IsSheet, ShowsOutcome}, specs.declared.sheet.Sheet.Sheet}
+use Rattle.text_kit.specs.Terms.{AddsText}
+use Rattle.plan_view.specs.declared.sheet.Sheet.{Sheet}
+use Rattle.view_csv.{specs.CommaSeparated.csv_text, specs.Columns.sheet_columns, specs.Sheets.{AddsRows, AreOutcomeRows, IsSheet, ShowsOutcome}}
 
 pub none_shown : (sheet : Sheet) (p : Case) (caller serial version position : ℕ) (state : StateId) (demand : List ℕ) (rows : List (List (List ℕ)))
     → AddsRows (ShowsOutcome sheet p (Unsurvivable caller serial version position state demand)) rows rows

@@ -1,6 +1,6 @@
 -- the names of columns
 use Rattle.std.specs.Prelude.{ℕ, List, [], ◌∷◌, codes}
-use Rattle.view_csv.{specs.declared.sheet.Sheet.Sheet, specs.declared.sheet.Sheet.TheVariants.{Links, States, Flows}}
+use Rattle.plan_view.{specs.declared.sheet.Sheet.Sheet, specs.declared.sheet.Sheet.TheVariants.{Links, States, Flows}}
 
 -- of links
 abbrev pub link_columns : List (List ℕ)

@@ -1,10 +1,9 @@
 -- the rows of plans, and the sheet of a report
 use Rattle.std.{specs.Prelude.{◌≡◌, ℕ, zero, suc, ◌+◌, List, [], ◌∷◌, ◌++◌, length, map, slice_get}, specs.Option.option_map_or}
-use Rattle.plan_view.{specs.Terms.{flow_row, AreLinkRows, AreStateRows}, specs.declared.rows.LinkRow.LinkRow, specs.declared.rows.StateRow.StateRow}
+use Rattle.plan_view.{specs.Terms.{flow_row, AreLinkRows, AreStateRows, case_of_plan}, specs.declared.rows.LinkRow.LinkRow, specs.declared.rows.StateRow.StateRow, specs.declared.sheet.Sheet.Sheet, specs.declared.sheet.Sheet.TheVariants.{Links, States, Flows}}
 use Rattle.plan_report.specs.Terms.{known_to, Plan, Outcome, Planned, Unsurvivable}
 use Rattle.plan_terms.specs.Terms.{Case, Routing}
-use Rattle.view_text.specs.Terms.{case_of_plan}
-use Rattle.view_csv.{specs.CommaSeparated.csv_text, specs.Columns.sheet_columns, specs.Fields.{flow_fields, link_fields, state_fields, with_plan}, specs.declared.sheet.Sheet.Sheet, specs.declared.sheet.Sheet.TheVariants.{Links, States, Flows}}
+use Rattle.view_csv.{specs.CommaSeparated.csv_text, specs.Columns.sheet_columns, specs.Fields.{flow_fields, link_fields, state_fields, with_plan}}
 
 -- the fields of all links of a plan, in order
 pub record AreLinkFields (p : Case) (caller serial : ℕ) (plan : Plan) (all : List (List (List ℕ))) : Type 0 where

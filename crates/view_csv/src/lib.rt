@@ -11,9 +11,8 @@ mod links;
 mod names;
 mod outcomes;
 mod rows;
-pub mod sheet;
+mod sheet;
 mod states;
 
 pub use outcomes::put_sheet;
 pub use rows::put_csv;
-pub use sheet::Sheet;

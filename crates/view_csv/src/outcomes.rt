@@ -1,13 +1,14 @@
 ghost use Rattle.std.specs.Prelude.{◌≡◌, ◌∷◌, [], All, IfOk, OnOk, length};
 ghost use Rattle.plan_terms.specs.Terms.{AreDemands, case_of};
-ghost use Rattle.plan_view.specs.Terms.{IsSoundPlan};
-ghost use Rattle.view_text.specs.Terms.{HasSoundPlan, case_of_plan, problem_case, AddsText};
+ghost use Rattle.plan_view.specs.Terms.{IsSoundPlan, HasSoundPlan, case_of_plan, problem_case};
+ghost use Rattle.text_kit.specs.Terms.{AddsText};
 ghost use Rattle.view_csv.{specs.Columns.sheet_columns, specs.Sheets.{AddsRows, AreOutcomeRows, IsSheet, ShowsOutcome, ShowsPlan}};
 
 use crate::flows::put_flows;
 use crate::links::put_links;
 use crate::put_csv;
-use crate::sheet::{PlanNumber, Sheet, sheet_columns};
+use crate::sheet::{PlanNumber, sheet_columns};
+use plan_view::Sheet;
 use crate::states::put_states;
 use net_core::{Bytes, Instance, List, NoMemory, Problem};
 use plan_types::{Outcome, Plan};

@@ -2,20 +2,10 @@ ghost use Rattle.std.specs.Prelude.{◌≡◌, ◌∷◌, [], IfOk, decimal};
 ghost use Rattle.view_csv.specs.Columns.{flow_columns, link_columns, sheet_columns, state_columns};
 
 use net_core::{List, NoMemory};
+use plan_view::Sheet;
 use std::alloc::Global;
 use text_layout::Row;
 use view_cells::cells::{push_number, push_pair, push_three};
-
-/// Of what there is a row.
-#[derive(Clone, Copy, Debug, PartialEq, Eq)]
-pub enum Sheet {
-    /// Of each link.
-    Links,
-    /// Of each state.
-    States,
-    /// Of each flow in each state.
-    Flows,
-}
 
 /// Of which plan a row is: the caller that asked for it, and which of the caller's plans it is.
 #[derive(Clone, Copy)]

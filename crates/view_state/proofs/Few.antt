@@ -3,7 +3,7 @@ use Rattle.std.proofs.Common.{ℕ, ◌≤◌, List, [], ◌∷◌, Option, None,
 use Rattle.net_core.proofs.Library.{All-from_recursion, option_map_or}
 use Rattle.plan_view.{specs.declared.link_flows.FlowRow.FlowRow, specs.declared.rows.LoadRow.LoadRow}
 use Rattle.plan_terms.specs.Terms.{Demand, Link, Places}
-use Rattle.view_text.proofs.Few.{each_fits, fits}
+use Rattle.view_cells.proofs.Few.{each_fits, fits}
 use Rattle.view_state.specs.StateTables.{load_cells, load_heads, loaded_cells, path_cells, path_heads}
 
 load_fits : (places : Places) (nodes : List (List ℕ)) (row : LoadRow) (o : Option Link)

@@ -1,10 +1,10 @@
 -- the tables of a state, part after part
 use Rattle.std.{proofs.Common.{◌≡◌, ◌≤◌, ℕ, List, [], ◌∷◌, ◌++◌, codes, length, map, refl}, proofs.lemmas.Option.slice_get_past}
-use Rattle.plan_view.{specs.declared.link_flows.FlowRow.FlowRow, specs.Terms.{AreLoadRows, routing_in}, specs.declared.rows.LoadRow.LoadRow}
+use Rattle.plan_view.{specs.declared.link_flows.FlowRow.FlowRow, specs.Terms.{AreLoadRows, routing_in, case_of_plan}, specs.declared.rows.LoadRow.LoadRow}
 use Rattle.plan_terms.specs.Terms.{Case, capacities}
 use Rattle.plan_types.specs.declared.plan.Plan.{Plan}
-use Rattle.view_cells.{specs.Terms.{AddsText, HasRows}, proofs.Lemmas.{appended, appended_three}}
-use Rattle.view_text.specs.Terms.{case_of_plan}
+use Rattle.text_kit.specs.Terms.{AddsText}
+use Rattle.view_cells.{specs.Terms.HasRows, proofs.Lemmas.{appended, appended_three}}
 use Rattle.view_state.{specs.StateTables.{load_cells, load_heads, path_cells, path_heads}, specs.StateViews.{HasStateTables, ShowsPlanState, ShowsStateRows, outcome_line, state_flows}}
 
 -- a state without a routing has no flows

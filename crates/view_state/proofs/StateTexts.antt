@@ -3,7 +3,8 @@ use Rattle.std.proofs.Common.{◌≡◌, ℕ, ◌+◌, ◌≤◌, ◌<◌, List,
 use Rattle.net_core.proofs.Library.{take_more}
 use Rattle.plan_terms.specs.Terms.{Case}
 use Rattle.plan_types.specs.declared.report.Outcome.{Outcome}
-use Rattle.view_cells.{specs.Terms.AddsText, proofs.Lemmas.appended}
+use Rattle.text_kit.specs.Terms.{AddsText}
+use Rattle.view_cells.proofs.Lemmas.{appended}
 use Rattle.view_state.{specs.StateHeadings.state_heading, specs.StateViews.{AreStateTexts, IsStateView, ShowsState}}
 
 more_texts : (p : Case) (s : ℕ) (xs : List Outcome) (outcome : Outcome) (texts one : List ℕ) → AreStateTexts p s xs texts → ShowsState p s outcome one

@@ -1,10 +1,9 @@
 -- what people read of one state of the plans of a report
 use Rattle.std.{specs.Prelude.{◌≡◌, ℕ, List, [], ◌∷◌, ◌++◌, codes, decimal, length, map, slice_get}, specs.Option.option_map_or}
-use Rattle.plan_view.{specs.Terms.{flow_row, AreLoadRows, routing_in}, specs.declared.link_flows.FlowRow.FlowRow, specs.declared.rows.LoadRow.LoadRow}
+use Rattle.plan_view.{specs.Terms.{flow_row, AreLoadRows, routing_in, case_of_plan}, specs.declared.link_flows.FlowRow.FlowRow, specs.declared.rows.LoadRow.LoadRow}
 use Rattle.plan_terms.specs.Terms.{Case, Routing, capacities}
 use Rattle.plan_report.specs.Terms.{Plan, Outcome, Planned, Unsurvivable}
 use Rattle.view_cells.specs.Terms.{HasRows}
-use Rattle.view_text.specs.Terms.{case_of_plan}
 use Rattle.view_state.{specs.StateHeadings.state_heading, specs.StateTables.{load_cells, load_heads, path_cells, path_heads}}
 
 -- the text has these rows of a state: what links carry, and paths that demands take

@@ -1,7 +1,6 @@
 ghost use Rattle.std.specs.Prelude.{◌≡◌, ◌++◌, OnOk, codes, flat_map};
 ghost use Rattle.plan_terms.specs.Terms.{link_name};
-ghost use Rattle.plan_view.specs.Terms.{failed_links};
-ghost use Rattle.view_text.specs.Terms.{problem_case};
+ghost use Rattle.plan_view.specs.Terms.{failed_links, problem_case};
 ghost use Rattle.view_state.specs.StateHeadings.{out_line, out_words, state_heading, state_title};
 
 use net_core::{Bytes, Link, LinkId, Listed, NoMemory, Problem, StateId};

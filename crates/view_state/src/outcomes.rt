@@ -1,7 +1,7 @@
 ghost use Rattle.std.specs.Prelude.{◌≡◌, ◌≤◌, ◌++◌, All, OnOk, codes, length};
 ghost use Rattle.plan_terms.specs.Terms.{AreDemands};
-ghost use Rattle.plan_view.specs.Terms.{IsSoundPlan};
-ghost use Rattle.view_text.specs.Terms.{HasSoundPlan, case_of_plan, problem_case, AddsText};
+ghost use Rattle.plan_view.specs.Terms.{IsSoundPlan, HasSoundPlan, case_of_plan, problem_case};
+ghost use Rattle.text_kit.specs.Terms.{AddsText};
 ghost use Rattle.view_state.specs.StateViews.{AreStateTexts, HasStateTables, IsStateView, ShowsPlanState, ShowsState, outcome_line};
 
 use crate::heading::put_heading;

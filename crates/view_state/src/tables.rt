@@ -1,7 +1,7 @@
 ghost use Rattle.std.specs.Prelude.{◌≡◌, ◌≤◌, IfOk, OnOk, length, map};
 ghost use Rattle.plan_view.specs.Terms.{flow_row, IsSoundPlan};
 ghost use Rattle.plan_terms.specs.Terms.{case_of};
-ghost use Rattle.view_cells.specs.Terms.{AddsText};
+ghost use Rattle.text_kit.specs.Terms.{AddsText};
 ghost use Rattle.view_state.specs.StateViews.{HasStateTables, ShowsStateRows, state_flows};
 
 use crate::loads::loads_text;

@@ -2,8 +2,7 @@
 use Rattle.std.{proofs.Common.{◌≡◌, suc, List, [], ◌∷◌, Option, Some, ap, arith, length, subst, All}, specs.Option.option_map_or}
 use Rattle.plan_terms.specs.Terms.{AreDemands, Case}
 use Rattle.plan_report.specs.Terms.{Plan, Outcome, Planned, Unsurvivable}
-use Rattle.plan_view.specs.Terms.{IsSoundPlan}
-use Rattle.view_text.specs.Terms.{HasSoundPlan, case_of_plan}
+use Rattle.plan_view.specs.Terms.{IsSoundPlan, HasSoundPlan, case_of_plan}
 use Rattle.view_svg.specs.ReportPictures.{first_plan}
 
 pub first_sound : (p : Case) (outcomes : List Outcome) (plan : Plan) → All (HasSoundPlan p) outcomes → first_plan outcomes ≡ Some plan

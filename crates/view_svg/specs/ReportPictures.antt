@@ -2,7 +2,7 @@
 use Rattle.std.specs.Prelude.{◌≡◌, ℕ, List, [], ◌∷◌, ◌++◌, Option, None, Some, MatchOption, codes}
 use Rattle.plan_terms.specs.Terms.{Case}
 use Rattle.plan_report.specs.Terms.{Plan, Outcome, Planned, Unsurvivable}
-use Rattle.view_text.specs.Terms.{case_of_plan}
+use Rattle.plan_view.specs.Terms.{case_of_plan}
 use Rattle.view_svg.specs.Pictures.{IsPicture}
 
 -- the first plan of outcomes

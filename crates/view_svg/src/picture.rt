@@ -2,7 +2,7 @@ ghost use Rattle.std.specs.Prelude.{◌≡◌, ℕ, ◌*◌, ◌^◌, ◌<◌, �
 ghost use Rattle.plan_terms.specs.Terms.{case_of};
 ghost use Rattle.plan_report.specs.Terms.{known_of, state_name};
 ghost use Rattle.plan_view.specs.Terms.{IsSoundPlan, den_in, failed_links, load_in, routing_in};
-ghost use Rattle.view_cells.specs.Terms.{AddsText};
+ghost use Rattle.text_kit.specs.Terms.{AddsText};
 ghost use Rattle.view_svg.{specs.Changes.{AreRoundedLoads, changed_flows}, specs.Pictures.{IsPicture, beginning, drawn_changes, drawn_in_state, drawn_nodes, picture_text}};
 
 use crate::changes::changes_of;

@@ -1,7 +1,7 @@
 ghost use Rattle.std.specs.Prelude.{◌≡◌, All, MatchOption, None, OnOk, Some, length};
 ghost use Rattle.plan_terms.specs.Terms.{AreDemands};
-ghost use Rattle.plan_view.specs.Terms.{IsSoundPlan};
-ghost use Rattle.view_text.specs.Terms.{AddsText, HasSoundPlan, case_of_plan, problem_case};
+ghost use Rattle.plan_view.specs.Terms.{IsSoundPlan, HasSoundPlan, case_of_plan, problem_case};
+ghost use Rattle.text_kit.specs.Terms.{AddsText};
 ghost use Rattle.view_svg.{specs.Pictures.IsPicture, specs.ReportPictures.{IsReportPicture, first_plan}};
 
 use crate::picture::put_picture;

@@ -4,15 +4,8 @@ use Rattle.net_core.proofs.Library.{AllByRecursion, All-from_recursion, option_m
 use Rattle.plan_report.specs.Terms.{KnownNames, Outcome, Planned, Unsurvivable}
 use Rattle.plan_terms.specs.Terms.{Link, Places}
 use Rattle.plan_view.{specs.declared.rows.LinkRow.LinkRow, specs.declared.rows.StateRow.StateRow}
+use Rattle.view_cells.proofs.Few.{each_fits, fits}
 use Rattle.view_text.{specs.LinkCells.{cells_of_link, link_cells, link_heads}, specs.OutcomeCells.{outcome_cells, outcome_heads}, specs.StateCells.state_cells}
-
--- rows of at most n cells
-abbrev pub fits : ℕ → List (List ℕ) → Type 0
-fits n row = length row ≤ n
-
-pub each_fits : {X : Type 0} (f : X → List (List ℕ)) (n : ℕ) → ((x : X) → length (f x) ≤ n) → (xs : List X) → AllByRecursion (fits n) (map f xs)
-each_fits f n one [] = tt
-each_fits f n one (x ∷ xs) = (one x, each_fits f n one xs)
 
 cells_fit : (known : KnownNames) (row : LinkRow) (o : Option Link) → length (option_map_or (λ link. link_cells known link row) o []) ≤ 9
 cells_fit known row None = omega arith

@@ -3,7 +3,8 @@ use Rattle.std.proofs.Common.{◌≡◌, ℕ, List, [], ◌∷◌, ◌++◌, app
 use Rattle.plan_report.specs.Terms.{KnownNames, known_to, Plan, Quality}
 use Rattle.plan_terms.specs.Terms.{Case}
 use Rattle.plan_view.{specs.declared.rows.LinkRow.LinkRow, specs.declared.rows.PlanSummary.PlanSummary, specs.declared.rows.StateRow.StateRow}
-use Rattle.view_cells.specs.Terms.{AddsText, HasRows, HasRowsAbove}
+use Rattle.text_kit.specs.Terms.{AddsText}
+use Rattle.view_cells.specs.Terms.{HasRows, HasRowsAbove}
 use Rattle.view_text.{specs.CostCells.cost_rows, specs.CostProofs.HoldsProof, specs.LinkCells.{cells_of_link, link_heads, total_cells}, specs.PlanViews.{IsPlanView, ShowsRows, accepted_text}, specs.StateCells.{state_cells, state_heads}, specs.declared.plan.PlanNumbers.PlanNumbers, specs.declared.proof.CostProof.CostProof, specs.inner.Numbers.AreNumbers}
 
 pub rows_shown : (known : KnownNames) (quality : Quality) (proof : CostProof) (links : List LinkRow) (states : List StateRow) (whole : PlanSummary)

@@ -3,7 +3,8 @@ use Rattle.std.proofs.Common.{◌≡◌, ℕ, ◌+◌, ◌≤◌, ◌<◌, List,
 use Rattle.net_core.proofs.Library.{take_more}
 use Rattle.plan_terms.specs.Terms.{Case}
 use Rattle.plan_types.specs.declared.report.Outcome.{Outcome}
-use Rattle.view_cells.{specs.Terms.AddsText, proofs.Lemmas.appended}
+use Rattle.text_kit.specs.Terms.{AddsText}
+use Rattle.view_cells.proofs.Lemmas.{appended}
 use Rattle.view_text.{specs.Headings.heading_text, specs.OutcomeCells.{HasOutcomes, numbers_text}, specs.Reports.{AreOutcomeViews, IsBody, IsBrief, IsFirstBlock, IsNumberedView, IsOutcomeView, IsReportView, IsSessionView}, specs.declared.proof.CostProof.CostProof, specs.declared.proof.CostProof.TheVariants.Nothing}
 
 pub numbered : (p : Case) (outcome : Outcome) (old mid new : List ℕ) → mid ≡ old ++ numbers_text outcome

@@ -6,10 +6,6 @@ use Rattle.plan_view.{specs.Terms.{AreLinkRows, AreStateRows, IsPlanSummary}, sp
 use Rattle.view_cells.specs.Terms.{HasRows, HasRowsAbove}
 use Rattle.view_text.{specs.CostCells.{cost_rows, least_text}, specs.CostProofs.HoldsProof, specs.LinkCells.{cells_of_link, link_heads, total_cells}, specs.StateCells.{state_cells, state_heads}, specs.declared.proof.CostProof.CostProof}
 
--- the case with the demands of a plan
-abbrev pub case_of_plan : Case → Plan → Case
-case_of_plan p plan = record { nodes = p.nodes; links = p.links; listed = p.listed; demands = plan.demands; places = p.places }
-
 -- in how many states the modules of an accepted plan carry the demands: in all of them
 abbrev pub states_line : ℕ → List ℕ
 states_line states = codes "  accepted: the modules carry every demand in " ++ decimal states ++ codes " of " ++ decimal states ++ codes " states, and "

@@ -2,17 +2,8 @@
 use Rattle.std.specs.Prelude.{◌≡◌, ℕ, List, [], ◌∷◌, ◌++◌, codes, length}
 use Rattle.plan_terms.specs.Terms.{AreDemands, Case, Problem, case}
 use Rattle.plan_report.specs.Terms.{Outcome, Planned, Unsurvivable}
-use Rattle.plan_view.specs.Terms.{IsSoundPlan}
-use Rattle.view_text.{specs.CostProofs.HoldsProof, specs.Headings.heading_text, specs.OutcomeCells.{HasOutcomes, numbers_text, separation_text}, specs.PlanViews.{IsCostView, IsPlanView, case_of_plan}, specs.declared.proof.CostProof.CostProof, specs.declared.proof.CostProof.TheVariants.Nothing}
-
--- the case of a value of the program
-abbrev pub problem_case : Problem → Case
-problem_case problem = case problem.net problem.states problem.demands
-
--- a plan is sound for demands of its own, which belong to the network
-abbrev pub HasSoundPlan : Case → Outcome → Type 0
-HasSoundPlan p (Planned caller serial plan) = AreDemands (length p.nodes) plan.demands × IsSoundPlan (case_of_plan p plan) plan
-HasSoundPlan p (Unsurvivable caller serial version position state demand) = Unit {0}
+use Rattle.plan_view.specs.Terms.{IsSoundPlan, case_of_plan}
+use Rattle.view_text.{specs.CostProofs.HoldsProof, specs.Headings.heading_text, specs.OutcomeCells.{HasOutcomes, numbers_text, separation_text}, specs.PlanViews.{IsCostView, IsPlanView}, specs.declared.proof.CostProof.CostProof, specs.declared.proof.CostProof.TheVariants.Nothing}
 
 -- what is told of the cost holds of the plan
 abbrev pub HoldsOfOutcome : Case → CostProof → Outcome → Type 0

@@ -1,5 +1,3 @@
 -- The words of this crate, passed on from one place to other crates. Declares nothing.
 pub use Rattle.view_text.specs.CostProofs.{HoldsProof, CostsAtLeast}
-pub use Rattle.view_text.specs.PlanViews.{case_of_plan}
-pub use Rattle.view_text.specs.Reports.{HoldsOfSingle, IsFirstBlock, IsReportView, HasSoundPlan, problem_case}
-pub use Rattle.view_cells.specs.Terms.{AddsText}
+pub use Rattle.view_text.specs.Reports.{HoldsOfSingle, IsFirstBlock, IsReportView}

@@ -1,5 +1,6 @@
 ghost use Rattle.std.specs.Prelude.{◌≡◌, ◌≤◌, ◌++◌, ◌∷◌, [], All, IfOk, OnOk, decimal, length, map};
-ghost use Rattle.view_cells.specs.Terms.{AddsText, HasRows};
+ghost use Rattle.text_kit.specs.Terms.{AddsText};
+ghost use Rattle.view_cells.specs.Terms.{HasRows};
 ghost use Rattle.view_text.specs.OutcomeCells.{HasOutcomes, outcome_cells, outcome_heads, failure_text, numbers_line, numbers_text, separation_text, unlinked_text};
 
 use net_core::{Bytes, List, Listed, Name, NoMemory, Places, StateId};

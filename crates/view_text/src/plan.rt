@@ -2,7 +2,7 @@ ghost use Rattle.std.specs.Prelude.{◌≡◌, ◌++◌, IfOk, OnOk, codes};
 ghost use Rattle.plan_terms.specs.Terms.{case_of};
 ghost use Rattle.plan_report.specs.Terms.{known_of};
 ghost use Rattle.plan_view.specs.Terms.{IsSoundPlan};
-ghost use Rattle.view_cells.specs.Terms.{AddsText};
+ghost use Rattle.text_kit.specs.Terms.{AddsText};
 ghost use Rattle.view_text.{specs.CostProofs.HoldsProof, specs.PlanViews.{IsCostView, IsPlanView, ShowsRows, accepted_text, states_line}, specs.inner.Numbers.AreNumbers};
 
 use crate::costs::{costs_text, put_least};

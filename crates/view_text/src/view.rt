@@ -1,8 +1,8 @@
 ghost use Rattle.std.specs.Prelude.{◌≡◌, ◌++◌, All, OnOk, length};
 ghost use Rattle.plan_terms.specs.Terms.{AreDemands};
-ghost use Rattle.plan_view.specs.Terms.{IsSoundPlan};
-ghost use Rattle.view_cells.specs.Terms.{AddsText};
-ghost use Rattle.view_text.{specs.CostProofs.HoldsProof, specs.OutcomeCells.{HasOutcomes, separation_text}, specs.PlanViews.{IsCostView, IsPlanView, case_of_plan}, specs.Reports.{AreOutcomeViews, IsBody, IsBrief, IsFirstBlock, IsNumberedView, IsOutcomeView, IsReportView, IsSessionView, IsShortView, HasSoundPlan, HoldsOfOutcome, HoldsOfSingle, no_outcome_text, problem_case}};
+ghost use Rattle.plan_view.specs.Terms.{IsSoundPlan, case_of_plan, HasSoundPlan, problem_case};
+ghost use Rattle.text_kit.specs.Terms.{AddsText};
+ghost use Rattle.view_text.{specs.CostProofs.HoldsProof, specs.OutcomeCells.{HasOutcomes, separation_text}, specs.PlanViews.{IsCostView, IsPlanView}, specs.Reports.{AreOutcomeViews, IsBody, IsBrief, IsFirstBlock, IsNumberedView, IsOutcomeView, IsReportView, IsSessionView, IsShortView, HoldsOfOutcome, HoldsOfSingle, no_outcome_text}};
 
 use crate::heading::put_heading;
 use crate::outcomes::{put_numbers, put_outcomes, put_separation};

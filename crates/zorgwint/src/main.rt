@@ -4,7 +4,7 @@
 mod run;
 mod teller;
 
-use check_answers::Status;
+use outside_io::Status;
 use net_core::NoMemory;
 use outside_io::{FileShelf, StreamSink};
 use run::run;

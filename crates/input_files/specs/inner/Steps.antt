@@ -1,6 +1,6 @@
 -- what the functions of a reading answer to each other
 use Rattle.std.specs.Prelude.{◌≡◌, ℕ, List}
-use Rattle.check_answers.specs.declared.status.Status.{Status}
+use Rattle.outside_io.specs.declared.status.Status.{Status}
 
 -- this status with this text
 abbrev pub Says : Status → List ℕ → Status → List ℕ → Type 0

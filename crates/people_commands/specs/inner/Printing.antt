@@ -1,6 +1,6 @@
 -- what a run prints and says beside that, or how it ends
 use Rattle.std.specs.Prelude.{◌≡◌, ◌≢◌, ℕ, List, [], Result, Ok, Err}
-use Rattle.check_answers.{specs.declared.status.Status.Status, specs.declared.status.Status.TheVariants.Done}
+use Rattle.outside_io.{specs.declared.status.Status.Status, specs.declared.status.Status.TheVariants.Done}
 use Rattle.people_files.{specs.Endings.Halts, specs.declared.stop.Halt.Halt}
 use Rattle.people_plans.specs.declared.answer.PlanAnswer.{PlanAnswer}
 use Rattle.people_commands.specs.declared.output.Printed.{Printed}

@@ -1,6 +1,6 @@
 -- what the functions of a run answer to each other
 use Rattle.std.specs.Prelude.{ℕ, List, Result, Ok, Err}
-use Rattle.check_answers.{specs.declared.answer.Answer.Answer, specs.declared.status.Status.Status}
+use Rattle.outside_io.{specs.declared.answer.Answer.Answer, specs.declared.status.Status.Status}
 use Rattle.input_files.{specs.Stops.{Stops, named}, specs.declared.stop.Stop.Stop}
 use Rattle.planner_commands.{specs.declared.words.Command.Command, specs.declared.words.Command.TheVariants.{Plan, Session, Check, Trim, Prove, Import, Sample}}
 use Rattle.planner_commands.specs.Commands as commands

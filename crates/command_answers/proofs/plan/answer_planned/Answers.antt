@@ -2,7 +2,7 @@ use Rattle.std.proofs.Common.{◌≡◌}
 use Rattle.plan_terms.specs.Terms.{case_of}
 use Rattle.plan_report.specs.Terms.{known_to, SpellsReport, report_text}
 use Rattle.proof_report.specs.Terms.{whole_report}
-use Rattle.check_answers.{specs.declared.answer.Answer.Answer, specs.declared.status.Status.TheVariants.Done}
+use Rattle.outside_io.{specs.declared.answer.Answer.Answer, specs.declared.status.Status.TheVariants.Done}
 use Rattle.command_answers.{specs.Answers.EndsPlan, proofs.Clauses.three_ok, proofs.SinglePlans.plan_ends}
 use Rattle.command_answers.proofs.plan.answer_planned.Goals as goal
 

@@ -1,6 +1,6 @@
 use Rattle.std.proofs.Common.{◌≡◌, IfOk, subst}
 use Rattle.plan_report.specs.Terms.{known_of, report_text}
-use Rattle.check_answers.specs.declared.answer.Answer.{Answer}
+use Rattle.outside_io.specs.declared.answer.Answer.{Answer}
 use Rattle.command_answers.proofs.plan.planned.Goals as goal
 
 pub returns-clause-text : goal.returns-clause-text

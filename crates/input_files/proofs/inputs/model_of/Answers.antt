@@ -1,6 +1,6 @@
 use Rattle.std.proofs.Common.{codes}
 use Rattle.model_reader.{specs.Terms.{model_word, model_of, SpellsModel}, specs.declared.model.Model.Model}
-use Rattle.check_answers.specs.declared.status.Status.TheVariants.{BadModel}
+use Rattle.outside_io.specs.declared.status.Status.TheVariants.{BadModel}
 use Rattle.input_files.proofs.Refusing.{reading_refused}
 use Rattle.input_files.proofs.inputs.model_of.Goals as goal
 

@@ -1,7 +1,7 @@
 use Rattle.std.proofs.Common.{codes}
 use Rattle.model_reader.specs.Terms.{SpellsFailures, failures_of, failures_word}
 use Rattle.plan_terms.specs.Terms.{States}
-use Rattle.check_answers.specs.declared.status.Status.TheVariants.{BadFailures}
+use Rattle.outside_io.specs.declared.status.Status.TheVariants.{BadFailures}
 use Rattle.input_files.proofs.Refusing.{reading_refused}
 use Rattle.input_files.proofs.inputs.states_of.Goals as goal
 

@@ -1,7 +1,7 @@
 use Rattle.std.proofs.Common.{codes}
 use Rattle.plan_report.specs.Terms.{known_of}
 use Rattle.flow_file.{specs.FlowFiles.SpellsFlows, specs.FlowKinds.flows_kind_word, specs.FlowReading.flows_of, specs.declared.flow.FlowFile.FlowFile}
-use Rattle.check_answers.specs.declared.status.Status.TheVariants.{BadFlows}
+use Rattle.outside_io.specs.declared.status.Status.TheVariants.{BadFlows}
 use Rattle.input_files.proofs.Refusing.{reading_refused}
 use Rattle.input_files.proofs.last_file.flows_of.Goals as goal
 

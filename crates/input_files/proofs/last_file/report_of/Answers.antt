@@ -2,7 +2,7 @@ use Rattle.std.proofs.Common.{codes}
 use Rattle.plan_report.specs.Terms.{known_of, SpellsReport, Report}
 use Rattle.report_reader.specs.ReadingReport.{report_of}
 use Rattle.report_words.specs.Terms.{report_kind_word}
-use Rattle.check_answers.specs.declared.status.Status.TheVariants.{BadReport}
+use Rattle.outside_io.specs.declared.status.Status.TheVariants.{BadReport}
 use Rattle.input_files.proofs.Refusing.{reading_refused}
 use Rattle.input_files.proofs.last_file.report_of.Goals as goal
 

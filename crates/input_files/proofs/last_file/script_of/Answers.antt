@@ -1,6 +1,6 @@
 use Rattle.std.proofs.Common.{codes}
 use Rattle.session_script.{specs.Terms.{script_kind_word, script_of, SpellsScript}, specs.declared.script.Script.Script}
-use Rattle.check_answers.specs.declared.status.Status.TheVariants.{BadScript}
+use Rattle.outside_io.specs.declared.status.Status.TheVariants.{BadScript}
 use Rattle.input_files.proofs.Refusing.{reading_refused}
 use Rattle.input_files.proofs.last_file.script_of.Goals as goal
 

@@ -1,5 +1,5 @@
 use Rattle.std.proofs.Common.{◌≡◌, ◌++◌}
-use Rattle.check_answers.specs.declared.status.Status.TheVariants.{NotSurvivable}
+use Rattle.outside_io.specs.declared.status.Status.TheVariants.{NotSurvivable}
 use Rattle.people_files.proofs.Causing.{told_so}
 use Rattle.people_commands.{specs.Endings.{SaysApart, apart_words}, specs.inner.Causes.apart_line, proofs.Separated.says_apart}
 use Rattle.people_commands.proofs.failures.apart.Goals as goal

@@ -1,4 +1,4 @@
-use Rattle.view_text.specs.Terms.{problem_case}
+use Rattle.plan_view.specs.Terms.{problem_case}
 use Rattle.people_plans.specs.PlansForPeople.{EndsPlanForPeople}
 use Rattle.people_commands.{proofs.Causing.{answer_has, answer_reads}, proofs.Planning.{no_text, nothing_read}}
 use Rattle.people_commands.proofs.plan.plan_problem.Goals as goal

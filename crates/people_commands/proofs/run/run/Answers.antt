@@ -1,5 +1,5 @@
 use Rattle.std.proofs.Common.{◌≡◌, [], Err, inl, refl}
-use Rattle.check_answers.specs.declared.status.Status.TheVariants.{Done, NoMemory}
+use Rattle.outside_io.specs.declared.status.Status.TheVariants.{Done, NoMemory}
 use Rattle.people_commands.{specs.Endings.{EndsForPeople, memory_message}, proofs.Causing.{told_ends, told_fails}, proofs.Nothing.takes_nothing}
 use Rattle.people_files.specs.declared.stop.Halt.TheVariants as halt
 use Rattle.people_commands.proofs.run.run.Goals as goal

@@ -1,5 +1,5 @@
 use Rattle.std.proofs.Common.{subst, sym, MatchResult}
-use Rattle.view_text.specs.Terms.{problem_case}
+use Rattle.plan_view.specs.Terms.{problem_case}
 use Rattle.people_views.specs.Terms.{IsFormOf}
 use Rattle.people_files.specs.Endings.{Halts}
 use Rattle.people_words.specs.AskedCommands.{asked_form}

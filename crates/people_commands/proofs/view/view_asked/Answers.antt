@@ -1,6 +1,6 @@
 use Rattle.std.proofs.Common.{[], arith, inl, inr, refl}
 use Rattle.net_core.proofs.Library.{err_from_is_err_and}
-use Rattle.view_text.specs.Terms.{problem_case}
+use Rattle.plan_view.specs.Terms.{problem_case}
 use Rattle.people_files.{specs.CaseInputs.named_case, proofs.Causing.{cause_map, halt_map}}
 use Rattle.people_words.specs.AskedCommands.{asked_form}
 use Rattle.people_commands.{specs.Endings.{LacksForm, ViewsAsked, ViewsFile}, proofs.Viewing.lacks_read}

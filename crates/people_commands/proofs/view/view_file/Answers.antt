@@ -1,6 +1,6 @@
 use Rattle.std.proofs.Common.{[], inl, inr, refl}
 use Rattle.net_core.proofs.Library.{err_from_is_err_and}
-use Rattle.view_text.specs.Terms.{problem_case}
+use Rattle.plan_view.specs.Terms.{problem_case}
 use Rattle.input_files.specs.Inputs.{report_limit}
 use Rattle.people_files.{specs.Messages.FailsAtFetch, proofs.Causing.{cause_map, halt_map}}
 use Rattle.people_views.specs.Terms.{EndsReport}

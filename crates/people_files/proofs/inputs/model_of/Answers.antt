@@ -1,6 +1,6 @@
 use Rattle.std.proofs.Common.{List, codes, ℕ}
 use Rattle.model_reader.{specs.Terms.{model_word, model_of, SpellsModel}, specs.declared.model.Model.Model}
-use Rattle.check_answers.specs.declared.status.Status.TheVariants.{BadModel}
+use Rattle.outside_io.specs.declared.status.Status.TheVariants.{BadModel}
 use Rattle.fault_messages.specs.Terms.{model_message, AreModelNotes}
 use Rattle.input_files.specs.Refusals.{refusal_line}
 use Rattle.people_files.{specs.Messages.ShowsPlace, proofs.Causing.not_reading, proofs.Showing.{notes_at, reading_shown}}

@@ -1,7 +1,7 @@
 use Rattle.std.proofs.Common.{List, codes, subst, ◌∙◌, ℕ}
 use Rattle.model_reader.specs.Terms.{SpellsFailures, failures_of, failures_word}
 use Rattle.plan_terms.specs.Terms.{Link, States}
-use Rattle.check_answers.specs.declared.status.Status.TheVariants.{BadFailures}
+use Rattle.outside_io.specs.declared.status.Status.TheVariants.{BadFailures}
 use Rattle.fault_messages.specs.Terms.{failures_message, AreFailuresNotes}
 use Rattle.input_files.specs.Refusals.{refusal_line}
 use Rattle.people_files.{specs.Messages.ShowsPlace, proofs.Causing.not_reading, proofs.Showing.{notes_at, reading_shown}}

@@ -1,6 +1,5 @@
 use Rattle.std.proofs.Common.{◌≡◌, ◌++◌, ◌∙◌, ◌∷◌, [], ap, codes, inl, inr, refl, subst, sym, append-nil}
-use Rattle.outside_io.specs.declared.shelf.ReadFault.TheVariants.{Other}
-use Rattle.check_answers.{specs.declared.status.Status.Status, specs.declared.status.Status.TheVariants.{NoFile, ReadFault, TooLong}}
+use Rattle.outside_io.{specs.declared.shelf.ReadFault.TheVariants.Other, specs.declared.status.Status.Status, specs.declared.status.Status.TheVariants.{NoFile, ReadFault, TooLong}}
 use Rattle.people_files.{specs.Messages.{FailsAtFetch, unfetched_words}, proofs.Causing.{halt_map, not_reading}}
 use Rattle.people_files.proofs.loaded_files.fetch_file.Goals as goal
 

@@ -1,5 +1,5 @@
 use Rattle.std.proofs.Common.{Err, List, ap, codes, ℕ}
-use Rattle.check_answers.specs.declared.status.Status.TheVariants.{BadNetwork}
+use Rattle.outside_io.specs.declared.status.Status.TheVariants.{BadNetwork}
 use Rattle.sndlib_reader.specs.Kinds.{kind_word}
 use Rattle.fault_messages.specs.Notes.{AreNetworkNotes}
 use Rattle.input_files.specs.Refusals.{refusal_line}

@@ -1,5 +1,5 @@
 use Rattle.std.proofs.Common.{◌≡◌, ◌++◌, refl}
-use Rattle.check_answers.specs.declared.status.Status.TheVariants.{BadFailures}
+use Rattle.outside_io.specs.declared.status.Status.TheVariants.{BadFailures}
 use Rattle.input_files.specs.Refusals.{unused_line}
 use Rattle.people_files.{specs.Messages.unused_words, proofs.Causing.told_so}
 use Rattle.people_files.proofs.refusal.unused.Goals as goal

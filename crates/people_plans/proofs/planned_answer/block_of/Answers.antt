@@ -1,5 +1,6 @@
 use Rattle.std.proofs.Common.{◌≡◌, ◌∙◌, ℕ, List, ◌++◌, ap, subst, sym}
-use Rattle.view_text.specs.Terms.{IsFirstBlock, problem_case}
+use Rattle.view_text.specs.Terms.{IsFirstBlock}
+use Rattle.plan_view.specs.Terms.{problem_case}
 use Rattle.people_plans.proofs.planned_answer.block_of.Goals as goal
 
 pub returns : goal.returns

@@ -1,6 +1,6 @@
 use Rattle.std.proofs.Common.{◌≡◌, Bool, IfOk, subst, sym}
-use Rattle.check_answers.specs.declared.status.Status.TheVariants.{Done}
-use Rattle.view_text.specs.Terms.{problem_case}
+use Rattle.outside_io.specs.declared.status.Status.TheVariants.{Done}
+use Rattle.plan_view.specs.Terms.{problem_case}
 use Rattle.people_plans.{specs.PlansForPeople.PrintsPlan, specs.declared.answer.PlanAnswer.PlanAnswer}
 use Rattle.people_plans.proofs.planned_answer.planned_answer.Goals as goal
 

@@ -1,5 +1,6 @@
 use Rattle.std.proofs.Common.{◌≡◌, ◌∙◌, ℕ, List, ◌++◌, ap, subst, sym}
-use Rattle.view_text.specs.Terms.{IsReportView, problem_case}
+use Rattle.view_text.specs.Terms.{IsReportView}
+use Rattle.plan_view.specs.Terms.{problem_case}
 use Rattle.people_plans.proofs.planned_answer.view_of.Goals as goal
 
 pub returns : goal.returns

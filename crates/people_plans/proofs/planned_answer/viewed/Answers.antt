@@ -1,6 +1,7 @@
 use Rattle.std.proofs.Common.{◌∙◌, List, IfOk, arith, subst}
 use Rattle.plan_types.specs.declared.report.Outcome.{Outcome}
-use Rattle.view_text.{specs.Terms.{IsReportView, problem_case}, specs.declared.proof.CostProof.CostProof}
+use Rattle.view_text.{specs.Terms.IsReportView, specs.declared.proof.CostProof.CostProof}
+use Rattle.plan_view.specs.Terms.{problem_case}
 use Rattle.people_plans.{specs.PlansForPeople.told_of_proof, proofs.Sound.{holds_shown, sound_shown}}
 use Rattle.people_plans.proofs.planned_answer.viewed.Goals as goal
 

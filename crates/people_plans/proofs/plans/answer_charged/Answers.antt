@@ -1,6 +1,6 @@
 use Rattle.std.{proofs.Common.{inl, inr, subst}, proofs.lemmas.Result.IfOk-weaker}
 use Rattle.proof_report.specs.ProvedReports.{IsLinedEnding}
-use Rattle.view_text.specs.Terms.{problem_case}
+use Rattle.plan_view.specs.Terms.{problem_case}
 use Rattle.people_plans.proofs.plans.answer_charged.Goals as goal
 
 pub planned_answer-requires : goal.planned_answer-requires

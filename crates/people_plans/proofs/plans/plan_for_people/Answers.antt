@@ -1,5 +1,5 @@
 use Rattle.std.{proofs.Common.{◌≡◌, [], inl}, proofs.lemmas.Result.IfOk-weaker}
-use Rattle.check_answers.specs.declared.status.Status.TheVariants.{BadNetwork}
+use Rattle.outside_io.specs.declared.status.Status.TheVariants.{BadNetwork}
 use Rattle.people_plans.{specs.PlansForPeople.free_link_message, specs.declared.answer.PlanAnswer.PlanAnswer}
 use Rattle.people_plans.proofs.plans.plan_for_people.Goals as goal
 

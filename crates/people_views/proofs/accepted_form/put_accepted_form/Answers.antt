@@ -1,4 +1,4 @@
-use Rattle.view_text.specs.Terms.{problem_case}
+use Rattle.plan_view.specs.Terms.{problem_case}
 use Rattle.people_views.proofs.SoundOutcomes.{outcomes_sound}
 use Rattle.people_views.proofs.accepted_form.put_accepted_form.Goals as goal
 

@@ -1,6 +1,6 @@
 use Rattle.std.proofs.Common.{IfErr, subst, sym}
 use Rattle.plan_types.specs.declared.report.Outcome.{Outcome}
-use Rattle.view_text.specs.Terms.{problem_case}
+use Rattle.plan_view.specs.Terms.{problem_case}
 use Rattle.people_files.specs.Endings.{Halts}
 use Rattle.people_views.specs.ProofLines.{FailsAtOutcomeLines}
 use Rattle.people_views.proofs.plan_proof.outcome_proof.Goals as goal

@@ -1,5 +1,5 @@
 use Rattle.std.proofs.Common.{inl, refl}
-use Rattle.view_text.specs.Terms.{problem_case}
+use Rattle.plan_view.specs.Terms.{problem_case}
 use Rattle.people_views.proofs.TreesRead.{line_found, lines_fail, lines_read, no_line}
 use Rattle.people_views.proofs.plan_proof.plan_proof.Goals as goal
 

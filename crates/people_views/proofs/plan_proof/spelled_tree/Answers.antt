@@ -3,9 +3,9 @@ use Rattle.text_kit.{specs.Terms.AnswersAs, specs.declared.refusal.Refusal.Refus
 use Rattle.plan_report.specs.Terms.{known_to}
 use Rattle.report_words.{specs.Terms.report_kind_word, specs.declared.fault.ReportKind.ReportKind}
 use Rattle.tree_reader.{specs.ReadingTrees.{Gives, tree_at}, specs.Trees.SpellsTree, specs.declared.tree.ReadTree.ReadTree}
-use Rattle.check_answers.specs.declared.status.Status.TheVariants.{BadReport}
+use Rattle.outside_io.specs.declared.status.Status.TheVariants.{BadReport}
 use Rattle.fault_messages.specs.ReportMessages.{proof_message}
-use Rattle.view_text.specs.Terms.{problem_case}
+use Rattle.plan_view.specs.Terms.{problem_case}
 use Rattle.people_files.{proofs.Showing.fault_shown, specs.Messages.HasNoNotes}
 use Rattle.people_views.specs.ProofLines.{SpellsPlanTree, lines_begin}
 use Rattle.people_views.proofs.plan_proof.spelled_tree.Goals as goal

@@ -1,5 +1,5 @@
 use Rattle.net_core.proofs.Library.{err_from_is_err_and}
-use Rattle.view_text.specs.Terms.{problem_case}
+use Rattle.plan_view.specs.Terms.{problem_case}
 use Rattle.people_views.proofs.TreesRead.{none_read, tree_fails, tree_read}
 use Rattle.people_views.proofs.plan_proof.tree_proof.Goals as goal
 

@@ -1,6 +1,6 @@
 use Rattle.std.proofs.Common.{◌≡◌, refl}
-use Rattle.check_answers.specs.declared.status.Status.TheVariants.{Rejected}
-use Rattle.view_text.specs.Terms.{problem_case}
+use Rattle.outside_io.specs.declared.status.Status.TheVariants.{Rejected}
+use Rattle.plan_view.specs.Terms.{problem_case}
 use Rattle.people_files.proofs.Causing.{told_so}
 use Rattle.people_views.{specs.ReportEnds.{SaysFinding, TellsFinding}, proofs.Findings.unclean}
 use Rattle.people_views.proofs.report_check.accept.Goals as goal

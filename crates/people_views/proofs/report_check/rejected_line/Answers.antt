@@ -1,4 +1,4 @@
-use Rattle.view_text.specs.Terms.{problem_case}
+use Rattle.plan_view.specs.Terms.{problem_case}
 use Rattle.people_views.proofs.Findings.{judged_so}
 use Rattle.people_views.proofs.report_check.rejected_line.Goals as goal
 

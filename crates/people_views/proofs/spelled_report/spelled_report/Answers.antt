@@ -3,10 +3,10 @@ use Rattle.text_kit.{specs.Terms.{AnswersAs, Fails}, specs.declared.refusal.Refu
 use Rattle.plan_report.specs.Terms.{SpellsReport, known_of, Report}
 use Rattle.report_words.{specs.Terms.report_kind_word, specs.declared.fault.ReportKind.ReportKind}
 use Rattle.report_reader.specs.ReadingReport.{report_of}
-use Rattle.check_answers.specs.declared.status.Status.TheVariants.{BadReport}
+use Rattle.outside_io.specs.declared.status.Status.TheVariants.{BadReport}
 use Rattle.fault_messages.specs.Terms.{AreReportNotes, report_message}
 use Rattle.people_files.proofs.Showing.{fault_shown, notes_at}
-use Rattle.view_text.specs.Terms.{problem_case}
+use Rattle.plan_view.specs.Terms.{problem_case}
 use Rattle.people_views.proofs.spelled_report.spelled_report.Goals as goal
 
 -- reading a report ends with a refusal

@@ -1,5 +1,5 @@
 use Rattle.std.proofs.Common.{refl}
-use Rattle.check_answers.specs.declared.status.Status.TheVariants.{BadWords}
+use Rattle.outside_io.specs.declared.status.Status.TheVariants.{BadWords}
 use Rattle.people_files.proofs.Causing.{told_so}
 use Rattle.people_views.specs.StateForms.{IsStateMessage, LacksState}
 use Rattle.people_views.proofs.states.unknown.Goals as goal

@@ -1,9 +1,10 @@
 use Rattle.std.proofs.Common.{◌≡◌, ℕ, ap, arith, length, refl, subst, sym}
 use Rattle.tree_check.{specs.Proofs.{AnswersProof, IsAcceptedProof}, specs.declared.proof.Proof.Proof, specs.declared.proof.TreeAnswer.TheVariants.Rejected}
-use Rattle.view_text.{specs.Terms.{HoldsProof, case_of_plan, problem_case}, specs.declared.proof.CostProof.CostProof}
+use Rattle.view_text.{specs.Terms.HoldsProof, specs.declared.proof.CostProof.CostProof}
+use Rattle.plan_view.specs.Terms.{case_of_plan, problem_case}
 use Rattle.people_files.proofs.Causing.{told_so}
 use Rattle.people_views.{specs.ProofLines.{TellsRejectedTree, tree_message}, proofs.TreesHeld.tree_holds}
-use Rattle.check_answers.specs.declared.status.Status.TheVariants as status
+use Rattle.outside_io.specs.declared.status.Status.TheVariants as status
 use Rattle.people_views.proofs.trees.checked_tree.Goals as goal
 
 pub check_tree-requires-clause-few : goal.check_tree-requires-clause-few

@@ -1,6 +1,6 @@
 use Rattle.std.proofs.Common.{◌≡◌, [], List, ℕ, inl, inr, refl, subst, sym}
 use Rattle.net_core.proofs.Library.{err_from_is_err_and}
-use Rattle.view_text.specs.Terms.{problem_case}
+use Rattle.plan_view.specs.Terms.{problem_case}
 use Rattle.people_files.proofs.Causing.{halt_map}
 use Rattle.people_views.{specs.Forms.HasForm, specs.ProofLines.FailsAtLines, specs.ReportEnds.ViewsAccepted, proofs.SoundOutcomes.outcomes_sound}
 use Rattle.people_views.proofs.views.accepted_view.Goals as goal

@@ -1,7 +1,7 @@
 use Rattle.std.proofs.Common.{◌≡◌, [], inl, inr, refl}
 use Rattle.net_core.proofs.Library.{err_from_is_err_and}
-use Rattle.check_answers.specs.declared.status.Status.TheVariants.{Rejected}
-use Rattle.view_text.specs.Terms.{problem_case}
+use Rattle.outside_io.specs.declared.status.Status.TheVariants.{Rejected}
+use Rattle.plan_view.specs.Terms.{problem_case}
 use Rattle.people_files.proofs.Causing.{cause_map, halt_map}
 use Rattle.people_views.specs.ReportEnds.{TellsFinding, ViewsAccepted, ViewsReport}
 use Rattle.people_views.proofs.views.checked_view.Goals as goal

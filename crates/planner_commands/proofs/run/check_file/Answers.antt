@@ -3,7 +3,7 @@ use Rattle.net_core.proofs.Library.{err_from_is_err_and}
 use Rattle.plan_terms.specs.Terms.{case}
 use Rattle.plan_report.specs.Terms.{known_of}
 use Rattle.input_files.{specs.Inputs.{RefusesReportFile, StopsAtFile, report_limit}, proofs.Stopping.stop_map}
-use Rattle.check_answers.specs.declared.status.Status.TheVariants.{BadReport}
+use Rattle.outside_io.specs.declared.status.Status.TheVariants.{BadReport}
 use Rattle.planner_commands.specs.Run.{EndsCheck}
 use Rattle.planner_commands.proofs.run.check_file.Goals as goal
 

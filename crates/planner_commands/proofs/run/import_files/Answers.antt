@@ -2,7 +2,7 @@ use Rattle.std.proofs.Common.{inl, inr}
 use Rattle.net_core.proofs.Library.{err_from_is_err_and}
 use Rattle.plan_report.specs.Terms.{known_of}
 use Rattle.input_files.specs.Terms.{RefusesFlowFile, StopsAtFile, input_limit, named}
-use Rattle.check_answers.specs.declared.status.Status.TheVariants.{BadFlows}
+use Rattle.outside_io.specs.declared.status.Status.TheVariants.{BadFlows}
 use Rattle.planner_commands.{specs.Run.EndsImport, proofs.Answering.{after_inputs, last_ends}}
 use Rattle.planner_commands.proofs.run.import_files.Goals as goal
 

@@ -1,7 +1,7 @@
 use Rattle.std.proofs.Common.{inl, inr, subst}
 use Rattle.net_core.proofs.Library.{err_from_is_err_and}
 use Rattle.input_files.specs.Terms.{RefusesScriptFile, StopsAtFile, input_limit, named}
-use Rattle.check_answers.specs.declared.status.Status.TheVariants.{BadScript}
+use Rattle.outside_io.specs.declared.status.Status.TheVariants.{BadScript}
 use Rattle.planner_commands.{specs.Run.EndsSession, proofs.Answering.{after_inputs, last_ends}}
 use Rattle.planner_commands.proofs.run.session_files.Goals as goal
 

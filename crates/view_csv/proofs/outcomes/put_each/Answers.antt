@@ -1,5 +1,5 @@
 use Rattle.std.proofs.Common.{arith}
-use Rattle.view_text.specs.Terms.{problem_case}
+use Rattle.plan_view.specs.Terms.{problem_case}
 use Rattle.view_csv.proofs.PlanRows.{all_rows, next_rows, no_outcomes}
 use Rattle.view_csv.proofs.outcomes.put_each.Goals as goal
 

@@ -1,6 +1,6 @@
 use Rattle.std.proofs.Common.{◌++◌, List, ℕ, ap, ◌∙◌}
 use Rattle.text_kit.proofs.Lemmas.{on_ok}
-use Rattle.view_text.specs.Terms.{problem_case}
+use Rattle.plan_view.specs.Terms.{problem_case}
 use Rattle.view_csv.{specs.CommaSeparated.csv_text, proofs.PlanRows.sheet_of}
 use Rattle.view_csv.proofs.outcomes.put_sheet.Goals as goal
 

@@ -1,5 +1,5 @@
 use Rattle.std.proofs.Common.{subst}
-use Rattle.view_text.specs.Terms.{problem_case}
+use Rattle.plan_view.specs.Terms.{problem_case}
 use Rattle.view_csv.specs.Sheets.{AddsRows, AreOutcomeRows}
 use Rattle.view_csv.proofs.outcomes.sheet_rows.Goals as goal
 

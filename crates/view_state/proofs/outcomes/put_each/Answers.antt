@@ -1,5 +1,5 @@
 use Rattle.std.proofs.Common.{arith}
-use Rattle.view_text.specs.Terms.{problem_case}
+use Rattle.plan_view.specs.Terms.{problem_case}
 use Rattle.view_state.proofs.StateTexts.{all_texts, next_texts, no_texts}
 use Rattle.view_state.proofs.outcomes.put_each.Goals as goal
 

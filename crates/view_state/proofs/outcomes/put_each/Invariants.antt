@@ -1,5 +1,6 @@
 use Rattle.std.proofs.Common.{take}
-use Rattle.view_text.specs.Terms.{problem_case, AddsText}
+use Rattle.plan_view.specs.Terms.{problem_case}
+use Rattle.text_kit.specs.Terms.{AddsText}
 use Rattle.view_state.specs.StateViews.{AreStateTexts}
 use Rattle.view_state.proofs.outcomes.put_each.Given as goal
 

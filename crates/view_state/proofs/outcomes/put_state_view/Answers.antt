@@ -1,5 +1,5 @@
 use Rattle.text_kit.proofs.Lemmas.{on_ok}
-use Rattle.view_text.specs.Terms.{problem_case}
+use Rattle.plan_view.specs.Terms.{problem_case}
 use Rattle.view_state.proofs.StateTexts.{state_view}
 use Rattle.view_state.proofs.outcomes.put_state_view.Goals as goal
 

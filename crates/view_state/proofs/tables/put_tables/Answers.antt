@@ -1,8 +1,7 @@
 use Rattle.std.proofs.Common.{List, subst, ◌∙◌}
 use Rattle.plan_view.{specs.declared.link_flows.FlowRow.FlowRow, specs.declared.rows.LoadRow.LoadRow}
 use Rattle.plan_terms.specs.Terms.{case_of}
-use Rattle.text_kit.proofs.Lemmas.{on_ok}
-use Rattle.view_cells.specs.Terms.{AddsText}
+use Rattle.text_kit.{proofs.Lemmas.on_ok, specs.Terms.AddsText}
 use Rattle.view_state.{specs.StateViews.ShowsStateRows, proofs.StateRows.tables_shown}
 use Rattle.view_state.proofs.tables.put_tables.Goals as goal
 

@@ -1,4 +1,4 @@
-use Rattle.view_text.specs.Terms.{problem_case}
+use Rattle.plan_view.specs.Terms.{problem_case}
 use Rattle.view_svg.proofs.FirstPlans.{first_sound}
 use Rattle.view_svg.proofs.report.put_report_picture.Goals as goal
 

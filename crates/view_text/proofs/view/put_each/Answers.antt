@@ -1,5 +1,6 @@
 use Rattle.std.proofs.Common.{arith}
-use Rattle.view_text.{specs.Reports.problem_case, proofs.Views.{all_views, next_views, no_views}}
+use Rattle.plan_view.specs.Terms.{problem_case}
+use Rattle.view_text.proofs.Views.{all_views, next_views, no_views}
 use Rattle.view_text.proofs.view.put_each.Goals as goal
 
 pub loop-outcome-init : goal.loop-outcome-init

@@ -1,6 +1,7 @@
 use Rattle.std.proofs.Common.{take}
-use Rattle.view_cells.specs.Terms.{AddsText}
-use Rattle.view_text.specs.Reports.{AreOutcomeViews, problem_case}
+use Rattle.text_kit.specs.Terms.{AddsText}
+use Rattle.plan_view.specs.Terms.{problem_case}
+use Rattle.view_text.specs.Reports.{AreOutcomeViews}
 use Rattle.view_text.proofs.view.put_each.Given as goal
 
 -- the views so far

@@ -1,5 +1,6 @@
 use Rattle.text_kit.proofs.Lemmas.{on_ok}
-use Rattle.view_text.{specs.Reports.problem_case, proofs.Views.first_block}
+use Rattle.plan_view.specs.Terms.{problem_case}
+use Rattle.view_text.proofs.Views.{first_block}
 use Rattle.view_text.proofs.view.put_first_block.Goals as goal
 
 pub returns : goal.returns

@@ -1,5 +1,6 @@
 use Rattle.text_kit.proofs.Lemmas.{on_ok}
-use Rattle.view_text.{specs.Reports.problem_case, proofs.Views.numbered}
+use Rattle.plan_view.specs.Terms.{problem_case}
+use Rattle.view_text.proofs.Views.{numbered}
 use Rattle.view_text.proofs.view.put_numbered.Goals as goal
 
 pub returns : goal.returns

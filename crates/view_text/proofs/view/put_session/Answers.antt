@@ -1,5 +1,6 @@
 use Rattle.text_kit.proofs.Lemmas.{on_ok}
-use Rattle.view_text.{specs.Reports.problem_case, proofs.Views.session}
+use Rattle.plan_view.specs.Terms.{problem_case}
+use Rattle.view_text.proofs.Views.{session}
 use Rattle.view_text.proofs.view.put_session.Goals as goal
 
 pub returns : goal.returns

@@ -1,5 +1,5 @@
 use Rattle.std.proofs.Common.{OnOk, subst}
-use Rattle.view_cells.specs.Terms.{AddsText}
+use Rattle.text_kit.specs.Terms.{AddsText}
 use Rattle.view_text.specs.OutcomeCells.{HasOutcomes}
 use Rattle.view_text.proofs.view.put_table.Goals as goal
 

@@ -1,5 +1,5 @@
 ghost use Rattle.std.specs.Prelude.{◌≢◌};
-ghost use Rattle.check_answers.specs.declared.status.Status.{Status};
+ghost use Rattle.outside_io.specs.declared.status.Status.{Status};
 
 use crate::status::Status;
 use net_core::Bytes;

@@ -1,6 +1,6 @@
 -- the statuses with which the program ends
 use Rattle.std.specs.Prelude.{ℕ}
-use Rattle.check_answers.{specs.declared.status.Status.Status, specs.declared.status.Status.TheVariants.{Done, BadWords, NoFile, ReadFault, WriteFault, BadNetwork, BadModel, BadFailures, BadScript, NotSurvivable, Rejected, TooLong, BadReport, NoMemory, BadFlows, BadImport}}
+use Rattle.outside_io.{specs.declared.status.Status.Status, specs.declared.status.Status.TheVariants.{Done, BadWords, NoFile, ReadFault, WriteFault, BadNetwork, BadModel, BadFailures, BadScript, NotSurvivable, Rejected, TooLong, BadReport, NoMemory, BadFlows, BadImport}}
 
 -- the number of each status, with which the program ends
 abbrev pub status_number : Status → ℕ
