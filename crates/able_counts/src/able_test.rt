@@ -12,8 +12,8 @@ use net_core::{
     Caps, Copied, Counts, CutLine, Instance, List, NoMemory, RouteTask, Routing, StateId,
     Surviving, discard,
 };
-use separator::warm_routing::WarmRouter;
 use std::alloc::Global;
+use warm_routing::WarmRouter;
 
 /// A test of counts of modules, with what earlier questions have taught it: cuts, and the last routing of each state. Its answers are about
 /// the counts alone; what it keeps makes later ones cheaper.

@@ -18,5 +18,4 @@ mod state_stop;
 mod stop;
 
 pub use able_test::AbleTest;
-pub use separator;
 pub use stop::Stop;

@@ -2,9 +2,9 @@ ghost use Rattle.std.specs.Prelude.{◌≡◌, ◌⊎◌, ◌^◌, ◌<◌, All,
 ghost use Rattle.able_counts.{specs.AbleTests.{IsRoutingOf, IsRoutingWithin, IsStopAt}, specs.inner.Tasks.task_case};
 
 use crate::stop::Stop;
+use flow_mending::{is_within, mended};
 use net_core::{NoMemory, RouteTask, Routing};
 use node_sets::grown_set;
-use separator::flow_mending::{is_within, mended};
 use std::alloc::Global;
 
 /// A cut of a set of nodes that capacities violate in a state, if one is found. It takes time in the cube of the nodes.

@@ -5,12 +5,12 @@ ghost use Rattle.separator.specs.Terms.{IsFinding};
 ghost use Rattle.able_counts.{specs.AbleTests.{IsRoutingOf, IsRoutingWithin, IsStopAt}, specs.inner.Tasks.task_case};
 
 use crate::stop::Stop;
+use flow_mending::is_within;
+use flow_router::RouteAnswer;
 use net_core::{Copied, Flow, Instance, List, NoMemory, RouteColumn, RouteTask, Routing};
-use separator::flow_mending::is_within;
-use separator::flow_router::RouteAnswer;
-use separator::warm_routing::WarmRouter;
 use separator::{answer_of, separate_state};
 use std::alloc::Global;
+use warm_routing::WarmRouter;
 
 /// The number of turns that a kept basis gets.
 const TURNS: u32 = 1_000;

@@ -5,13 +5,13 @@ use crate::program::Rated;
 use crate::rows::{WIDE, signed};
 use crate::shape::{Cap, ModuleRow, Rows};
 use crate::spans::modules_of;
+use line_check::inequality::coefficient;
+use line_check::{Inequality, Tested};
 use net_core::{Link, List, NoMemory};
 use simplex_core::{Column, Entry};
 use std::alloc::Global;
 use tree_check::Span;
 use tree_check::boxes::span_at;
-use tree_check::line_check::inequality::coefficient;
-use tree_check::line_check::{Inequality, Tested};
 
 /// What a column gains, and what it takes.
 #[derive(Drop)]

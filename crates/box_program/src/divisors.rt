@@ -2,9 +2,9 @@ ghost use Rattle.std.{specs.Prelude.{ℕ, ◌↔◌, ◌<◌, All}, specs.Int.�
 ghost use Rattle.box_program.specs.Divisors.{IsCommonUnit, IsDivisorWith};
 
 use checked_fraction::gcd;
+use line_check::{Inequality, Tested};
 use master_bound::common_divisor;
 use net_core::{Link, List, Module};
-use tree_check::line_check::{Inequality, Tested};
 
 /// The greatest number that divides another one and those of lists.
 fn divisor_over(unit: u128, lists: &[List<u128>]) -> u128

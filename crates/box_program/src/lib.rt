@@ -14,4 +14,3 @@ pub mod spans;
 
 pub use divisors::{common_unit, divisor_of};
 pub use solution::{Amount, Lines, Solution, solved};
-pub use tree_check;

@@ -7,10 +7,10 @@ use crate::program::{BoxColumns, BoxProgram};
 use crate::rank::rank_of;
 use crate::rows::{rows_of, scale_of};
 use crate::shape::{ModuleRow, Scale};
+use line_check::Tested;
 use net_core::{Link, List, NoMemory};
 use simplex_core::{Optimum, SimplexFault, solve};
 use std::alloc::Global;
-use tree_check::line_check::Tested;
 use tree_check::{BoxCert, Boxed, Span};
 
 /// Lines by their indices, of which a program takes those from one on.

@@ -15,8 +15,10 @@ use std::alloc::Global;
 use std::sync::Wait;
 use std::thread::Threads;
 use trim_plan::{Block, Stop};
-use worked_networks::{CHAIN_DEMANDS, STAGES, chain_links, numbered, numbered_nodes};
-use worked_networks::{DemandRow, LinkRow, TEN, demands, failing};
+use worked_networks::{
+    CHAIN_DEMANDS, DemandRow, LinkRow, STAGES, TEN, chain_links, demands, failing, numbered,
+    numbered_nodes,
+};
 
 /// A module of 10.00 for 6.00.
 const DEAR: [Module; 1] = [Module {

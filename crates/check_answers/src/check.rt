@@ -3,13 +3,12 @@ ghost use Rattle.plan_terms.specs.Terms.{case};
 ghost use Rattle.plan_report.specs.Terms.{known_of, IsReportInForm};
 ghost use Rattle.check_answers.{specs.Findings.{accepted_line, rejected_line}, specs.Checks.IsJudged};
 
-use outside_io::Answer;
 use crate::finding::{accepted_line, rejected_line};
-use outside_io::Status;
 use net_core::{NoMemory, Problem};
+use outside_io::{Answer, Status};
+use plan_checker::{CheckAnswer, Finding};
 use plan_types::Report;
 use report_checker::check_report;
-use report_checker::plan_checker::{CheckAnswer, Finding};
 use std::alloc::Global;
 
 /// The answer to a report without a finding.

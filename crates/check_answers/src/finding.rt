@@ -3,9 +3,9 @@ ghost use Rattle.text_kit.specs.Terms.{money_word};
 ghost use Rattle.check_answers.specs.Findings.{demands_of_outcome, demands_there, finding_words, place_words, rejected_line, accepted_line, spaced};
 
 use net_core::{Bytes, Demand, Link, List, NoMemory, Places};
+use plan_checker::Finding;
 use plan_report::{demand_name, link_name};
 use plan_types::Outcome;
-use report_checker::plan_checker::Finding;
 use std::alloc::Global;
 use text_kit::write::{put_decimal, put_money_word};
 

@@ -6,7 +6,6 @@ mod mended_routing;
 pub mod reach;
 mod routing_form;
 
-pub use flow_router;
 pub use loads::is_within;
 pub use mended_routing::{bounded, mended};
 pub use routing_form::if_routed;

@@ -22,7 +22,6 @@ mod rounds;
 mod score;
 mod sums;
 
-pub use box_program;
 pub use coarse::coarse_lines;
 pub use entry::Entry;
 pub use law::names_are_kept;

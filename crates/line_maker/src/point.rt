@@ -1,8 +1,8 @@
-use box_program::tree_check::Span;
-use box_program::tree_check::boxes::span_at;
 use box_program::{Amount, Solution};
 use net_core::{Link, List, NoMemory};
 use std::alloc::Global;
+use tree_check::Span;
+use tree_check::boxes::span_at;
 
 /// Amounts of modules over one denominator.
 #[derive(Drop)]

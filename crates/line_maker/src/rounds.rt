@@ -7,10 +7,10 @@ use crate::numbers::{Lowest, Numbers, all_numbers};
 use crate::point::point_of;
 use crate::sums::is_narrow;
 use box_program::Solution;
-use box_program::tree_check::Boxed;
 use line_check::{Line, Tested};
 use net_core::{Link, List, NoMemory};
 use std::alloc::Global;
+use tree_check::Boxed;
 
 /// Puts the line of a candidate last, if there is room, it is new, and its sum is narrow enough.
 fn push_new(

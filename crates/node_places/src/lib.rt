@@ -10,4 +10,4 @@ mod decimal;
 mod places;
 
 pub use decimal::thousandths;
-pub use places::{Place, node_places};
+pub use places::Place;

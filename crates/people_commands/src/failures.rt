@@ -5,12 +5,11 @@ ghost use Rattle.input_files.specs.Shelves.{KeepsShelf};
 ghost use Rattle.people_files.specs.Endings.{FailsReading, Halts, HasCauseForPeople};
 ghost use Rattle.people_commands.{specs.Endings.{EndsFailures, ListsFailures, SaysApart, apart_words}, specs.inner.Causes.apart_line};
 
-use outside_io::Status;
 use failure_texts::{FailureAnswer, failure_list};
 use net_core::{Bytes, Demands, List, Network, NoMemory};
-use outside_io::Shelf;
-use plan_report::demand_name;
+use outside_io::{Shelf, Status};
 use people_files::{Halt, load_network, told};
+use plan_report::demand_name;
 use std::alloc::Global;
 use text_kit::write::put_decimal;
 

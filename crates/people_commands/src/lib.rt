@@ -9,5 +9,3 @@ mod usage;
 mod view;
 
 pub use outside_io::Status;
-pub use people_plans;
-pub use people_views;

@@ -3,9 +3,8 @@ ghost use Rattle.outside_io.specs.declared.status.Status.{Status};
 ghost use Rattle.people_commands.specs.Endings.{PutsBoth, TellsBeside};
 
 use crate::usage::write_message;
-use outside_io::Status;
 use net_core::{Bytes, List};
-use outside_io::Sink;
+use outside_io::{Sink, Status};
 use people_files::Halt;
 use std::alloc::Global;
 

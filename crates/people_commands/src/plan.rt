@@ -7,9 +7,8 @@ ghost use Rattle.people_words.specs.AskedCommands.{asked_plan};
 ghost use Rattle.people_commands.{specs.Endings.EndsPeoplePlan, specs.inner.Printing.{GivesAnswer, HasPrintedCause}};
 
 use crate::output::Printed;
-use outside_io::Status;
 use net_core::Problem;
-use outside_io::Shelf;
+use outside_io::{Shelf, Status};
 use people_files::{Halt, Told, load_case};
 use people_plans::{PlanAnswer, plan_for_people};
 use people_words::PlanRequest;

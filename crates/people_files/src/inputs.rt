@@ -7,13 +7,12 @@ use crate::loaded_files::{fetch_file, load_network, load_placed_network};
 use crate::refusal::{FaultyFile, place_in, refused, unused};
 use crate::stop::Halt;
 use crate::words::CaseFiles;
-use outside_io::Status;
 use fault_messages::{failures_notes, failures_sentence, model_notes, model_sentence};
 use input_files::{DEFAULT, INPUT_LIMIT, PlanFiles, default_states};
 use model_reader::{FailuresRefusal, Model, ModelRefusal, read_failures, read_model, single_links};
 use net_core::{Demands, List, Network, Problem, States};
 use node_places::Place;
-use outside_io::Shelf;
+use outside_io::{Shelf, Status};
 use std::alloc::Global;
 
 /// The model that bytes spell.

@@ -14,7 +14,6 @@ mod refusal;
 mod stop;
 mod words;
 
-pub use input_files;
 pub use inputs::{load_case, load_placed_case};
 pub use loaded_files::{fetch_report, load_network};
 pub use refusal::{FaultyFile, place_in, refused, told};

@@ -7,12 +7,11 @@ ghost use Rattle.people_files.specs.Messages as words;
 
 use crate::refusal::{FaultyFile, not_fetched, place_in, refused, unread};
 use crate::stop::Halt;
-use outside_io::Status;
 use fault_messages::{network_notes, network_sentence};
 use input_files::{INPUT_LIMIT, REPORT_LIMIT};
 use net_core::{Bytes, Demands, List as Items, Network};
 use node_places::{Place, node_places};
-use outside_io::{Fetch, ReadFault, Shelf};
+use outside_io::{Fetch, ReadFault, Shelf, Status};
 use sndlib_reader::{ReadRefusal, read_network};
 use std::alloc::Global;
 

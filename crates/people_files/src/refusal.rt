@@ -4,10 +4,10 @@ ghost use Rattle.input_files.specs.Refusals.{refusal_line, unused_line};
 ghost use Rattle.people_files.{specs.Endings.Halts, specs.Messages.{ShowsPlace, unused_words}};
 
 use crate::stop::{Halt, Told};
-use outside_io::Status;
 use fault_texts::{Sentence, put_fault};
 use input_files::UnusedFailures;
 use net_core::{Bytes, List, NoMemory};
+use outside_io::Status;
 use std::alloc::Global;
 use text_kit::FaultWord;
 use text_kit::write::put_decimal;

@@ -1,5 +1,5 @@
-use outside_io::Status;
 use net_core::{Bytes, NoMemory};
+use outside_io::Status;
 
 /// A status, and the message of a run that ends with it and prints nothing.
 #[derive(Drop)]

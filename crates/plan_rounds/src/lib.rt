@@ -22,7 +22,5 @@ mod sorted_answers;
 mod whole_routings;
 mod wide_rounds;
 
-pub use master_bound;
 pub use rounds::{Worked, work_rounds};
-pub use separator;
 pub use sorted_answers::are_short;

@@ -7,11 +7,11 @@ use crate::kept::Kept;
 use crate::refusals::Refusals;
 use crate::search::Search;
 use crate::swaps::make_cheaper;
+use able_counts::AbleTest;
 use net_core::{Copied, Counts, Instance, List, NoMemory, Routing, discard};
 use plan_types::{Certificate, Plan};
 use std::alloc::Global;
 use std::mem;
-use trim_plan::able_counts::AbleTest;
 use trim_plan::{Priced, dearest_first};
 
 /// Refusals that know the cuts of a certificate.

@@ -12,5 +12,3 @@ mod spared_modules;
 mod swaps;
 
 pub use cheaper_plan::swap;
-pub use trim_plan;
-pub use trim_plan::able_counts;

@@ -3,9 +3,9 @@ ghost use Rattle.plan_terms.specs.Terms.{case_of, AreCounts, AreWithinLimits, Is
 ghost use Rattle.trim_plan.specs.Terms.{AreRoutingsWithin, IsTestOf};
 
 use crate::refusals::Refusals;
+use able_counts::{AbleTest, Stop};
 use net_core::{Counts, Instance, Link, NoMemory};
 use trim_plan::Place;
-use trim_plan::able_counts::{AbleTest, Stop};
 
 /// A test of counts, the cuts that are known, and how much may still be asked.
 #[derive(Drop)]

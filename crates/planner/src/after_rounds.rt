@@ -8,8 +8,8 @@ use crate::choose_counts::choose_counts;
 use crate::own_bound::CertifiedBound;
 use crate::ranges::are_short_cuts;
 use net_core::{CutLine, Instance, List, NoMemory, discard};
-use plan_rounds::separator::Separate;
 use plan_rounds::{Worked, work_rounds};
+use separator::Separate;
 use share_covers::Chosen;
 use std::alloc::Global;
 

@@ -3,11 +3,11 @@ ghost use Rattle.planner.{specs.inner.Candidates.HaveBounds, specs.inner.Finishi
 
 use crate::own_bound::{CertifiedBound, best_bound};
 use checked_fraction::cmp;
+use master_bound::{Best, Multiplier};
 use metric_cut::RawValue;
 use module_prices::bound_of;
 use net_core::{Copied, List, Network, NoMemory, discard};
 use plan_rounds::Worked;
-use plan_rounds::master_bound::{Best, Multiplier};
 use plan_types::{CertLine, Certificate};
 use std::alloc::Global;
 use std::cmp::Ordering;

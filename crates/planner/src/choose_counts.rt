@@ -2,9 +2,9 @@ ghost use Rattle.std.specs.Prelude.{◌≡◌, IfOk, IfSome};
 ghost use Rattle.plan_terms.specs.Terms.{case_of, AreWithinLimits, IsFallback, IsSurvivable};
 ghost use Rattle.planner.specs.inner.Finishing.{IsChosenAfter, IsChosenFor, IsShareFor};
 
+use master_bound::Best;
 use module_choice::{Fallback, fallback_plan};
 use net_core::{Instance, NoMemory, discard};
-use plan_rounds::master_bound::Best;
 use plan_types::Quality;
 use share_covers::{Chosen, choose};
 use std::alloc::Global;

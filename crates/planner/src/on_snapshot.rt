@@ -10,7 +10,7 @@ use crate::ranges::are_short_cuts;
 use cut_pool::Snapshot;
 use failure_states::first_separated;
 use net_core::{Instance, Network, NoMemory, States, discard};
-use plan_rounds::separator::Separate;
+use separator::Separate;
 use std::alloc::Global;
 
 /// The plan for a snapshot where no state separates a demand.

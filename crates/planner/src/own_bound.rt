@@ -2,10 +2,10 @@ ghost use Rattle.std.specs.Prelude.{◌≡◌, ◌<◌, ◌^◌, [], ◌∷◌, 
 ghost use Rattle.metric_cut.specs.Bounded.{HaveBound};
 ghost use Rattle.planner.specs.inner.Candidates.{HaveBounds, IsBestBound, IsBoundOfCut, IsBoundOfNone};
 
+use master_bound::best_own;
 use metric_cut::{RawValue, own_certificate};
 use module_prices::bound_of;
 use net_core::{Copied, CutLine, List, Network, NoMemory};
-use plan_rounds::master_bound::best_own;
 use plan_rounds::{Worked, are_short};
 use plan_types::{CertLine, Certificate, Spot};
 use std::alloc::Global;

@@ -8,5 +8,4 @@ mod pool;
 mod report;
 mod walk;
 
-pub use plan_checker;
 pub use report::check_report;

@@ -4,9 +4,9 @@ ghost use Rattle.separation_workers.{specs.inner.Rounds.{AreFound, IsFoundOf, Is
 use crate::hints::hinted_cut;
 use crate::lent_columns::{is_begun, lend};
 use crate::round::{Round, StateFound, Work};
+use flow_router::RouteAnswer;
 use net_core::{List, NoMemory, StateId, discard};
 use outside_io::Gate;
-use separator::flow_router::RouteAnswer;
 use separator::{KnownState, StateQuestion, separate_state};
 use std::thread;
 use std::thread::Threads;

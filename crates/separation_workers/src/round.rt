@@ -3,9 +3,9 @@ ghost use Rattle.plan_terms.specs.Terms.{case_of, IsSurvivable};
 ghost use Rattle.hint_board.specs.Hints.{hint_links};
 
 use crate::hold::Hold;
+use flow_router::RouteAnswer;
 use hint_board::HintBoard;
 use net_core::{Caps, Instance, StateId};
-use separator::flow_router::RouteAnswer;
 use separator::{KnownState, StateQuestion};
 use std::alloc::Global;
 use std::sync::Mutex;

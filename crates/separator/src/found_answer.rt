@@ -6,9 +6,9 @@ ghost use Rattle.separator.{specs.Findings.IsFinding, specs.Separators.{IsAnswer
 use crate::admission::line_and_spot;
 use crate::answers::{Separated, StateAnswer};
 use cut_pool::Board;
+use flow_router::RouteAnswer;
 use metric_cut::Cut;
 use net_core::{Caps, Instance, NoMemory, StateId};
-use warm_routing::flow_router::RouteAnswer;
 
 /// The answer of a state that a cut is found of, the cut admitted to the board's pool.
 pub fn answer_cut(

@@ -5,10 +5,10 @@ ghost use Rattle.separator.specs.Findings.{IsFinding};
 
 use crate::one_state::separate_from;
 use crate::question::StateQuestion;
+use flow_router::RouteAnswer;
 use net_core::{Caps, Instance, List, NoMemory, RouteColumn, StateId};
 use std::alloc::Global;
 use warm_routing::WarmRouter;
-use warm_routing::flow_router::RouteAnswer;
 
 /// What is kept of a state from one question to the next: the columns that its last routing program ended with, and the basis that its
 /// last question ended with. It saves work and changes no answer's meaning, so that nothing need be known of it.

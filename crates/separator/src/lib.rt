@@ -36,5 +36,3 @@ pub use question::StateQuestion;
 pub use roomy_sets::{NO_ROOM, RoomySets, set_in_state, sets_of_round};
 pub use separate::Separate;
 pub use some_states::{answers_of_both, is_cut};
-pub use warm_routing;
-pub use warm_routing::{flow_mending, flow_router};

@@ -6,11 +6,11 @@ ghost use Rattle.separator.specs.Findings.{IsFinding, IsFoundCutOf};
 
 use crate::question::StateQuestion;
 use crate::ranges::are_caps;
+use flow_router::{RouteAnswer, route_task};
 use metric_cut::Cut;
 use net_core::{Caps, Instance, List, NoMemory, RouteColumn, RouteTask, StateId};
+use node_sets::{grown_set, threshold_set};
 use std::alloc::Global;
-use warm_routing::flow_router::{RouteAnswer, route_task};
-use warm_routing::node_sets::{grown_set, threshold_set};
 use warm_routing::{WarmAnswer, WarmRouter};
 
 /// How many turns a kept basis is given. A first one takes some thousands where there are thousands of demands, and then too that is less work

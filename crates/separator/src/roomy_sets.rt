@@ -4,8 +4,8 @@ ghost use Rattle.separator.{specs.Findings.IsFoundCutOf, specs.Rooms.{HasRoomOve
 
 use metric_cut::{Cut, are_narrow, violated_by};
 use net_core::{Caps, Instance, List, NoMemory, StateId};
+use node_sets::{RoundSets, round_set};
 use std::alloc::Global;
-use warm_routing::node_sets::{RoundSets, round_set};
 
 /// The parts of a capacity that it is given more, the largest first.
 const PARTS: [u128; 5] = [8, 32, 128, 1_024, 8_192];

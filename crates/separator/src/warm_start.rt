@@ -5,9 +5,9 @@ ghost use Rattle.separator.specs.Findings.{IsFinding};
 
 use crate::known_state::KnownState;
 use crate::question::StateQuestion;
+use flow_router::RouteAnswer;
 use net_core::{Caps, Instance, List, NoMemory, StateId};
 use std::alloc::Global;
-use warm_routing::flow_router::RouteAnswer;
 
 /// What is kept of the states, from state 0 on.
 #[derive(Drop)]

@@ -2,7 +2,7 @@ ghost use Rattle.std.specs.Prelude.{◌≡◌, ◌<◌, IfOk, length};
 ghost use Rattle.plan_terms.specs.Terms.{case_of, AreCounts, IsSurvivable};
 ghost use Rattle.share_covers.specs.InstalledRoutes.{IsRoutesAnswer, installed_caps};
 
-use flow_mending::flow_router::{RouteAnswer, route_state};
+use flow_router::{RouteAnswer, route_state};
 use module_choice::capacities;
 use net_core::{Caps, Counts, Evidence, Instance, List, NoMemory, Routing, StateId};
 use std::alloc::Global;

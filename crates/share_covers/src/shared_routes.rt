@@ -4,8 +4,8 @@ ghost use Rattle.route_law.specs.Terms.{flow_times};
 ghost use Rattle.share_covers.{specs.InstalledRoutes.{IsRoutesAnswer, installed_caps}, specs.inner.SharedRoutes.{CarriesAtWhole, CoversCarriedShare, CoversQuality, IsSharedAnswer, IsStateAnswer, IsWholeAnswer}};
 
 use crate::routes::{InstalledRoutes, route_installed};
-use flow_mending::flow_router::common_divisor;
 use flow_mending::mended;
+use flow_router::common_divisor;
 use greedy_router::greedy;
 use module_choice::capacities;
 use net_core::{Caps, Copied, Counts, Flow, Instance, List, NoMemory, RouteTask, Routing, StateId};

@@ -7,9 +7,9 @@ use crate::aim::Aim;
 use crate::found::Cheaper;
 use crate::large::stop_anywhere;
 use crate::lowered_counts::lowered_counts;
+use able_counts::{AbleTest, Stop};
 use module_choice::cost;
 use net_core::{Copied, Counts, NoMemory};
-use plan_swaps::able_counts::{AbleTest, Stop};
 use plan_swaps::limits::are_within_limits;
 use std::alloc::Global;
 

@@ -6,11 +6,11 @@ ghost use Rattle.tree_check.specs.Proofs.{EmptiesBox};
 ghost use Rattle.tree_boxes.specs.Searches.{Extends, IsKnown, aimed};
 
 use crate::aim::Aim;
+use box_program::{Lines, Solution, common_unit, divisor_of, solved};
 use line_check::tested_lines::{tested_cut, tested_line, tested_lines};
 use line_check::{Line, Tested};
-use line_maker::box_program::{Lines, Solution, common_unit, divisor_of, solved};
-use net_core::{CutLine, Instance, List, NoMemory};
 use line_maker::Entry;
+use net_core::{CutLine, Instance, List, NoMemory};
 use std::alloc::Global;
 use std::mem;
 use tree_check::Boxed;

@@ -2,11 +2,11 @@ ghost use Rattle.std.specs.Prelude.{◌≡◌, ◌+◌, ◌<◌, IfOk, MatchResu
 ghost use Rattle.plan_terms.specs.Terms.{AreCounts, IsSurvivable, capacities, case_of};
 ghost use Rattle.plan_swaps.specs.Terms.{AreRoutingsWithin, IsRoutingWithin, IsStopAt, whole_caps};
 
+use able_counts::Stop;
 use flow_router::RouteAnswer;
 use module_choice::capacities;
 use net_core::{Caps, Counts, Instance, List, NoMemory, Routing, StateId};
-use plan_swaps::able_counts::Stop;
-use plan_swaps::able_counts::separator::separate_state;
+use separator::separate_state;
 use std::alloc::Global;
 
 /// A routing of a state within capacities, or why there is none.

@@ -5,11 +5,10 @@ ghost use Rattle.tree_boxes.specs.Searches.{HasLearned, IsSearch, aimed, most_en
 use crate::aim::Aim;
 use crate::known::Mark;
 use crate::search::Search;
+use box_program::Solution;
 use line_check::{Line, Tested};
-use line_maker::box_program::Solution;
-use line_maker::{coarse_lines, lines_at};
+use line_maker::{Entry, coarse_lines, lines_at};
 use net_core::{Copied, CutLine, List, NoMemory};
-use line_maker::Entry;
 use std::alloc::Global;
 use table_maker::{Part, TableTask, narrow_lines, set_cuts, table_lines};
 use tree_check::{BoxCert, Boxed};

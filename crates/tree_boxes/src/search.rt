@@ -1,5 +1,5 @@
 use crate::known::Known;
-use plan_swaps::able_counts::AbleTest;
+use able_counts::AbleTest;
 
 /// How many cuts of whole points and other lines are kept beside the handed-in cuts.
 pub const MOST_FURTHER: usize = 4096;

@@ -3,7 +3,7 @@ ghost use Rattle.plan_terms.specs.Terms.{AreCounts, Link};
 ghost use Rattle.tree_boxes.specs.Searches.{aimed};
 
 use crate::aim::Aim;
-use line_maker::box_program::Solution;
+use box_program::Solution;
 use net_core::{Counts, Link, List, NoMemory};
 use std::alloc::Global;
 use tree_check::boxes::span_at;

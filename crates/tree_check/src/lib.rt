@@ -20,6 +20,5 @@ mod weighing;
 
 pub use boxes::{Boxed, Span};
 pub use check::check_tree;
-pub use line_check;
 pub use line_check::{Inequality, Line, Multiplier, TableKind};
 pub use proof::{BoxCert, Node, Proof, TreeAnswer, Verdict};

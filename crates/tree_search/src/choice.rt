@@ -4,14 +4,14 @@ ghost use Rattle.line_check.specs.Inequalities.{entry};
 ghost use Rattle.tree_boxes.specs.Terms.{HasFreeValue, AreLow, IsSearchBox, IsKnown, aimed};
 ghost use Rattle.tree_search.{specs.inner.Choosing.{HasFreePlace, IsCheapChoice, IsFreeSpan, IsSplittable, IsTriable}, specs.inner.Growing.IsChoiceOf};
 
+use box_program::spans::is_fixed;
+use box_program::{Amount, Solution};
 use net_core::{List, Module, NoMemory};
 use std::alloc::Global;
-use tree_boxes::box_program::spans::is_fixed;
-use tree_boxes::box_program::{Amount, Solution};
-use tree_boxes::trim_plan::Place;
 use tree_boxes::{Aim, Known, OpenBox};
 use tree_check::boxes::{is_split, lower_side, span_at, upper_side};
 use tree_check::{Boxed, Span};
+use trim_plan::Place;
 
 /// How many choices are compared by their programs at each split.
 const TRIED: usize = 8;

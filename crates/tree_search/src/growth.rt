@@ -8,10 +8,10 @@ use crate::tree::{Tree, least_open, open_boxes, set_twig};
 use net_core::{Copied, LinkId, NoMemory, discard};
 use outside_io::{Gate, TreeFigures};
 use std::alloc::Global;
-use tree_boxes::trim_plan::Place;
 use tree_boxes::{Aim, Cheaper, Found, OpenBox, Search, Twig, copied, look, make_first_lines};
 use tree_check::boxes::{lower_side, upper_side, whole_box};
 use tree_check::{BoxCert, Node};
+use trim_plan::Place;
 
 /// What comes of growing a tree: the tree, or cheaper counts.
 #[derive(Drop)]

@@ -16,8 +16,6 @@ mod own_cert;
 mod proof_search;
 mod tree;
 
-pub use line_check;
 pub use proof_search::{prove, prove_instance};
 pub use tree_boxes::index_of;
-pub use tree_check;
 pub use tree_check::{BoxCert, Node, Proof, Verdict};

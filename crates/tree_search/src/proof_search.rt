@@ -7,13 +7,13 @@ ghost use Rattle.tree_search.{specs.FewSplits.AreCharged, specs.Proving.{AreHand
 use crate::growth::{Growth, grown};
 use crate::own_cert::own_cert;
 use crate::tree::{Tree, finished};
+use able_counts::AbleTest;
 use net_core::{Copied, CutLine, Instance, List, Network, NoMemory, States, discard};
 use outside_io::Gate;
+use plan_swaps::swap;
 use plan_types::Plan;
 use std::alloc::Global;
 use std::mem;
-use tree_boxes::able_counts::AbleTest;
-use tree_boxes::plan_swaps::swap;
 use tree_boxes::line_maker::{Entry, Ordered, in_order};
 use tree_boxes::{
     Aim, Cheaper, Known, MOST_FURTHER, MOST_SET_CUTS, Search, empty_cert, first_items,

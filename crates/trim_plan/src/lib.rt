@@ -18,7 +18,6 @@ mod lowered_counts;
 mod spared_modules;
 mod trimmed_plan;
 
-pub use able_counts;
 pub use able_counts::Stop;
 pub use dearest::{Priced, dearest_first};
 pub use lowered_counts::{Place, module_count, one_less};

@@ -4,8 +4,7 @@ ghost use Rattle.row_cuts.specs.FoundCuts.{IsFoundCutOf};
 
 use metric_cut::Cut;
 use net_core::{Copied, LinkId, List, NoMemory, RouteColumn, RouteTask};
-use row_cuts::row_cut;
-use row_cuts::PathRow;
+use row_cuts::{PathRow, row_cut};
 use std::alloc::Global;
 use warm_basis::{Basis, BasisRow, Column};
 

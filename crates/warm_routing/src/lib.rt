@@ -19,7 +19,4 @@ mod router;
 mod start;
 
 pub use answer::WarmAnswer;
-pub use flow_mending;
-pub use flow_mending::flow_router;
-pub use node_sets;
 pub use router::WarmRouter;
