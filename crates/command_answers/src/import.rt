@@ -9,14 +9,13 @@ ghost use Rattle.command_answers.{specs.ImportFaults.{import_fault_line, import_
 
 use crate::plan::{planned, separated};
 use check_answers::put_word;
-use outside_io::{Answer, Status};
 use flow_file::FlowFile;
 use flow_import::ImportFault;
 use net_core::{Bytes, Instance, List, NoMemory, Problem};
-use outside_io::Gate;
-use plan_report::{demand_name, link_name, node_name, state_name};
+use outside_io::{Answer, Gate, Status};
 use plan_import::lone_plan::PlannedReport;
 use plan_import::{ImportEnding, import_plan};
+use plan_report::{demand_name, link_name, node_name, state_name};
 use std::alloc::Global;
 use std::sync::Wait;
 use std::thread::Threads;

@@ -6,13 +6,12 @@ ghost use Rattle.proof_report.specs.Terms.{IsSeparationOf, whole_report};
 ghost use Rattle.check_answers.specs.Separations.{NamesFirstSeparation};
 ghost use Rattle.command_answers.specs.Answers.{EndsPlan};
 
-use outside_io::{Answer, Status};
+use failure_texts::separated_line;
 use net_core::{Instance, Name, Network, NoMemory, Problem, StateId, States};
-use outside_io::Gate;
+use outside_io::{Answer, Gate, Status};
 use plan_import::lone_plan::{LonePlan, PlannedReport, plan_once};
 use plan_report::write_report;
 use plan_types::Report;
-use failure_texts::separated_line;
 use std::alloc::Global;
 use std::sync::Wait;
 use std::thread::Threads;

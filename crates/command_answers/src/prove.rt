@@ -5,9 +5,8 @@ ghost use Rattle.outside_io.specs.declared.status.Status.{Status};
 ghost use Rattle.command_answers.specs.Answers.{EndsProve, EndsCharged, free_module_line};
 
 use crate::plan::separated;
-use outside_io::{Answer, Status};
 use net_core::{Instance, List, NoMemory, Problem};
-use outside_io::Gate;
+use outside_io::{Answer, Gate, Status};
 use proof_report::{ProofEnding, ProvedReport, are_charged, prove_once, write_lined};
 use std::alloc::Global;
 use std::sync::Wait;

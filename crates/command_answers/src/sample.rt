@@ -7,10 +7,9 @@ ghost use Rattle.text_kit.specs.Terms.{money_word};
 ghost use Rattle.outside_io.specs.declared.status.Status.{Status};
 ghost use Rattle.command_answers.specs.Answers.{IsSummary, quality_word, raw_lines, sample_case, size_line, summary};
 
-use outside_io::{Answer, Status};
 use model_reader::single_links;
 use net_core::{Bytes, Demands, Instance, List, Network, NoMemory, Places};
-use outside_io::OpenGate;
+use outside_io::{Answer, OpenGate, Status};
 use plan_import::lone_plan::{LonePlan, PlannedReport, plan_once};
 use plan_types::{Plan, Quality};
 use sample_net::{network_text, sample};

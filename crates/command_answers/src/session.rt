@@ -6,9 +6,8 @@ ghost use Rattle.plan_types.specs.declared.report.Report.{Report as Rep};
 ghost use Rattle.command_answers.specs.Answers.{IsPrintedReport};
 
 use crate::plan::reported;
-use outside_io::{Answer, Status};
 use net_core::{NoMemory, Problem};
-use outside_io::Gate;
+use outside_io::{Answer, Gate, Status};
 use plan_import::session_run::run_session;
 use session_script::Script;
 use std::alloc::Global;

@@ -4,9 +4,8 @@ ghost use Rattle.proof_report.specs.Terms.{IsTrimEnding, IsTrimmedReport};
 ghost use Rattle.command_answers.specs.Answers.{EndsTrim};
 
 use crate::plan::separated;
-use outside_io::{Answer, Status};
 use net_core::{Instance, List, NoMemory, Problem};
-use outside_io::Gate;
+use outside_io::{Answer, Gate, Status};
 use plan_import::lone_plan::PlannedReport;
 use proof_report::trim_plan::Block;
 use proof_report::trimmed_report::{TrimEnding, trim_once, write_trimmed};

@@ -1,12 +1,11 @@
-use outside_io::Status;
 use net_core::{Bytes, Module, Problem};
-use outside_io::OpenGate;
+use outside_io::{OpenGate, Status};
 use people_commands::people_plans::{PlanAnswer, plan_for_people};
 use people_commands::people_views::view_report;
+use people_views::ViewForm;
 use std::alloc::Global;
 use std::sync::Wait;
 use std::thread::Threads;
-use people_views::ViewForm;
 use worked_networks::{DemandRow, LinkRow, TEN, network, problem};
 
 /// A module that costs nothing.

@@ -2,6 +2,7 @@
 use Rattle.std.specs.Prelude.{◌≡◌, ◌≢◌, ℕ, ◌<◌, ◌^◌, ◌++◌, List, [], ◌∷◌, All, Some, length, slice_get, true}
 use Rattle.plan_terms.specs.Terms.{Demand, Edit, Entry, Edited, Pooled, Network, States, CutLine, Case, graph_in, AreDemands, Joins, case, IsCut, IsRight}
 use Rattle.metric_cut.specs.declared.cut.Cut.{Cut}
+use Rattle.net_core.specs.Limits.{most_cuts, most_entries}
 use Rattle.cut_pool.{specs.declared.answers.AdmitAnswer.AdmitAnswer, specs.declared.answers.EditAnswer.EditAnswer, specs.declared.board.Board.Board, specs.declared.snapshot.Snapshot.Snapshot, specs.Histories.{IsLegalAfter, IsPoolAfter, cuts_of, demands_left, version_left}, specs.Rooms.{left_spare, sets_known}}
 use Rattle.cut_pool.specs.declared.answers.AdmitAnswer.TheVariants as admitting
 use Rattle.cut_pool.specs.declared.answers.EditAnswer.TheVariants as editing
@@ -34,9 +35,9 @@ pub record IsSameBoard (old new : Board) : Type 0 where
 -- the board's answer to a caller's edit, and what becomes of the board
 abbrev pub AnswersEdit : Board → ℕ → Edit → EditAnswer → Board → Type 0
 AnswersEdit old caller edit (editing.At position reply) new =
-    (length old.entries < 65536) × GrowsBy (Edited caller edit reply) old new × (position ≡ length new.entries)
-AnswersEdit old caller edit (editing.Full back) new = (length old.entries ≡ 65536) × (back ≡ edit) × IsSameBoard old new
-AnswersEdit old caller edit (editing.NoMemory back) new = (length old.entries < 65536) × (back ≡ edit) × IsSameBoard old new
+    (length old.entries < most_entries) × GrowsBy (Edited caller edit reply) old new × (position ≡ length new.entries)
+AnswersEdit old caller edit (editing.Full back) new = (length old.entries ≡ most_entries) × (back ≡ edit) × IsSameBoard old new
+AnswersEdit old caller edit (editing.NoMemory back) new = (length old.entries < most_entries) × (back ≡ edit) × IsSameBoard old new
 
 -- what an edit leaves of that memory: setting a known demand's need takes from it, and runs out only where none is spared
 abbrev pub SparesEdit : Board → Edit → EditAnswer → Board → Type 0
@@ -53,19 +54,19 @@ IsNew cut entries = All (λ c. c ≢ (cut.state.0, cut.lengths)) (cuts_of entrie
 abbrev pub AnswersAdmit : Board → Cut → AdmitAnswer → Board → Type 0
 AnswersAdmit old cut (admitting.Admitted index position) new =
     IsNew cut old.entries
-    × (length (cuts_of old.entries) < 4096)
-    × (length old.entries < 65536)
+    × (length (cuts_of old.entries) < most_cuts)
+    × (length old.entries < most_entries)
     × GrowsBy (Pooled index cut.state cut.lengths) old new
     × (index ≡ length (cuts_of old.entries))
     × (position ≡ length new.entries)
 AnswersAdmit old cut (admitting.Known index back) new =
     (slice_get (cuts_of old.entries) index ≡ Some (cut.state.0, cut.lengths)) × (back ≡ cut) × IsSameBoard old new
 AnswersAdmit old cut (admitting.PoolFull back) new =
-    IsNew cut old.entries × (length (cuts_of old.entries) ≡ 4096) × (back ≡ cut) × IsSameBoard old new
+    IsNew cut old.entries × (length (cuts_of old.entries) ≡ most_cuts) × (back ≡ cut) × IsSameBoard old new
 AnswersAdmit old cut (admitting.Full back) new =
-    IsNew cut old.entries × (length (cuts_of old.entries) < 4096) × (length old.entries ≡ 65536) × (back ≡ cut) × IsSameBoard old new
+    IsNew cut old.entries × (length (cuts_of old.entries) < most_cuts) × (length old.entries ≡ most_entries) × (back ≡ cut) × IsSameBoard old new
 AnswersAdmit old cut (admitting.NoMemory back) new =
-    IsNew cut old.entries × (length (cuts_of old.entries) < 4096) × (length old.entries < 65536) × (back ≡ cut) × IsSameBoard old new
+    IsNew cut old.entries × (length (cuts_of old.entries) < most_cuts) × (length old.entries < most_entries) × (back ≡ cut) × IsSameBoard old new
 
 -- this is the right side of the cut of an index at the demands now
 abbrev pub IsRightNow : Board → ℕ → ℕ → Type 0

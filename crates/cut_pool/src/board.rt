@@ -11,18 +11,12 @@ use crate::pooled_cut::{PooledCut, lines_of, place_of};
 use crate::snapshot::Snapshot;
 use demand_book::Book;
 use metric_cut::Cut;
+use net_core::limits::{MOST_CUTS, MOST_ENTRIES};
 use net_core::{Copied, CutLine, Demands, Edit, Entry, List, Network, NoMemory, States};
 use std::alloc::Global;
 use std::snapshot::Snapshot as Remembered;
 use std::thread::Threads;
 use turn_lock::Chronicle;
-
-/// The most entries of a board.
-const MOST_ENTRIES: usize = 65_536;
-
-/// The most cuts of a pool.
-const MOST_CUTS: usize = 4096;
-
 /// One history of demand edits and pooled cuts, with what it leaves: the demands, their version, and each pooled cut with its
 /// right side at the demands now.
 ///

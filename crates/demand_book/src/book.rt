@@ -3,14 +3,8 @@ ghost use Rattle.plan_terms.specs.Terms.{AreDemands, are_same, Add, Drop, Set, a
 ghost use Rattle.demand_book.specs.Book.{IsAdd};
 
 use crate::find::{demand_place, give_need, node_place, sum_of_needs};
+use net_core::limits::{MOST_DEMANDS, TOO_MUCH};
 use net_core::{Copied, Demand, Demands, Edit, List, Name, Network, NoMemory, NodeId, Reply};
-
-/// From this many units on, all needs together are too much.
-const TOO_MUCH: u64 = 1 << 44;
-
-/// The most demands that a book takes.
-const MOST_DEMANDS: usize = 2048;
-
 /// The demands of a network's nodes, which edits change, with the version that counts the accepted ones.
 ///
 /// ```text

@@ -1,8 +1,7 @@
 use net_core::{
     Caps, LinkId, List, NoMemory, Path, Problem, RouteColumn, RouteTask, StateId, Surviving,
 };
-use row_cuts::row_cut;
-use row_cuts::{PathRow, priced_numbers};
+use row_cuts::{PathRow, priced_numbers, row_cut};
 use std::alloc::Global;
 use worked_networks::{DemandRow, LinkRow, TEN, network, problem};
 

@@ -3,8 +3,7 @@ use key_rows::demand_of;
 use net_core::{Caps, List, Network, Notes, Places, Problem, RouteColumn, WideKind};
 use simplex_core::SimplexFault;
 use std::alloc::Global;
-use worked_networks::{CHAIN_DEMANDS, STAGES, chain_links, numbered_nodes};
-use worked_networks::problem;
+use worked_networks::{CHAIN_DEMANDS, STAGES, chain_links, numbered_nodes, problem};
 
 /// The chain, without notes of costs.
 fn chain(alloc: Global) -> Option<Network> {

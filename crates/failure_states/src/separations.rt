@@ -1,5 +1,6 @@
 ghost use Rattle.std.specs.Prelude.{◌≡◌, ◌≢◌, ℕ, ◌+◌, ◌≤◌, ◌<◌, ◌↔◌, IsTrue, All, IfOk, MatchOption, length, slice_index};
 ghost use Rattle.plan_terms.specs.Terms.{AreDemands, case, case_of, IsFirstSeparation, IsSurvivable, Separates};
+ghost use Rattle.net_core.specs.Limits.{most_demands};
 ghost use Rattle.failure_states.specs.inner.Components.{HasEndsBelow, IsFirst, IsSplit};
 
 use crate::components::label_components;
@@ -24,7 +25,7 @@ fn is_split(labels: &[u32], demand: &Demand) -> bool
 /// The first demand that is split.
 fn first_split(labels: &[u32], demands: &[Demand]) -> Option<u32>
     requires ends { All (HasEndsBelow (length labels.now)) demands.now }
-    requires few { length demands.now ≤ 2048 }
+    requires few { length demands.now ≤ most_demands }
     ensures { MatchOption result ((k : ℕ) → IsSplit labels.now demands.now k → ⊥) (IsFirst (IsSplit labels.now demands.now)) }
 {
     for k in 0..demands.len() {

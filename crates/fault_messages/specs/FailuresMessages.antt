@@ -1,7 +1,7 @@
 -- what is said of each fault of a failure list
 use Rattle.std.specs.Prelude.{ℕ, List, ◌++◌, codes, decimal}
 use Rattle.model_reader.{specs.declared.failures.FailuresKind.FailuresKind, specs.Failures.failures_header}
-use Rattle.fault_messages.specs.Limits.{most_failures, name_bytes}
+use Rattle.net_core.specs.Limits.{most_failures, name_bytes}
 use Rattle.model_reader.specs.declared.failures.FailuresKind.TheVariants as kinds
 
 -- of each fault: what is wrong, and what helps

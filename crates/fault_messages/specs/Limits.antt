@@ -1,6 +1,6 @@
 -- the limits that sentences name, each of them the reader's own
 use Rattle.std.specs.Prelude.{◌≡◌, ℕ, ◌+◌, ◌*◌, ◌^◌, ◌==◌, Bool, if◌then◌else◌, nat_lt, List, length, Option, None, Some, Ok, Err}
-use Rattle.net_core.{specs.Terms.{is_named, digits_after_point}, specs.declared.demand.Demand.Demand, specs.declared.network.Link.Link, specs.declared.network.Module.Module, specs.declared.places.Places.Places, specs.declared.states.Listed.Listed}
+use Rattle.net_core.{specs.Terms.{is_named, digits_after_point}, specs.declared.demand.Demand.Demand, specs.declared.network.Link.Link, specs.declared.network.Module.Module, specs.declared.places.Places.Places, specs.declared.states.Listed.Listed, specs.Limits.{name_bytes, most_nodes, most_links, most_demands, most_modules, most_failures, need_power, total_power, money_power}}
 use Rattle.snd_tokens.{specs.declared.amounts.NumberFault.TheVariants.TooLarge, specs.Terms.{decimal_below, amount_of, money_of, whole_of}, specs.Wholes.whole_below}
 use Rattle.text_kit.specs.Terms.{Reading, any_name, number_or, sound, word_at, ◌>>=◌}
 use Rattle.sndlib_reader.specs.declared.costs.CostedLink.{CostedLink}
@@ -11,37 +11,6 @@ use Rattle.sndlib_reader.specs.declared.fault.ReadKind.TheVariants as reads
 use Rattle.sndlib_reader.specs.Reading as networks
 use Rattle.model_reader.specs.declared.failures.FailuresKind.TheVariants as failures
 use Rattle.report_words.specs.declared.fault.ReportKind.TheVariants as reports
-
--- how many bytes a name has at most
-abbrev pub name_bytes : ℕ
-name_bytes = 255
-
--- how many nodes, links and demands a network has at most, and how many modules a link
-abbrev pub most_nodes : ℕ
-most_nodes = 128
-
-abbrev pub most_links : ℕ
-most_links = 256
-
-abbrev pub most_demands : ℕ
-most_demands = 2048
-
-abbrev pub most_modules : ℕ
-most_modules = 16
-
--- how many failures a list has at most
-abbrev pub most_failures : ℕ
-most_failures = 256
-
--- the powers of two that a need, all needs together, and money or another number stay below
-abbrev pub need_power : ℕ
-need_power = 40
-
-abbrev pub total_power : ℕ
-total_power = 44
-
-abbrev pub money_power : ℕ
-money_power = 126
 
 -- a name that is too long
 abbrev pub length_fault : {K : Type 0} → K → List ℕ → Option K

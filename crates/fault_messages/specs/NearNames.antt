@@ -1,10 +1,9 @@
 -- the name that is nearest to another
 use Rattle.std.specs.Prelude.{◌≡◌, ◌⊎◌, ℕ, ◌/◌, ◌≤◌, ◌<◌, Bool, false, true, not, nat_lt, ◌&&◌, cond, List, [], ◌∷◌, ◌++◌, codes, get_or, length, nat_eq}
 use Rattle.strsim.specs.Edits.{levenshtein_row}
-use Rattle.net_core.specs.Terms.{are_same}
+use Rattle.net_core.{specs.Terms.are_same, specs.Limits.name_bytes}
 use Rattle.snd_tokens.{specs.declared.token.Token.Token, specs.declared.token.TokenKind.TokenKind, specs.Tokens.{token_bytes, tokens_from}}
 use Rattle.fault_texts.specs.Quotes.{BeginsToken, IsQuote, note_text}
-use Rattle.fault_messages.specs.Limits.{name_bytes}
 use Rattle.snd_tokens.specs.declared.token.TokenKind.TheVariants as tokens
 
 -- how many bytes have to be put in, left out or changed to come from one name to another

@@ -1,10 +1,9 @@
 -- what is said of each fault of a network file
 use Rattle.std.specs.Prelude.{ℕ, ◌^◌, List, ◌++◌, codes, decimal}
-use Rattle.net_core.specs.declared.places.Places.TheVariants.{Six, Three}
+use Rattle.net_core.{specs.declared.places.Places.TheVariants.{Six, Three}, specs.Limits.{most_demands, most_links, most_modules, most_nodes, name_bytes, need_power, total_power}}
 use Rattle.snd_tokens.specs.declared.amounts.NumberFault.{NumberFault}
 use Rattle.sndlib_reader.{specs.declared.fault.Limited.Limited, specs.declared.fault.ReadKind.ReadKind, specs.Spelling.header}
 use Rattle.text_kit.specs.Terms.{money_word}
-use Rattle.fault_messages.specs.Limits.{most_demands, most_links, most_modules, most_nodes, name_bytes, need_power, total_power}
 use Rattle.snd_tokens.specs.declared.amounts.NumberFault.TheVariants as numbers
 use Rattle.sndlib_reader.specs.declared.fault.Limited.TheVariants as limits
 use Rattle.sndlib_reader.specs.declared.fault.ReadKind.TheVariants as kinds

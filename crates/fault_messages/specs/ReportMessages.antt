@@ -1,10 +1,9 @@
 -- what is said of each fault of a report, and of the proof lines below it
 use Rattle.std.specs.Prelude.{ℕ, List, ◌++◌, codes, decimal}
-use Rattle.net_core.specs.declared.places.Places.{Places}
+use Rattle.net_core.{specs.declared.places.Places.Places, specs.Limits.{money_power, name_bytes, need_power}}
 use Rattle.snd_tokens.specs.declared.amounts.NumberFault.{NumberFault}
 use Rattle.plan_report.specs.Texts.{report_header}
 use Rattle.report_words.specs.declared.fault.ReportKind.{ReportKind}
-use Rattle.fault_messages.specs.Limits.{money_power, name_bytes, need_power}
 use Rattle.snd_tokens.specs.declared.amounts.NumberFault.TheVariants as numbers
 use Rattle.report_words.specs.declared.fault.ReportKind.TheVariants as kinds
 

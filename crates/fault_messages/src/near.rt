@@ -5,14 +5,11 @@ ghost use Rattle.fault_texts.specs.Quotes.{IsQuote, note_text};
 ghost use Rattle.fault_messages.specs.NearNames.{HasNoneNear, IsNearNote, IsNearestName, IsNearestNote, IsOtherNote, IsWordNote, edits, is_word, other_word, other_words};
 
 use fault_texts::{put_quote, token_here};
+use net_core::limits::NAME_BYTES;
 use net_core::{Bytes, List as Items, NoMemory};
 use snd_tokens::{Token, TokenKind, next_token};
 use std::alloc::Global;
 use strsim::generic_levenshtein;
-
-/// How many bytes a name has at most.
-const NAME_BYTES: usize = 255;
-
 /// How many bytes have to be put in, left out or changed to come from one name to another, if they are fewer than a limit. Where the lengths
 /// differ by as many, it takes no time.
 #[tactic(auto, using(crate::proofs::EditBounds::edits_bound))]

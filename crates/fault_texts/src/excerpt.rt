@@ -4,8 +4,7 @@ ghost use Rattle.fault_texts.{specs.Controls.shown, specs.FaultTexts.excerpt_tex
 
 use crate::control::shown_byte;
 use net_core::{Bytes, NoMemory};
-use text_layout::{Window, characters};
-use text_layout::put_spaces;
+use text_layout::{Window, characters, put_spaces};
 
 /// Puts the bytes last, as they are shown.
 fn put_shown(text: &mut Bytes, bytes: &[u8]) -> Result<(), NoMemory>

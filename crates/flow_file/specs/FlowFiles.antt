@@ -4,6 +4,7 @@ use Rattle.plan_terms.specs.Terms.{Demand, Link, AreCounts, AreWithinLimits}
 use Rattle.path_split.specs.Balances.{IsArc}
 use Rattle.text_kit.specs.Terms.{section, SpellsAs, Item, Verbatim, Money}
 use Rattle.plan_report.specs.Terms.{modules_items, numbered_from, KnownNames, demand_name, link_name, node_name, state_name}
+use Rattle.net_core.specs.Limits.{most_flows}
 use Rattle.flow_file.{specs.declared.flow.FlowFile.FlowFile, specs.declared.flow.LinkFlow.LinkFlow}
 
 -- the first line of a file of flows
@@ -35,7 +36,7 @@ pub record IsLinkFlow (links : List Link) (demands : List Demand) (f : LinkFlow)
 
 -- the flows of a state, at most 65,536
 abbrev pub AreLinkFlows : List Link → List Demand → List LinkFlow → Type 0
-AreLinkFlows links demands flows = (length flows ≤ 65536) × All (IsLinkFlow links demands) flows
+AreLinkFlows links demands flows = (length flows ≤ most_flows) × All (IsLinkFlow links demands) flows
 
 -- counts for each link within their limits, and flows for each state
 pub record IsFlowFile (known : KnownNames) (demands : List Demand) (file : FlowFile) : Type 0 where

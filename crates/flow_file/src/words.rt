@@ -9,6 +9,7 @@ use crate::fault::{FlowsKind, FlowsRefusal};
 use crate::flow::LinkFlow;
 use crate::known::KnownDemands;
 use crate::told::{flows_kind, told};
+use net_core::limits::MOST_FLOWS;
 use net_core::{Link, LinkId, NodeId, Places, States};
 use report_words::context::Context;
 use report_words::words::this_name;
@@ -16,8 +17,6 @@ use snd_tokens::{Cursor, amount};
 use text_kit::steps::{expect, placed, word};
 
 const NONE: &[u8] = b"none";
-
-const MAX_FLOWS: usize = 65_536;
 
 /// Takes the word of a section.
 pub(crate) fn section_word(wanted: &[u8], text: &mut Cursor) -> Result<(), FlowsRefusal>
@@ -58,7 +57,7 @@ pub(crate) fn flow_demand(
 ) -> Result<u32, FlowsRefusal>
     ensures { ReadsAs (λ k. k) result (left text.new) (told_at (flow_demand_at demands.now.list.now sofar.now) (left text.old)) }
 {
-    told(demands.next(sofar.len() < MAX_FLOWS, text))
+    told(demands.next(sofar.len() < MOST_FLOWS, text))
 }
 
 /// Takes the link of a flow.

@@ -1,5 +1,6 @@
 ghost use Rattle.std.specs.Prelude.{◌≡◌, ℕ, ◌<◌, ◌≤◌, All, IfOk, IsTrue, MatchOption, false, length, slice_index};
 ghost use Rattle.plan_terms.specs.Terms.{Survives, graph_of};
+ghost use Rattle.net_core.specs.Limits.{most_flows};
 ghost use Rattle.flow_import.{specs.Imports.flow_load, specs.inner.Steps.{AreLoads, IsFirstAbove, IsFirstLost}};
 
 use flow_file::LinkFlow;
@@ -9,7 +10,7 @@ use std::alloc::Global;
 /// What the flows on each link sum to. What the sums were before does not matter.
 fn fill_loads(loads: &mut [u128], flows: &[LinkFlow])
     requires known { All (λ f. f.arc.link.0 < length loads.old) flows.now }
-    requires few { length flows.now ≤ 65536 }
+    requires few { length flows.now ≤ most_flows }
     ensures size { length loads.new ≡ length loads.old }
     ensures sums { (e : ℕ) → e < length loads.old → slice_index loads.new e ≡ flow_load flows.now e }
 {
@@ -26,7 +27,7 @@ pub(crate) fn loads_of(
     flows: &[LinkFlow],
 ) -> Result<Vec<u128>, NoMemory>
     requires known { All (λ f. f.arc.link.0 < length net.now.links) flows.now }
-    requires few { length flows.now ≤ 65536 }
+    requires few { length flows.now ≤ most_flows }
     ensures { IfOk result (λ v. AreLoads (length net.now.links) flows.now v.items) }
 {
     let mut loads = vec![in alloc; 0u128; net.links().len()]?;

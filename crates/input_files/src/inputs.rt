@@ -8,12 +8,11 @@ ghost use Rattle.input_files.{specs.InputWords.default, specs.Inputs.{Fetched, H
 use crate::refusal::{UnusedFailures, not_fetched, refused};
 use crate::stop::Stop;
 use crate::words::{DEFAULT, PlanFiles};
-use outside_io::Status;
 use model_reader::{
     FailuresRefusal, Model, ModelRefusal, only_none, read_failures, read_model, single_links,
 };
 use net_core::{Bytes, Demands, List, Network, NoMemory, Problem, States};
-use outside_io::{Fetch, Shelf};
+use outside_io::{Fetch, Shelf, Status};
 use sndlib_reader::{ReadRefusal, read_network};
 use std::alloc::Global;
 

@@ -7,10 +7,9 @@ ghost use Rattle.input_files.{specs.Inputs.{Fetched, RefusesFlowFile, RefusesRep
 use crate::inputs::{INPUT_LIMIT, fetch_file};
 use crate::refusal::refused;
 use crate::stop::Stop;
-use outside_io::Status;
 use flow_file::{FlowFile, FlowsRefusal, read_flows};
 use net_core::{Places, Problem};
-use outside_io::Shelf;
+use outside_io::{Shelf, Status};
 use plan_types::Report;
 use report_reader::{ReportRefusal, read_report};
 use session_script::{Script, ScriptRefusal, read_script};

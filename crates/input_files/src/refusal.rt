@@ -2,8 +2,8 @@ ghost use Rattle.std.specs.Prelude.{◌≡◌, ◌≢◌, ◌++◌, ◌∷◌, [
 ghost use Rattle.input_files.{specs.Refusals.refusal_line, specs.inner.Steps.Says, specs.Stops.Stops};
 
 use crate::stop::Stop;
-use outside_io::{Answer, Status};
 use net_core::{Bytes, List, NoMemory};
+use outside_io::{Answer, Status};
 use std::alloc::Global;
 use text_kit::FaultWord;
 use text_kit::write::put_decimal;

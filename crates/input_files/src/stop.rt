@@ -1,5 +1,5 @@
-use outside_io::Answer;
 use net_core::NoMemory;
+use outside_io::Answer;
 
 /// Why a run ends before its plan is made.
 #[derive(Drop)]

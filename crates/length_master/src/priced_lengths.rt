@@ -3,6 +3,7 @@ ghost use Rattle.checked_fraction.specs.Terms.{num};
 ghost use Rattle.simplex_law.specs.Terms.{dot};
 ghost use Rattle.master_law.specs.Terms.{cut_entry, cut_gain};
 ghost use Rattle.master_bound.specs.Narrow.{length_entry};
+ghost use Rattle.net_core.specs.Limits.{most_links};
 ghost use Rattle.length_master.{specs.inner.Slots.{ArePlacedRows, IsSlotInside, slot_entry, slot_gain}, specs.inner.Tests.{AreEven, IsBalance, IsPriced, NoneGains, cut_cost}};
 
 use crate::row::KeptRow;
@@ -63,7 +64,7 @@ fn worth_of(den: i64, gain: i128) -> Option<i128>
 
 /// The balance of a cut at prices, where its numbers fit.
 fn balance_of(links: &[Link], pairs: &[UnitPair], duals: &Row, cut: &CutLine) -> Option<Balance>
-    requires few { length links.now ≤ 256 }
+    requires few { length links.now ≤ most_links }
     requires sound { All (λ l. l.fixed < 2 ^ 40) links.now }
     requires pairs { length pairs.now ≡ length links.now }
     requires duals { length duals.now.nums ≡ length links.now }
@@ -79,7 +80,7 @@ fn balance_of(links: &[Link], pairs: &[UnitPair], duals: &Row, cut: &CutLine) ->
 
 /// Whether a cut is priced as it gains.
 fn is_even_cut(links: &[Link], pairs: &[UnitPair], duals: &Row, cut: &CutLine) -> bool
-    requires few { length links.now ≤ 256 }
+    requires few { length links.now ≤ most_links }
     requires sound { All (λ l. l.fixed < 2 ^ 40) links.now }
     requires pairs { length pairs.now ≡ length links.now }
     requires duals { length duals.now.nums ≡ length links.now }
@@ -95,7 +96,7 @@ fn is_even_cut(links: &[Link], pairs: &[UnitPair], duals: &Row, cut: &CutLine) -
 
 /// Whether a cut gains no more than it costs.
 fn is_priced_cut(links: &[Link], pairs: &[UnitPair], duals: &Row, cut: &CutLine) -> bool
-    requires few { length links.now ≤ 256 }
+    requires few { length links.now ≤ most_links }
     requires sound { All (λ l. l.fixed < 2 ^ 40) links.now }
     requires pairs { length pairs.now ≡ length links.now }
     requires duals { length duals.now.nums ≡ length links.now }
@@ -119,7 +120,7 @@ fn is_unpriced(nums: &[i64], e: usize) -> bool
 
 /// Whether a slot's column is priced as it gains.
 fn is_even(links: &[Link], pairs: &[UnitPair], cuts: &[CutLine], duals: &Row, slot: Slot) -> bool
-    requires few { length links.now ≤ 256 }
+    requires few { length links.now ≤ most_links }
     requires sound { All (λ l. l.fixed < 2 ^ 40) links.now }
     requires pairs { length pairs.now ≡ length links.now }
     requires duals { length duals.now.nums ≡ length links.now }
@@ -143,7 +144,7 @@ pub(crate) fn are_even(
     duals: &Row,
     rows: &[KeptRow],
 ) -> bool
-    requires few { length links.now ≤ 256 }
+    requires few { length links.now ≤ most_links }
     requires sound { All (λ l. l.fixed < 2 ^ 40) links.now }
     requires pairs { length pairs.now ≡ length links.now }
     requires duals { length duals.now.nums ≡ length links.now }
@@ -163,7 +164,7 @@ pub(crate) fn are_even(
 
 /// Whether no cut gains more than it costs.
 pub(crate) fn none_gains(links: &[Link], pairs: &[UnitPair], cuts: &[CutLine], duals: &Row) -> bool
-    requires few { length links.now ≤ 256 }
+    requires few { length links.now ≤ most_links }
     requires sound { All (λ l. l.fixed < 2 ^ 40) links.now }
     requires pairs { length pairs.now ≡ length links.now }
     requires duals { length duals.now.nums ≡ length links.now }

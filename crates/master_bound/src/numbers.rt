@@ -1,5 +1,6 @@
 ghost use Rattle.std.specs.Prelude.{◌≡◌, ◌≤◌, ◌<◌, ◌^◌, All, length, true, false};
 ghost use Rattle.master_law.specs.Terms.{cut_gain};
+ghost use Rattle.net_core.specs.Limits.{most_links};
 ghost use Rattle.master_bound.specs.Narrow.{length_entry, HaveNarrowEntries, HaveWideEntry, IsNarrowCut, IsWideCut, FindsWideCut};
 
 use metric_cut::fixed_along;
@@ -14,7 +15,7 @@ const WIDE: u128 = 1 << 62;
 ///
 /// A cut with a length of 1 on one link, and the right side 10, gains 4 where that link has 6 pre-installed.
 pub fn gain_of(links: &[Link], cut: &CutLine) -> i128
-    requires few { length links.now ≤ 256 }
+    requires few { length links.now ≤ most_links }
     requires sound { All (λ l. l.fixed < 2 ^ 40) links.now }
     requires count { length cut.now.lengths ≡ length links.now }
     requires right { cut.now.right < 2 ^ 84 }
@@ -50,7 +51,7 @@ fn has_wide_entry(pairs: &[UnitPair], lengths: &[u32]) -> bool
 
 /// Whether a number of a cut is 2^62 or more.
 fn is_wide(links: &[Link], pairs: &[UnitPair], cut: &CutLine) -> bool
-    requires few { length links.now ≤ 256 }
+    requires few { length links.now ≤ most_links }
     requires sound { All (λ l. l.fixed < 2 ^ 40) links.now }
     requires count { length cut.now.lengths ≡ length links.now }
     requires pairs { length pairs.now ≡ length links.now }
@@ -65,7 +66,7 @@ fn is_wide(links: &[Link], pairs: &[UnitPair], cut: &CutLine) -> bool
 
 /// The place of the first cut of which a number is 2^62 or more.
 pub(crate) fn wide_cut(links: &[Link], pairs: &[UnitPair], cuts: &[CutLine]) -> Option<usize>
-    requires few { length links.now ≤ 256 }
+    requires few { length links.now ≤ most_links }
     requires sound { All (λ l. l.fixed < 2 ^ 40) links.now }
     requires counts { All (λ cut. length cut.lengths ≡ length links.now) cuts.now }
     requires pairs { length pairs.now ≡ length links.now }

@@ -1,6 +1,7 @@
 ghost use Rattle.std.specs.Prelude.{◌≡◌, ◌*◌, ◌≤◌, ◌<◌, ◌^◌, All, IfOk, length, map};
 ghost use Rattle.checked_fraction.specs.Terms.{IsNarrow};
 ghost use Rattle.master_law.specs.Terms.{cut_gain};
+ghost use Rattle.net_core.specs.Limits.{most_links};
 ghost use Rattle.master_bound.specs.Narrow.{HaveNarrowEntries, IsNarrowCut};
 
 use crate::numbers::{entry_of, gain_of};
@@ -47,7 +48,7 @@ fn weight_of(pairs: &[UnitPair], lengths: &[u32]) -> u128
 
 /// The rating of a cut.
 fn rating_of(links: &[Link], pairs: &[UnitPair], cut: &CutLine) -> Rating
-    requires few { length links.now ≤ 256 }
+    requires few { length links.now ≤ most_links }
     requires sound { All (λ l. l.fixed < 2 ^ 40) links.now }
     requires count { length cut.now.lengths ≡ length links.now }
     requires pairs { length pairs.now ≡ length links.now }
@@ -67,7 +68,7 @@ pub(crate) fn ratings_of(
     pairs: &[UnitPair],
     cuts: &[CutLine],
 ) -> Result<List<Rating>, NoMemory>
-    requires few { length links.now ≤ 256 }
+    requires few { length links.now ≤ most_links }
     requires sound { All (λ l. l.fixed < 2 ^ 40) links.now }
     requires counts { All (λ cut. length cut.lengths ≡ length links.now) cuts.now }
     requires pairs { length pairs.now ≡ length links.now }

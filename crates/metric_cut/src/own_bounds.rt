@@ -1,5 +1,6 @@
 ghost use Rattle.std.specs.Prelude.{◌≡◌, ◌-◌, ◌≤◌, ◌<◌, ◌^◌, All, length};
 ghost use Rattle.plan_terms.specs.Terms.{fixed_along, IsOwnBound};
+ghost use Rattle.net_core.specs.Limits.{most_links};
 ghost use Rattle.metric_cut.specs.Bounded.{HaveBound};
 
 use crate::multiplier::greatest_multiplier;
@@ -8,7 +9,7 @@ use net_core::{CutLine, Link, Network};
 
 /// What the pre-installed capacities give along lengths, in units of the network. It takes time in the links, and no memory.
 pub fn fixed_along(links: &[Link], lengths: &[u32]) -> u128
-    requires few { length links.now ≤ 256 }
+    requires few { length links.now ≤ most_links }
     requires sound { All (λ l. l.fixed < 2 ^ 40) links.now }
     requires count { length lengths.now ≡ length links.now }
     ensures exact { result ≡ fixed_along lengths.now links.now }
@@ -23,7 +24,7 @@ pub fn fixed_along(links: &[Link], lengths: &[u32]) -> u128
 
 /// What a right side asks for beyond what the pre-installed capacities give.
 pub(crate) fn asked_rest(links: &[Link], lengths: &[u32], right: u128) -> u128
-    requires few { length links.now ≤ 256 }
+    requires few { length links.now ≤ most_links }
     requires sound { All (λ l. l.fixed < 2 ^ 40) links.now }
     requires count { length lengths.now ≡ length links.now }
     ensures rest { result ≡ right - fixed_along lengths.now links.now }

@@ -1,6 +1,6 @@
 -- the grammar of a failure list: named states, each with the links that fail; or the word for every single-link failure
 use Rattle.std.specs.Prelude.{ℕ, ◌+◌, ◌≤◌, List, [], ◌∷◌, ◌++◌, length, All, flat_map, codes}
-use Rattle.net_core.{specs.declared.network.Link.Link, specs.declared.states.Listed.Listed, specs.Terms.{AreStates, link_name, single_state}}
+use Rattle.net_core.{specs.declared.network.Link.Link, specs.declared.states.Listed.Listed, specs.Terms.{AreStates, link_name, single_state}, specs.Limits.name_bytes}
 use Rattle.text_kit.specs.Terms.{SpellsAs, Item, Verbatim, Opening, Closing}
 use Rattle.model_reader.{specs.declared.failures.FailureList.FailureList, specs.declared.failures.FailureList.TheVariants.{OneByOne, EverySingleLink}}
 
@@ -33,7 +33,7 @@ list_items links EverySingleLink = Verbatim (codes "ALL_SINGLE_LINKS") ∷ []
 
 -- a state's name and those of its links have at most 255 bytes
 abbrev pub IsShort : List Link → Listed → Type 0
-IsShort links s = (length s.name ≤ 255) × All (λ e. length (link_name links e) ≤ 255) s.links
+IsShort links s = (length s.name ≤ name_bytes) × All (λ e. length (link_name links e) ≤ name_bytes) s.links
 
 -- states of the network, whose names aren't too long
 abbrev pub IsListInForm : List Link → FailureList → Type 0

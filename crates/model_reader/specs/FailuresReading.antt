@@ -1,6 +1,6 @@
 -- Reading a failure list from left to right: the tests of its words, and their order.
 use Rattle.std.specs.Prelude.{ℕ, Bool, true, false, if◌then◌else◌, List, [], Result, Ok, Err, codes}
-use Rattle.net_core.{specs.Terms.are_same, specs.declared.ids.LinkId.LinkId, specs.declared.network.Link.Link, specs.declared.states.Listed.Listed}
+use Rattle.net_core.{specs.Terms.are_same, specs.declared.ids.LinkId.LinkId, specs.declared.network.Link.Link, specs.declared.states.Listed.Listed, specs.Limits.most_failures}
 use Rattle.text_kit.specs.Terms.{file_at, named_place, new_name, Read, Reading, ◌>>=◌, give, word_at, open_at, Parenthesis, list_at, mapped, no_fault, not_empty, whole_at}
 use Rattle.model_reader.{specs.declared.failures.FailuresKind.FailuresKind, specs.declared.failures.FailuresKind.TheVariants.{Header, Section, Token, Ended, LimitName, UnknownLink, DoubleState, LimitStates}, specs.declared.failures.FailureList.FailureList, specs.declared.failures.FailureList.TheVariants.{OneByOne, EverySingleLink}, specs.Failures.{failures_header, states_of}}
 
@@ -15,7 +15,7 @@ links_at links sofar = list_at Parenthesis (not_empty Token) (λ before. failing
 -- a state after earlier ones: its name, and its links between parentheses
 unfoldable pub state_at : List Link → List Listed → Reading FailuresKind Listed
 state_at links sofar = do
-  name ← word_at Token Ended (new_name (λ s. s.name) 256 LimitName DoubleState LimitStates sofar)
+  name ← word_at Token Ended (new_name (λ s. s.name) most_failures LimitName DoubleState LimitStates sofar)
   _ ← open_at Token Ended
   failing ← links_at links []
   give (record { name = name; links = failing })

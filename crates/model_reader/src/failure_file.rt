@@ -1,5 +1,5 @@
 ghost use Rattle.std.specs.Prelude.{◌≡◌, ◌≤◌, length, List, IfOk, IfErr};
-ghost use Rattle.net_core.specs.declared.states.Listed.{Listed as State};
+ghost use Rattle.net_core.{specs.declared.states.Listed.{Listed as State}, specs.Limits.most_links};
 ghost use Rattle.snd_tokens.specs.Terms.{left};
 ghost use Rattle.text_kit.specs.Terms.{AnswersAs, ReadsAllAs, ReadsAs, IsNotTooEarly, word_at};
 ghost use Rattle.model_reader.{specs.Failures.{IsListInForm, SpellsFailures, states_of}, specs.FailuresReading.{failure_list_at, failures_at, failures_of, is_list}};
@@ -42,7 +42,7 @@ fn first_word(text: &mut Cursor) -> Result<bool, FailuresRefusal>
 /// Takes what the file says, up to its end or something else.
 #[tactic(auto, unfolding(crate::specs::FailuresReading::after_word))]
 fn list(alloc: Global, links: &[Link], text: &mut Cursor) -> Result<FailureList, FailuresRefusal>
-    requires { length links.now ≤ 256 }
+    requires { length links.now ≤ most_links }
     ensures { ReadsAs (λ l. l) result (left text.new) (failure_list_at links.now (left text.old)) }
 {
     if !first_word(text)? {
@@ -59,7 +59,7 @@ fn whole_list(
     links: &[Link],
     text: &mut Cursor,
 ) -> Result<FailureList, FailuresRefusal>
-    requires { length links.now ≤ 256 }
+    requires { length links.now ≤ most_links }
     ensures { ReadsAs (λ l. l) result (left text.new) (failures_at links.now (left text.old)) }
 {
     let list = list(alloc, links, text)?;

@@ -1,18 +1,17 @@
 ghost use Rattle.std.specs.Prelude.{◌≡◌, ◌≤◌, ◌<◌, [], None, length, position, IsTrue, IfOk, Ok};
-ghost use Rattle.net_core.specs.Terms.{are_same, is_named};
+ghost use Rattle.net_core.{specs.Terms.{are_same, is_named}, specs.Limits.{most_failures, most_links, name_bytes}};
 ghost use Rattle.snd_tokens.specs.Terms.{left, size};
 ghost use Rattle.text_kit.specs.Terms.{ReadsAs, TakesElement, sound, word_at, named_place, new_name, Parenthesis, list_at, no_fault};
 ghost use Rattle.model_reader.specs.FailuresReading.{failing_link_at, links_at, state_at};
 
 use crate::failures::{FailuresKind, FailuresRefusal};
+use net_core::limits::MOST_FAILURES;
 use net_core::{Link, LinkId, List, Listed, Name};
 use snd_tokens::Cursor;
 use std::alloc::Global;
 use text_kit::names::{is_long, named, new_name_fault};
 use text_kit::refusal::bad;
 use text_kit::steps::{closes, open, placed, word};
-
-const MAX_STATES: usize = 256;
 
 /// The place of a name among the links.
 fn place_of(links: &[Link], name: &[u8]) -> Option<usize>
@@ -23,7 +22,7 @@ fn place_of(links: &[Link], name: &[u8]) -> Option<usize>
 
 /// The place of the link that a word names.
 fn link_named(links: &[Link], word: &[u8]) -> Result<u32, FailuresKind>
-    requires { length links.now ≤ 256 }
+    requires { length links.now ≤ most_links }
     ensures { result ≡ named_place (λ l. l.name) FailuresKind.LimitName FailuresKind.UnknownLink links.now word.now }
 {
     if is_long(word) {
@@ -37,7 +36,7 @@ fn link_named(links: &[Link], word: &[u8]) -> Result<u32, FailuresKind>
 
 /// Takes a link.
 fn link(links: &[Link], text: &mut Cursor) -> Result<LinkId, FailuresRefusal>
-    requires { length links.now ≤ 256 }
+    requires { length links.now ≤ most_links }
     ensures { ReadsAs (λ e. e) result (left text.new) (failing_link_at links.now (left text.old)) }
 {
     let (at, word) = word(FailuresKind::Token, FailuresKind::Ended, text)?;
@@ -51,7 +50,7 @@ fn take_link(
     all: &mut List<LinkId>,
     text: &mut Cursor,
 ) -> Result<bool, FailuresRefusal>
-    requires { length links.now ≤ 256 }
+    requires { length links.now ≤ most_links }
     ensures turn { TakesElement result (links_at links.now all.old (left text.old)) (links_at links.now all.new (left text.new)) (Ok (all.new, left text.new)) }
     ensures shorter { IfOk result (λ more. IsTrue more → size (left text.new) < size (left text.old)) }
 {
@@ -72,7 +71,7 @@ fn failing(
     links: &[Link],
     text: &mut Cursor,
 ) -> Result<List<LinkId>, FailuresRefusal>
-    requires { length links.now ≤ 256 }
+    requires { length links.now ≤ most_links }
     ensures { ReadsAs (λ l. l) result (left text.new) (links_at links.now [] (left text.old)) }
 {
     let mut all = List::new(alloc);
@@ -89,15 +88,15 @@ fn is_listed(name: &[u8], listed: &[Listed]) -> bool
 
 /// What is wrong with a word as the name of a state after these ones.
 fn name_fault(listed: &[Listed], word: &[u8]) -> Option<FailuresKind>
-    ensures value { sound word.now result ≡ new_name (λ s. s.name) 256 FailuresKind.LimitName FailuresKind.DoubleState
+    ensures value { sound word.now result ≡ new_name (λ s. s.name) most_failures FailuresKind.LimitName FailuresKind.DoubleState
         FailuresKind.LimitStates listed.now word.now }
-    ensures short { result ≡ None → length word.now ≤ 255 }
+    ensures short { result ≡ None → length word.now ≤ name_bytes }
 {
     new_name_fault(
         FailuresKind::LimitName,
         FailuresKind::DoubleState,
         FailuresKind::LimitStates,
-        MAX_STATES,
+        MOST_FAILURES,
         listed.len(),
         is_listed(word, listed),
         word,
@@ -108,7 +107,7 @@ fn name_fault(listed: &[Listed], word: &[u8]) -> Option<FailuresKind>
 fn name(alloc: Global, listed: &[Listed], text: &mut Cursor) -> Result<Name, FailuresRefusal>
     ensures { ReadsAs (λ n. n) result (left text.new)
         (word_at FailuresKind.Token FailuresKind.Ended
-        (new_name (λ s. s.name) 256 FailuresKind.LimitName FailuresKind.DoubleState FailuresKind.LimitStates
+        (new_name (λ s. s.name) most_failures FailuresKind.LimitName FailuresKind.DoubleState FailuresKind.LimitStates
         listed.now) (left text.old)) }
 {
     let (at, word) = word(FailuresKind::Token, FailuresKind::Ended, text)?;
@@ -123,7 +122,7 @@ fn state(
     listed: &[Listed],
     text: &mut Cursor,
 ) -> Result<Listed, FailuresRefusal>
-    requires { length links.now ≤ 256 }
+    requires { length links.now ≤ most_links }
     ensures { ReadsAs (λ s. s) result (left text.new) (state_at links.now listed.now (left text.old)) }
 {
     let name = name(alloc, listed, text)?;
@@ -139,7 +138,7 @@ fn take_state(
     all: &mut List<Listed>,
     text: &mut Cursor,
 ) -> Result<bool, FailuresRefusal>
-    requires { length links.now ≤ 256 }
+    requires { length links.now ≤ most_links }
     ensures turn { TakesElement result (list_at Parenthesis no_fault (state_at links.now) all.old (left text.old))
         (list_at Parenthesis no_fault (state_at links.now) all.new (left text.new)) (Ok (all.new, left text.new)) }
     ensures shorter { IfOk result (λ more. IsTrue more → size (left text.new) < size (left text.old)) }
@@ -158,7 +157,7 @@ pub(crate) fn states(
     links: &[Link],
     text: &mut Cursor,
 ) -> Result<List<Listed>, FailuresRefusal>
-    requires { length links.now ≤ 256 }
+    requires { length links.now ≤ most_links }
     ensures { ReadsAs (λ l. l) result (left text.new) (list_at Parenthesis no_fault (state_at links.now) [] (left text.old)) }
 {
     let mut all = List::new(alloc);

@@ -1,5 +1,5 @@
 ghost use Rattle.std.specs.Prelude.{◌≡◌, ◌≤◌, [], ◌∷◌, length, IfOk};
-ghost use Rattle.net_core.specs.Terms.{AreStates, single_state};
+ghost use Rattle.net_core.{specs.Terms.{AreStates, single_state}, specs.Limits.most_links};
 ghost use Rattle.model_reader.specs.Failures.{single_states};
 
 use net_core::{Copied, Link, LinkId, List, Listed, Network, NoMemory, States};
@@ -33,7 +33,7 @@ pub fn single_failure(alloc: Global, id: LinkId, link: &Link) -> Result<Listed, 
 
 /// Each link as a state of its name.
 fn singles(alloc: Global, links: &[Link]) -> Result<List<Listed>, NoMemory>
-    requires { length links.now ≤ 256 }
+    requires { length links.now ≤ most_links }
     ensures { IfOk result (λ listed. listed ≡ single_states links.now) }
 {
     let mut listed = List::new(alloc);

@@ -1,5 +1,6 @@
 ghost use Rattle.std.specs.Prelude.{◌≡◌, ◌+◌, ◌*◌, ◌^◌, ◌≤◌, All, IfOk, length};
 ghost use Rattle.plan_terms.specs.Terms.{IsModule, AreCounts, capacities, installs, link_cost, modules_capacity, modules_cost, total_cost};
+ghost use Rattle.net_core.specs.Limits.{most_links};
 
 use net_core::{Caps, Counts, Link, List, Module, Network, NoMemory};
 use std::alloc::Global;
@@ -59,7 +60,7 @@ pub fn link_cost(link: &Link, counts: &[u64]) -> u128
 /// What all counts cost, in units of the network.
 #[tactic(auto, using(crate::proofs::Pairs::total_more, crate::proofs::Pairs::counts_long, crate::proofs::Pairs::counts_shape))]
 fn total_cost(links: &[Link], counts: &[List<u64>]) -> u128
-    requires few { length links.now ≤ 256 }
+    requires few { length links.now ≤ most_links }
     requires each { All (λ l. (length l.modules ≤ 16) × All IsModule l.modules) links.now }
     requires shape { AreCounts links.now counts.now }
     ensures { result ≡ total_cost links.now counts.now }

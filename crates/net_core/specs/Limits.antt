@@ -29,6 +29,10 @@ most_entries = 65536
 abbrev pub most_cuts : ℕ
 most_cuts = 4096
 
+-- how many flows a routing has at most, and a file of flows
+abbrev pub most_flows : ℕ
+most_flows = 65536
+
 -- the most splits that a branch tree may be given
 abbrev pub most_splits : ℕ
 most_splits = 9999

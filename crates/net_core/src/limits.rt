@@ -24,6 +24,9 @@ pub const MOST_ENTRIES: usize = 65_536;
 /// Most cuts of a pool.
 pub const MOST_CUTS: usize = 4096;
 
+/// Most flows of a routing, and of a file of flows.
+pub const MOST_FLOWS: usize = 65_536;
+
 /// Most splits that a branch tree may be given.
 pub const MOST_SPLITS: u32 = 9999;
 

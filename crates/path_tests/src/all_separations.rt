@@ -1,6 +1,6 @@
 use failure_states::Separation;
-use net_core::{Bytes, Instance, List};
 use failure_texts::{put_separations, separations};
+use net_core::{Bytes, Instance, List};
 use std::alloc::Global;
 use worked_networks::{DemandRow, LinkRow, TEN, network, problem};
 

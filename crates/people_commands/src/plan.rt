@@ -4,6 +4,7 @@ ghost use Rattle.input_files.specs.Shelves.{KeepsShelf};
 ghost use Rattle.people_files.specs.Endings.{FailsReading};
 ghost use Rattle.people_plans.specs.PlansForPeople.{EndsPlanForPeople};
 ghost use Rattle.people_words.specs.AskedCommands.{asked_plan};
+ghost use Rattle.net_core.specs.Limits.{most_splits};
 ghost use Rattle.people_commands.{specs.Endings.EndsPeoplePlan, specs.inner.Printing.{GivesAnswer, HasPrintedCause}};
 
 use crate::output::Printed;
@@ -36,7 +37,7 @@ fn printed(answer: PlanAnswer) -> Result<Printed, Halt>
 /// How many splits the tree has at most, if the words say.
 fn splits_of(words: &PlanRequest) -> Option<u32>
     ensures same { result ≡ words.now.splits }
-    ensures few { IfSome result (λ n. n ≤ 9999) }
+    ensures few { IfSome result (λ n. n ≤ most_splits) }
 {
     words.splits
 }

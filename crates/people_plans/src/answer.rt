@@ -1,5 +1,5 @@
-use outside_io::Status;
 use net_core::Bytes;
+use outside_io::Status;
 
 /// What people are told of a plan. The text is for standard output, and the message for standard error.
 #[derive(Drop)]

@@ -4,8 +4,8 @@ ghost use Rattle.outside_io.specs.declared.status.Status.{Status};
 ghost use Rattle.people_plans.specs.PlansForPeople.{IsFirstFreeLink, free_link_message};
 
 use crate::answer::PlanAnswer;
-use outside_io::Status;
 use net_core::{Bytes, Link, List, NoMemory};
+use outside_io::Status;
 use proof_report::are_dear;
 use std::alloc::Global;
 

@@ -7,8 +7,8 @@ ghost use Rattle.outside_io.specs.declared.status.Status.{Status};
 ghost use Rattle.people_plans.specs.PlansForPeople.{PrintsPlan, told_outcomes, told_of_proof};
 
 use crate::answer::PlanAnswer;
-use outside_io::Status;
 use net_core::{Bytes, Copied, Instance, List, NoMemory, Problem};
+use outside_io::Status;
 use plan_types::Outcome;
 use proof_report::{ProvedReport, write_lined};
 use std::alloc::Global;

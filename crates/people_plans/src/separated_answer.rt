@@ -6,9 +6,9 @@ ghost use Rattle.outside_io.specs.declared.status.Status.{Status};
 ghost use Rattle.people_plans.specs.PlansForPeople.{SaysSeparations, separated_words};
 
 use crate::answer::PlanAnswer;
-use outside_io::Status;
-use net_core::{Bytes, Instance, List, Name, NoMemory, StateId};
 use failure_texts::{put_separations, separated_line, separations};
+use net_core::{Bytes, Instance, List, Name, NoMemory, StateId};
+use outside_io::Status;
 use std::alloc::Global;
 
 /// Appends what is said before the lines of the separations.

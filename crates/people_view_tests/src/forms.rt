@@ -2,10 +2,9 @@ use crate::texts::{EMPTY, REPORT};
 use crate::views::worked;
 use net_core::{Bytes, Problem};
 use people_files::Halt;
-use people_views::{state_form, view_report};
-use std::alloc::Global;
+use people_views::{ViewForm, state_form, view_report};
 use plan_view::Sheet;
-use people_views::ViewForm;
+use std::alloc::Global;
 
 /// A report, the sheet of it that is asked for or else a state, and the text.
 type Row = (&'static str, Option<Sheet>, &'static str, &'static str);

@@ -1,10 +1,9 @@
 use net_core::{Bytes, Problem};
 use people_files::Halt;
-use people_views::{picture_form, view_report};
+use people_views::{ViewForm, picture_form, view_report};
+use plan_view::Sheet;
 use sndlib_reader::read_network;
 use std::alloc::Global;
-use plan_view::Sheet;
-use people_views::ViewForm;
 use worked_networks::problem;
 
 /// Every printable byte that a name may have: all but the parentheses.

@@ -1,7 +1,6 @@
 use net_core::{Bytes, List, NoMemory};
 use std::alloc::Global;
-use text_layout::characters;
-use text_layout::{Column, Row, put_row, widened};
+use text_layout::{Column, Row, characters, put_row, widened};
 
 /// A left column after a gap of two spaces, and a right one after three.
 const COLUMNS: [Column; 2] = [

@@ -1,10 +1,9 @@
 use crate::texts::{DEARER, EMPTY, REPORT, SHORT, TREE};
-use outside_io::Status;
 use net_core::{Bytes, List, NoMemory, Problem};
+use outside_io::Status;
 use people_files::Halt;
-use people_views::view_report;
+use people_views::{ViewForm, view_report};
 use std::alloc::Global;
-use people_views::ViewForm;
 use worked_networks::{problem, triangle};
 
 /// A report, the lines below it with one of them replaced by another, and the result: a status, and the message, or a part of the view.

@@ -6,9 +6,9 @@ ghost use Rattle.people_files.specs.Endings.{Halts};
 ghost use Rattle.people_views.specs.ProofLines.{FailsAtLines, FailsAtOutcomeLines, FailsAtPlanLines, FailsAtTree, ReadsOutcomeProof, ReadsPlanProof, ReadsProof, ShowsByTree, ShowsNoTree, SpellsPlanTree, lines_begin};
 
 use crate::trees::checked_tree;
-use outside_io::Status;
 use fault_messages::proof_sentence;
 use net_core::Problem;
+use outside_io::Status;
 use people_files::{FaultyFile, Halt, refused};
 use plan_types::{Outcome, Plan};
 use report_words::fault::ReportRefusal;

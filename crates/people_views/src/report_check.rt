@@ -7,10 +7,10 @@ ghost use Rattle.people_files.specs.Endings.{Halts};
 ghost use Rattle.people_views.{specs.AcceptedReports.IsAcceptedReport, specs.ReportEnds.{SaysFinding, TellsFinding, said_text}};
 
 use check_answers::answer_check;
-use outside_io::Status;
 use fault_messages::finding_sentence;
 use fault_texts::{Sentence, put_note};
 use net_core::{Bytes, List, NoMemory, Problem};
+use outside_io::Status;
 use people_files::{Halt, told};
 use plan_checker::{CheckAnswer, Finding};
 use plan_types::Report;

@@ -4,9 +4,9 @@ ghost use Rattle.plan_view.specs.Terms.{problem_case};
 ghost use Rattle.people_files.specs.Endings.{Halts};
 ghost use Rattle.people_views.specs.ReportEnds.{ShowsReportFault};
 
-use outside_io::Status;
 use fault_messages::{report_notes, report_sentence};
 use net_core::Problem;
+use outside_io::Status;
 use people_files::{FaultyFile, Halt, place_in, refused};
 use plan_types::Report;
 use report_reader::{ReportRefusal, read_report};

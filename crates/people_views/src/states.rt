@@ -6,11 +6,11 @@ ghost use Rattle.plan_view.specs.Terms.{problem_case};
 ghost use Rattle.people_views.{specs.Forms.IsFormOf, specs.StateForms.{IsStateMessage, LacksState, NamesState, PicturesState, state_hint, state_names}};
 
 use crate::ViewForm;
-use outside_io::Status;
 use fault_messages::put_nearest_note;
 use fault_texts::put_quote;
 use net_core::{Bytes, List as Items, Listed, NoMemory, Problem, States};
 use node_places::Place;
+use outside_io::Status;
 use people_files::{Halt, told};
 use std::alloc::Global;
 use view_state::named_state;

@@ -6,8 +6,8 @@ ghost use Rattle.plan_view.specs.Terms.{case_of_plan, problem_case};
 ghost use Rattle.people_files.specs.Endings.{Halts};
 ghost use Rattle.people_views.specs.ProofLines.{TellsRejectedTree, end_wrong, proof_by, told_by, tree_message, tree_wrong};
 
-use outside_io::Status;
 use net_core::{Bytes, Copied, List, NoMemory, Problem};
+use outside_io::Status;
 use people_files::{Halt, told};
 use plan_types::Plan;
 use std::alloc::Global;

@@ -9,8 +9,8 @@ use crate::words::{FormWords, HelpTopic, PeopleWords, PlanRequest, ViewWords};
 use net_core::NoMemory;
 use people_files::CaseFiles;
 use people_files::input_files::{DEFAULT, PlanFiles};
-use std::alloc::Global;
 use plan_view::Sheet;
+use std::alloc::Global;
 
 /// The options of a view.
 const VIEW_OPTIONS: [&str; 6] = [

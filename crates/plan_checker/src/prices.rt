@@ -1,5 +1,6 @@
 ghost use Rattle.std.specs.Prelude.{◌≡◌, ℕ, ◌*◌, ◌^◌, ◌<◌, ◌≤◌, ◌↔◌, All, IsTrue, length};
 ghost use Rattle.plan_terms.specs.Terms.{IsModule, price};
+ghost use Rattle.net_core.specs.Limits.{most_links};
 ghost use Rattle.plan_checker.{specs.Certified.IsOverpriced, specs.Places.HoldsAt, specs.inner.Lines.certified, specs.inner.Tests.{IsFirstPair, IsFirstPlace}};
 
 use crate::place::Place;
@@ -47,7 +48,7 @@ fn first_overpriced(modules: &[Module], price: u128, den: u128) -> Option<u32>
 /// The first link with a module whose price is more than its cost, and its first such module. It takes time in the links times
 /// the lines.
 pub(crate) fn overpriced(links: &[Link], lines: &[CertLine], den: u128) -> Option<Place>
-    requires few_links { length links.now ≤ 256 }
+    requires few_links { length links.now ≤ most_links }
     requires sound { All (λ l. (length l.modules ≤ 16) × All IsModule l.modules) links.now }
     requires few { length lines.now ≤ 256 }
     requires nums { All (λ l. l.num < 2 ^ 62) lines.now }

@@ -1,5 +1,6 @@
 ghost use Rattle.std.specs.Prelude.{◌≡◌, ◌<◌, ◌≤◌, ◌^◌, All, IfOk, length, slice_index};
 ghost use Rattle.plan_terms.specs.Terms.{IsModule};
+ghost use Rattle.net_core.specs.Limits.{most_links};
 ghost use Rattle.plan_checker.specs.Shares.{GivesShare, IsShareOf};
 
 use module_prices::unit_pair;
@@ -50,7 +51,7 @@ pub(crate) fn whole_share(
     links: &[Link],
     share: &Share,
 ) -> Result<WholeShare, NoMemory>
-    requires few { length links.now ≤ 256 }
+    requires few { length links.now ≤ most_links }
     requires sound { All (λ l. (l.fixed < 2 ^ 40) × All IsModule l.modules) links.now }
     requires scale { share.now.scale < 2 ^ 62 }
     requires count { length share.now.units ≡ length links.now }

@@ -1,6 +1,7 @@
 ghost use Rattle.std.specs.Prelude.{◌≡◌, ◌-◌, ◌^◌, ◌<◌, ◌≤◌, ◌↔◌, All, IsTrue, OnOk, length, min, [], ◌∷◌};
 ghost use Rattle.plan_terms.specs.Terms.{IsModule, IsBound, IsLowest, asked, given, raw_value};
 ghost use Rattle.plan_types.specs.Terms.{lines_of_certificate};
+ghost use Rattle.net_core.specs.Limits.{most_links};
 ghost use Rattle.plan_checker.{specs.Certified.{HoldsBoundDiffers, HoldsCertificateWide, HoldsRawDiffers}, specs.inner.Lines.certified, specs.inner.Tests.{Tells, TellFirst}};
 
 use crate::finding::Finding;
@@ -28,7 +29,7 @@ fn asked_of(lines: &[CertLine]) -> u128
 
 /// What the pre-installed capacities give along cuts; a sum that 128 bits don't hold is the greatest number.
 fn given_of(links: &[Link], lines: &[CertLine]) -> u128
-    requires few { length links.now ≤ 256 }
+    requires few { length links.now ≤ most_links }
     requires sound { All (λ l. l.fixed < 2 ^ 40) links.now }
     requires lengths { All (λ l. length l.cut.lengths ≡ length links.now) lines.now }
     ensures { result ≡ min (given links.now (certified lines.now)) (2 ^ 128 - 1) }
@@ -52,7 +53,7 @@ fn is_lowest(raw: u128, whole: u128, num: u128, den: u128) -> bool
 
 /// Whether the plan has the raw value and the bound of its certificate.
 pub(crate) fn check_worth(links: &[Link], plan: &Plan) -> Test
-    requires few { length links.now ≤ 256 }
+    requires few { length links.now ≤ most_links }
     requires sound { All (λ l. (l.fixed < 2 ^ 40) × All IsModule l.modules) links.now }
     requires lengths { All (λ l. length l.cut.lengths ≡ length links.now) plan.now.certificate.lines }
     requires positive { 0 < plan.now.certificate.den }

@@ -3,6 +3,7 @@ use Rattle.std.specs.Prelude.{◌≡◌, ℕ, ◌+◌, ◌≤◌, ◌<◌, ◌^�
 use Rattle.plan_terms.specs.Terms.{Evidence, Route, Master, MasterColumn, RouteColumn, WideKind, Number, Row, Product, Sum, Common, Value, Length, Demand, LinkId, StateId, Edit, Entry, Edited, Pooled, Reply, Accepted, TooMuch, Link, Caps, CutLine, Flow, Routing, Listed, is_named, AreCounts, AreWithinLimits}
 use Rattle.plan_types.{specs.declared.certificate.CertLine.CertLine, specs.declared.certificate.Certificate.Certificate, specs.declared.certificate.Spot.Spot, specs.declared.certificate.Spot.TheVariants.{Pool, Local}, specs.declared.plan.Plan.Plan, specs.declared.quality.Cause.Cause, specs.declared.quality.Cause.TheVariants.{Wide, Cuts}, specs.declared.quality.Quality.Quality, specs.declared.quality.Quality.TheVariants.{Tight, Loose}, specs.declared.quality.Share.Share, specs.declared.report.Outcome.Outcome, specs.declared.report.Outcome.TheVariants.{Planned, Unsurvivable}, specs.declared.report.Report.Report}
 use Rattle.text_kit.specs.Terms.{ComeAfter, IsEditInForm}
+use Rattle.net_core.specs.Limits.{name_bytes, most_entries, most_flows}
 use Rattle.plan_report.specs.KnownNames.{KnownNames}
 use Rattle.net_core.specs.declared.columns.MasterColumn.TheVariants as master
 use Rattle.net_core.specs.declared.columns.RouteColumn.TheVariants as route
@@ -38,7 +39,7 @@ pub record IsFlowInForm (links : List Link) (demands : List Demand) (f : Flow) :
 pub record IsRoutingInForm (links : List Link) (demands : List Demand) (r : Routing) : Type 0 where
   pub positive : 1 ≤ r.den
   pub den : r.den < 2 ^ 62
-  pub few : length r.flows ≤ 65536
+  pub few : length r.flows ≤ most_flows
   pub flows : All (IsFlowInForm links demands) r.flows
 
 -- one routing for each state
@@ -115,7 +116,7 @@ IsQualityInForm known demands (Loose cause) = IsCauseInForm known demands cause
 
 -- a demand after others: a name that none of them has, two of the nodes, and a need below 2^40 units
 pub record IsDemandInForm (nodes : List (List ℕ)) (sofar : List Demand) (d : Demand) : Type 0 where
-  pub short : length d.name ≤ 255
+  pub short : length d.name ≤ name_bytes
   pub new : is_named (λ x. x.name) d.name sofar ≡ false
   pub from : d.from.0 < length nodes
   pub to : d.to.0 < length nodes
@@ -141,8 +142,8 @@ pub record IsCertificateInForm (links : List Link) (listed : List Listed) (c : C
 
 -- a plan by itself; costs and bounds are below 2^126 units
 pub record IsPlanInForm (known : KnownNames) (p : Plan) : Type 0 where
-  pub version : p.version ≤ 65536
-  pub position : p.position ≤ 65536
+  pub version : p.version ≤ most_entries
+  pub position : p.position ≤ most_entries
   pub demands : ComeAfter (IsDemandInForm known.nodes) [] p.demands
   pub counts : AreCounts known.links p.counts
   pub limits : AreWithinLimits known.links p.counts
@@ -169,7 +170,7 @@ line_lengths (Some line) = line.lengths
 
 -- a version is at most 65,536, and a total below 2^45 units
 abbrev pub IsReplyInForm : Reply → Type 0
-IsReplyInForm (Accepted version) = version ≤ 65536
+IsReplyInForm (Accepted version) = version ≤ most_entries
 IsReplyInForm (TooMuch total) = total < 2 ^ 45
 IsReplyInForm _ = Unit {0}
 
@@ -208,8 +209,8 @@ pub record IsHeadInForm (caller serial version position : ℕ) : Type 0 where
   pub most_caller : caller ≤ 8
   pub some_serial : 1 ≤ serial
   pub most_serial : serial ≤ 64
-  pub most_version : version ≤ 65536
-  pub most_position : position ≤ 65536
+  pub most_version : version ≤ most_entries
+  pub most_position : position ≤ most_entries
 
 -- a plan whose pooled cuts are those of the pool
 pub record IsPlannedInForm (known : KnownNames) (pool : List CutLine) (caller serial : ℕ) (p : Plan) : Type 0 where
@@ -221,7 +222,7 @@ pub record IsPlannedInForm (known : KnownNames) (pool : List CutLine) (caller se
 pub record IsUnsurvivableInForm (listed : List Listed) (caller serial version position : ℕ) (state : StateId) (demand : List ℕ) : Type 0 where
   pub command : IsHeadInForm caller serial version position
   pub state_listed : state.0 ≤ length listed
-  pub short : length demand ≤ 255
+  pub short : length demand ≤ name_bytes
 
 -- a plan, or a state that separates a demand
 abbrev pub IsOutcomeInForm : KnownNames → List CutLine → Outcome → Type 0
@@ -231,7 +232,7 @@ IsOutcomeInForm known pool (Unsurvivable caller serial version position state de
 
 -- a report: at most 65,536 entries, 4,096 lines of the pool and 64 outcomes
 pub record IsReportInForm (known : KnownNames) (r : Report) : Type 0 where
-  pub few_entries : length r.entries ≤ 65536
+  pub few_entries : length r.entries ≤ most_entries
   pub entries : All (IsEntryInForm r.pool) r.entries
   pub few_lines : length r.pool ≤ 4096
   pub pool : All (IsCutInForm known.links known.listed) r.pool

@@ -3,6 +3,7 @@ ghost use Rattle.plan_terms.specs.Terms.{graph_in, case_of, DemandSlack, LinkSla
 ghost use Rattle.simplex_law.specs.Terms.{AreNames, slack_basis};
 ghost use Rattle.separator.specs.Terms.{IsEvidenceHere};
 ghost use Rattle.route_law.specs.Terms.{caps_times, beside};
+ghost use Rattle.net_core.specs.Limits.{most_demands};
 ghost use Rattle.plan_rounds.{specs.inner.Answered.{AreRoutedStates, IsEvidenceOfState}, specs.inner.Sharing.{AreSlackNames, HasWideNeed, IsQualityAt, at_caps}};
 
 use crate::shares::ShareCaps;
@@ -19,7 +20,7 @@ const WIDE: u128 = 1 << 62;
 
 /// The first demand whose need times the scale is 2^62 or more.
 fn wide_demand(demands: &[Demand], scale: u64) -> Option<u32>
-    requires { length demands.now ≤ 2048 }
+    requires { length demands.now ≤ most_demands }
     ensures { MatchOption result (All (λ d. d.need * scale < 2 ^ 62) demands.now) (HasWideNeed demands.now scale) }
 {
     for k in 0..demands.len() {

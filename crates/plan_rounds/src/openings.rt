@@ -2,6 +2,7 @@ ghost use Rattle.std.specs.Prelude.{◌≡◌, ◌+◌, ◌*◌, ◌<◌, ◌≤
 ghost use Rattle.plan_terms.specs.Terms.{CutLine, graph_in, case_of};
 ghost use Rattle.metric_cut.specs.Cuts.{IsCutOf};
 ghost use Rattle.plan_law.{specs.inner.Openings.IsOpenedTo, specs.WorkedLists.IsBeginning};
+ghost use Rattle.net_core.specs.Limits.{most_cuts};
 ghost use Rattle.plan_rounds.{specs.WorkedRounds.IsPoolOf, specs.inner.Alone.PoolsOpening, specs.inner.Listing.{AreListed, GoesOn, TakesCuts}};
 
 use crate::candidates::{Candidates, pool_spots, take_cut};
@@ -67,7 +68,7 @@ pub fn open_states<S: Separate>(
 ) -> Result<Candidates, NoMemory>
     requires network { instance.now.net.now ≡ (S.frame separator.old).network }
     requires states { instance.now.states.now ≡ (S.frame separator.old).states }
-    requires few { length pool ≤ 4096 }
+    requires few { length pool ≤ most_cuts }
     requires pool { ∥ IsPoolOf (case_of instance.now) (S.seen_of separator.old).history pool ∥₁ }
     ensures on { GoesOn (S.frame separator.old) (S.frame separator.new) (S.seen_of separator.old) (S.seen_of separator.new) }
     ensures listed { IfOk result (λ c. ∥ AreListed (case_of instance.now) (S.seen_of separator.new).history c ∥₁) }

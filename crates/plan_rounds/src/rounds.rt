@@ -5,6 +5,7 @@ ghost use Rattle.master_law.specs.Terms.{AreUnitPairs};
 ghost use Rattle.master_bound.{specs.Answers.IsEvidenceOf, specs.declared.answer.Best.Best};
 ghost use Rattle.separator.specs.Separators.{AreAnswersUntilCut, AreRoundAnswers, AreStateAnswers, SeesMore, SeparatesAt, cuts_answered, cuts_since};
 ghost use Rattle.plan_types.{specs.declared.quality.Cause.TheVariants.Wide, specs.declared.quality.Quality.TheVariants.Loose};
+ghost use Rattle.net_core.specs.Limits.{most_cuts};
 ghost use Rattle.plan_rounds.{specs.WorkedRounds.{AreWorkedRounds, IsBestAt, IsPoolOf, IsWorkedAlone}, specs.inner.Alone.{PoolsRounds, PoolsTurn}, specs.inner.Answered.{AreRoutedStates, IsEvidenceOfState}, specs.inner.Listing.{AreListed, GoesOn}, specs.inner.Turns.{AddsFirst, EndsAt, IsTurnAfter, IsTurnOf, Judges, WorksOn}, specs.declared.rounds.Turn.TheVariants.{Further, Last}};
 
 use crate::candidates::Candidates;
@@ -375,7 +376,7 @@ pub fn work_rounds<S: Separate>(
     requires network { instance.now.net.now ≡ (S.frame separator.old).network }
     requires states { instance.now.states.now ≡ (S.frame separator.old).states }
     requires survivable { IsSurvivable (case_of instance.now) }
-    requires few { length pool ≤ 4096 }
+    requires few { length pool ≤ most_cuts }
     requires pool { ∥ IsPoolOf (case_of instance.now) (S.seen_of separator.old).history pool ∥₁ }
     ensures frame { S.frame separator.new ≡ S.frame separator.old }
     ensures more { SeesMore (S.seen_of separator.old) (S.seen_of separator.new) }

@@ -1,6 +1,7 @@
 ghost use Rattle.std.specs.Prelude.{◌≡◌, ◌-◌, ◌*◌, ◌^◌, ◌<◌, ◌≤◌, All, None, length, min};
 ghost use Rattle.plan_terms.specs.Terms.{raw_value};
 ghost use Rattle.plan_types.specs.Terms.{lines_of_certificate};
+ghost use Rattle.net_core.specs.Limits.{most_links};
 ghost use Rattle.plan_view.{specs.Parts.{IsGap, paid_by}, specs.Rounding.IsNearest, specs.inner.Lines.{asked_among, given_among, is_among}};
 
 use crate::fractions::thousandths;
@@ -34,7 +35,7 @@ fn asked_among(state: Option<u32>, lines: &[CertLine]) -> u128
 
 /// What the pre-installed capacities give along the lines of a state, or along all lines.
 fn given_among(links: &[Link], state: Option<u32>, lines: &[CertLine]) -> u128
-    requires few { length links.now ≤ 256 }
+    requires few { length links.now ≤ most_links }
     requires sound { All (λ l. l.fixed < 2 ^ 40) links.now }
     requires lengths { All (λ l. length l.cut.lengths ≡ length links.now) lines.now }
     requires low { given_among links.now None lines.now < 2 ^ 126 }
@@ -51,7 +52,7 @@ fn given_among(links: &[Link], state: Option<u32>, lines: &[CertLine]) -> u128
 
 /// What the lines of a state, or all lines, ask for beyond what is in place.
 fn raw_among(links: &[Link], state: Option<u32>, lines: &[CertLine]) -> u128
-    requires few { length links.now ≤ 256 }
+    requires few { length links.now ≤ most_links }
     requires sound { All (λ l. l.fixed < 2 ^ 40) links.now }
     requires lengths { All (λ l. length l.cut.lengths ≡ length links.now) lines.now }
     requires asked { asked_among None lines.now < 2 ^ 126 }
@@ -64,7 +65,7 @@ fn raw_among(links: &[Link], state: Option<u32>, lines: &[CertLine]) -> u128
 /// The part of the raw value that the cuts of a state pay for, in thousandths, to the nearest; 0 where the raw value is 0.
 #[tactic(auto, using(crate::proofs::LineSums::raw_is))]
 pub(crate) fn part_of(links: &[Link], certificate: &Certificate, state: u32) -> u32
-    requires few { length links.now ≤ 256 }
+    requires few { length links.now ≤ most_links }
     requires sound { All (λ l. l.fixed < 2 ^ 40) links.now }
     requires lengths { All (λ l. length l.cut.lengths ≡ length links.now) certificate.now.lines }
     requires asked { asked_among None certificate.now.lines < 2 ^ 126 }

@@ -1,6 +1,7 @@
 ghost use Rattle.std.specs.Prelude.{◌≡◌, ◌≤◌, IfOk, IfSome, OnOk, length};
 ghost use Rattle.plan_terms.specs.Terms.{case_of, IsSurvivable};
 ghost use Rattle.plan_rounds.specs.Terms.{SeesMore, IsPoolOf, IsWorkedAlone};
+ghost use Rattle.net_core.specs.Limits.{most_cuts};
 ghost use Rattle.planner.{specs.inner.Candidates.HaveBounds, specs.inner.Finishing.{AreAfterRounds, AreMultipliersOf, AreWorkedOut, IsChosenAfter, IsShareFor}};
 
 use crate::bound::better_bound;
@@ -70,7 +71,7 @@ pub fn work_out<S: Separate>(
     requires network { instance.now.net.now ≡ (S.frame separator.old).network }
     requires states { instance.now.states.now ≡ (S.frame separator.old).states }
     requires survivable { IsSurvivable (case_of instance.now) }
-    requires few { length pool ≤ 4096 }
+    requires few { length pool ≤ most_cuts }
     requires pool { ∥ IsPoolOf (case_of instance.now) (S.seen_of separator.old).history pool ∥₁ }
     ensures frame { S.frame separator.new ≡ S.frame separator.old }
     ensures more { SeesMore (S.seen_of separator.old) (S.seen_of separator.new) }

@@ -1,4 +1,5 @@
 ghost use Rattle.std.specs.Prelude.{◌≡◌, ◌≤◌, All, length};
+ghost use Rattle.net_core.specs.Limits.{name_bytes};
 ghost use Rattle.planner.specs.inner.Finishing.{plan_made};
 
 use crate::own_bound::CertifiedBound;
@@ -17,7 +18,7 @@ pub struct Standing {
 /// The plan with the counts that were chosen and a certified bound.
 pub fn make_plan(at: Standing, demands: Demands, chosen: Chosen, bound: CertifiedBound) -> Plan
     ensures plan { result ≡ plan_made at demands chosen bound }
-    ensures named { All (λ d. length d.name ≤ 255) demands }
+    ensures named { All (λ d. length d.name ≤ name_bytes) demands }
 {
     are_named(demands.items());
     Plan {

@@ -1,5 +1,6 @@
 ghost use Rattle.std.specs.Prelude.{◌≤◌, All, length};
 ghost use Rattle.plan_terms.specs.Terms.{HasShortLengths};
+ghost use Rattle.net_core.specs.Limits.{name_bytes};
 
 use net_core::{CutLine, Demand};
 use plan_rounds::are_short;
@@ -15,7 +16,7 @@ pub fn are_short_cuts(cuts: &[CutLine])
 
 /// Names of demands have at most 255 bytes by their type, which a proof learns by this call. It takes time in the number of demands.
 pub(crate) fn are_named(demands: &[Demand])
-    ensures { All (λ d. length d.name ≤ 255) demands.now }
+    ensures { All (λ d. length d.name ≤ name_bytes) demands.now }
 {
     for d in demands {
         let _name = d.name.bytes();

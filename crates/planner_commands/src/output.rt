@@ -2,8 +2,7 @@ ghost use Rattle.std.specs.Prelude.{◌≡◌, ◌≢◌, ◌≤◌, [], OnErr};
 ghost use Rattle.outside_io.specs.Outside.{Puts, Rose};
 ghost use Rattle.planner_commands.specs.Run.{PutsText};
 
-use outside_io::Status;
-use outside_io::{Failed, Sink};
+use outside_io::{Failed, Sink, Status};
 
 /// How many bytes are put at a time.
 const PIECE: usize = 4096;

@@ -11,13 +11,12 @@ use crate::command::command_of;
 use crate::output::say;
 use crate::words::{Command, FourFiles, ProofWords, SampleWords};
 use check_answers::answer_check;
-use outside_io::{Answer, Status};
 use command_answers::{
     answer_import, answer_plan, answer_prove, answer_sample, answer_session, answer_trim,
 };
 use input_files::{PlanFiles, Stop, load_flows, load_problem, load_report, load_script};
 use net_core::{List, NoMemory, Problem};
-use outside_io::{Gate, Shelf, Sink};
+use outside_io::{Answer, Gate, Shelf, Sink, Status};
 use std::alloc::Global;
 use std::sync::Wait;
 use std::thread::Threads;

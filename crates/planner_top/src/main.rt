@@ -3,9 +3,8 @@
 
 mod run;
 
-use outside_io::Status;
 use net_core::NoMemory;
-use outside_io::{FileShelf, OpenGate, StreamSink};
+use outside_io::{FileShelf, OpenGate, Status, StreamSink};
 use run::run;
 use std::process::ExitCode;
 use std::{env, io};

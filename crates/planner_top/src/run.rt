@@ -3,8 +3,7 @@ ghost use Rattle.planner_commands.specs.Run.{Ends, PutsText};
 ghost use Rattle.input_files.specs.Shelves.{KeepsShelf};
 ghost use Rattle.outside_io.specs.declared.status.Status.{Status};
 
-use outside_io::Status;
-use outside_io::{Gate, Shelf, Sink};
+use outside_io::{Gate, Shelf, Sink, Status};
 use planner_commands::run as commands;
 use std::alloc::Global;
 use std::sync::Wait;

@@ -1,6 +1,7 @@
 ghost use Rattle.std.specs.Prelude.{◌≡◌, ◌≤◌, All, IfErr, IfOk, length};
 ghost use Rattle.plan_terms.specs.Terms.{case_of};
 ghost use Rattle.plan_checker.specs.Terms.{HoldsNone, StopsBy, Tells};
+ghost use Rattle.net_core.specs.Limits.{most_entries};
 ghost use Rattle.report_checker.{specs.Journals.{HoldsEntryDiffers, HoldsNotesDiffer}, specs.inner.Walks.{HasPassed, HasSmallNeed}};
 
 use crate::walk::{Walk, walk_from};
@@ -21,7 +22,7 @@ pub fn check_notes(own: Notes, printed: Notes) -> Test
 /// walk's demands, and for each edit time in their number.
 pub fn check_entries(instance: &Instance, entries: &[Entry]) -> Result<Walk, Stop>
     requires needs { All HasSmallNeed entries.now }
-    requires few { length entries.now ≤ 65536 }
+    requires few { length entries.now ≤ most_entries }
     ensures none { IfOk result (λ _. HoldsNone (HoldsEntryDiffers (case_of instance.now) entries.now)) }
     ensures passed { IfOk result (HasPassed (case_of instance.now) entries.now) }
     ensures found { IfErr result (StopsBy (HoldsEntryDiffers (case_of instance.now) entries.now)) }

@@ -4,6 +4,7 @@ use Rattle.plan_terms.specs.Terms.{Demand, LinkId, Link, Flow, Routing}
 use Rattle.text_kit.specs.Terms.{Reading, ◌>>=◌, give, list_at, no_fault, not_empty, of_length, Parenthesis}
 use Rattle.plan_report.specs.Terms.{state_name, KnownNames}
 use Rattle.report_words.{specs.declared.fault.ReportKind.ReportKind, specs.declared.fault.ReportKind.TheVariants.{Token, Limit}, specs.Terms.{demand_within, has_room, keyword_within, link_at, number_at, opening_at, this_name_at, this_number_at}}
+use Rattle.net_core.specs.Limits.{most_flows}
 
 -- a path: one link or more
 unfoldable pub path_at : List Link → Reading ReportKind (List LinkId)
@@ -12,7 +13,7 @@ path_at links = opening_at >>= λ _. list_at Parenthesis (not_empty Token) (λ s
 -- a flow after earlier ones
 unfoldable pub flow_at : List Link → List Demand → List Flow → Reading ReportKind Flow
 flow_at links demands sofar = do
-  demand ← demand_within (has_room 65536 sofar) demands
+  demand ← demand_within (has_room most_flows sofar) demands
   num ← number_at 1 (2 ^ 124)
   path ← path_at links
   give (record { demand = demand; path = path; num = num })

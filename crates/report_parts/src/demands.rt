@@ -3,6 +3,7 @@ ghost use Rattle.plan_terms.specs.Terms.{is_named};
 ghost use Rattle.snd_tokens.specs.Terms.{left, size};
 ghost use Rattle.text_kit.specs.Terms.{ReadsAs, TakesElement, sound, word_at};
 ghost use Rattle.report_words.specs.Terms.{demand_at, demand_of, demand_within, new_demand};
+ghost use Rattle.net_core.specs.Limits.{most_demands, name_bytes};
 ghost use Rattle.report_parts.specs.ReadingParts.{demand_list_at, nodes_at, plan_demand_at, plan_demands_at};
 
 use net_core::{Demand, Demands, List, Name, NoMemory, NodeId};
@@ -50,7 +51,7 @@ pub fn demand_places(alloc: Global, demands: &[Demand]) -> Result<Places<'_>, No
 impl<'a> PlanDemands<'a> {
     /// A copy of demands whose names are all different, and which are found by these. It takes time and memory in their number.
     pub fn of(alloc: Global, demands: &'a [Demand]) -> Result<PlanDemands<'a>, NoMemory>
-        requires few { length demands.now ≤ 2048 }
+        requires few { length demands.now ≤ most_demands }
         requires different { AllPairs (λ x y. x.name ≢ y.name) demands.now }
         ensures { IfOk result (λ p. p.list ≡ demands.now) }
     {
@@ -118,7 +119,7 @@ fn name_fault<'a>(
 ) -> Result<Option<ReportKind>, NoMemory>
     requires { places.old ≡ map (λ d. d.name) sofar.now }
     ensures fault { IfOk result (λ f. sound word.now f ≡ new_demand sofar.now word.now) }
-    ensures short { IfOk result (λ f. f ≡ None → length word.now ≤ 255) }
+    ensures short { IfOk result (λ f. f ≡ None → length word.now ≤ name_bytes) }
     ensures places { IfOk result (λ f. f ≡ None → places.new ≡ places.old ++ word.now ∷ []) }
 {
     if is_long(word) {

@@ -6,6 +6,7 @@ ghost use Rattle.report_words.specs.Terms.{this_name_at};
 ghost use Rattle.report_parts.{specs.ReadingRoutings.{path_at, routings_at}, specs.Readers.{reader_demands, reader_links, reader_names}};
 
 use crate::plan_reader::PlanReader;
+use net_core::limits::MOST_FLOWS;
 use net_core::{Flow, LinkId, List, Path, Routing, States};
 use report_words::context::Context;
 use report_words::element::{Element, list};
@@ -18,8 +19,6 @@ use std::alloc::Global;
 const STATE: &[u8] = b"state";
 
 const NONE: &[u8] = b"none";
-
-const MAX_FLOWS: usize = 65_536;
 
 const NUM_LIMIT: u128 = 1 << 124;
 
@@ -83,7 +82,7 @@ impl<'a> Element for FlowList<'a> {
         sofar: &[Flow],
         text: &mut Cursor,
     ) -> Result<Flow, ReportRefusal> {
-        let demand = self.reader.demands.next(sofar.len() < MAX_FLOWS, text)?;
+        let demand = self.reader.demands.next(sofar.len() < MOST_FLOWS, text)?;
         let num = number(1, NUM_LIMIT, text)?;
         let path = self.reader.path(text)?;
         Ok(Flow { demand, path, num })

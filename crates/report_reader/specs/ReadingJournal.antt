@@ -4,6 +4,7 @@ use Rattle.plan_terms.specs.Terms.{Edit, Set, Add, Drop, Entry, Edited, Pooled, 
 use Rattle.text_kit.{specs.Reading.ended_or, specs.Terms.{Reading, ◌>>=◌, give, list_at, mapped, no_fault, past_ending, Parenthesis, TheWord}}
 use Rattle.plan_report.specs.Terms.{KnownNames}
 use Rattle.report_words.{specs.declared.fault.ReportKind.ReportKind, specs.Terms.{amount_at, closing_at, has_room, money_at, name_at, number_at, opening_at, opening_within, this_number_at, field_at, Branches, branch_at, numbers_at}}
+use Rattle.net_core.specs.Limits.{most_entries}
 
 -- ---- the notes: up to three words in order, and the closing parenthesis
 
@@ -77,7 +78,7 @@ event_at p = branch_at ((codes "caller", edited_at p) ∷ (codes "cut", pooled_a
 -- an entry after earlier ones
 unfoldable pub journal_entry_at : Places → List Entry → Reading ReportKind Entry
 journal_entry_at p sofar = do
-  _ ← opening_within (has_room 65536 sofar)
+  _ ← opening_within (has_room most_entries sofar)
   _ ← this_number_at (length sofar + 1)
   event ← event_at p
   _ ← closing_at

@@ -1,6 +1,6 @@
 -- What a word of a report says: numbers in their ranges, amounts, and names of what is known.
 use Rattle.std.specs.Prelude.{ℕ, ◌+◌, Bool, nat_le, nat_lt, ◌&&◌, if◌then◌else◌, List, length, position, Result, Ok, Err}
-use Rattle.net_core.{specs.Terms.{are_same, is_named}, specs.declared.demand.Demand.Demand, specs.declared.ids.LinkId.LinkId, specs.declared.ids.NodeId.NodeId, specs.declared.network.Link.Link, specs.declared.places.Places.Places}
+use Rattle.net_core.{specs.Terms.{are_same, is_named}, specs.declared.demand.Demand.Demand, specs.declared.ids.LinkId.LinkId, specs.declared.ids.NodeId.NodeId, specs.declared.network.Link.Link, specs.declared.places.Places.Places, specs.Limits.name_bytes}
 use Rattle.snd_tokens.{specs.declared.whole_number.WholeFault.WholeFault, specs.declared.whole_number.WholeFault.TheVariants.{NotANumber, TooLarge}, specs.Terms.{amount_of, money_of, whole_of}}
 use Rattle.text_kit.specs.Terms.{any_name, found_or, number_or, Reading, open_at, close_at, expected, step_at, word_at}
 use Rattle.report_words.{specs.declared.fault.ReportKind.ReportKind, specs.declared.fault.ReportKind.TheVariants.{Token, Ended, Number, UnknownName, DoubleName, LimitName, Limit}}
@@ -49,7 +49,7 @@ money_below p limit w = below limit (number_or Number (money_of p w))
 
 -- the fault of a word as a name that nothing has
 abbrev pub unknown_name : List ℕ → ReportKind
-unknown_name w = if nat_lt 255 (length w) then LimitName else UnknownName
+unknown_name w = if nat_lt name_bytes (length w) then LimitName else UnknownName
 
 -- the place of the first of these that has the name
 abbrev pub place_named : {X : Type 0} → (X → List ℕ) → List X → List ℕ → Result ℕ ReportKind
@@ -80,7 +80,7 @@ demand_of demands w = place_named (λ d. d.name) demands w
 -- a name that no earlier demand of the plan has
 abbrev pub new_demand : List Demand → List ℕ → Result (List ℕ) ReportKind
 new_demand sofar w =
-    if nat_lt 255 (length w) then Err LimitName else (if is_named (λ d. d.name) w sofar then Err DoubleName else Ok w)
+    if nat_lt name_bytes (length w) then Err LimitName else (if is_named (λ d. d.name) w sofar then Err DoubleName else Ok w)
 
 -- ---- one word or parenthesis
 

@@ -6,6 +6,7 @@ use Rattle.route_law.specs.Terms.{ArePricedSomewhere}
 use Rattle.warm_routing.specs.Terms.{IsEvidenceHere, IsRouted}
 use Rattle.turn_lock.specs.Passes.{Seen}
 use Rattle.cut_pool.specs.Terms.{IsLegalAfter, cut_of_line, cuts_of}
+use Rattle.net_core.specs.Limits.{most_cuts, most_entries}
 use Rattle.separator.{specs.declared.answers.Separated.Separated, specs.declared.answers.Separated.TheVariants.{Routed, Violated, Wide}, specs.declared.answers.StateAnswer.StateAnswer}
 
 -- ---- what a separator has seen, and what it commits
@@ -30,7 +31,7 @@ IsCutEntry (Pooled index state lengths) = Unit {0}
 -- A history that a separator has seen, and the separator's own entries in it. It keeps its limits, and each cut that it pools has
 -- lengths that a state of the case keeps, differs in state or lengths from all before it, and has their number as its index.
 pub record IsSeenHistory (net : Network) (states : States) (seen : Seen Entry) : Type 0 where
-  pub few : length seen.history ≤ 65536
+  pub few : length seen.history ≤ most_entries
   pub few_cuts : length (cuts_of seen.history) ≤ 4096
   pub legal : (n : ℕ) (e : Entry) → slice_get seen.history n ≡ Some e → IsCutEntry e → IsLegalAfter (case net states []) (take n seen.history) e
   pub own_among : IsPartOf seen.own seen.history
@@ -56,7 +57,7 @@ cuts_since old new = cuts_after old.own new.own
 
 -- a history that takes no further cut: it pools 4,096, or has 65,536 entries
 abbrev pub IsFullHistory : List Entry → Type 0
-IsFullHistory history = (length (cuts_of history) ≡ 4096) ⊎ (length history ≡ 65536)
+IsFullHistory history = (length (cuts_of history) ≡ most_cuts) ⊎ (length history ≡ most_entries)
 
 -- the history pools the cut at this index, or takes no further cut and doesn't pool this one
 abbrev pub IsSpotIn : List Entry → ℕ × List ℕ → Spot → Type 0

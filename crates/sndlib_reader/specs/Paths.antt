@@ -1,15 +1,15 @@
 -- the section of admissible paths, of which nothing is kept
 use Rattle.std.specs.Prelude.{◌≡◌, ℕ, ◌≤◌, ◌⊎◌, List, [], ◌∷◌, ◌++◌, length, IsTrue, codes}
-use Rattle.net_core.specs.Terms.{is_named}
+use Rattle.net_core.{specs.Terms.is_named, specs.Limits.name_bytes}
 use Rattle.text_kit.specs.Terms.{section, Item, Verbatim, Opening, Closing, AreSpelled}
 
 -- a name of at most 255 bytes
 abbrev pub IsShortName : List Item → Type 0
-IsShortName items = (w : List ℕ) × (length w ≤ 255) × (items ≡ Verbatim w ∷ [])
+IsShortName items = (w : List ℕ) × (length w ≤ name_bytes) × (items ≡ Verbatim w ∷ [])
 
 -- such a name, which is one of these
 abbrev pub IsKnownName : List (List ℕ) → List Item → Type 0
-IsKnownName names items = (w : List ℕ) × ((length w ≤ 255) × IsTrue (is_named (λ n. n) w names)) × (items ≡ Verbatim w ∷ [])
+IsKnownName names items = (w : List ℕ) × ((length w ≤ name_bytes) × IsTrue (is_named (λ n. n) w names)) × (items ≡ Verbatim w ∷ [])
 
 -- things of a sort, one after another
 abbrev pub AreMany : (List Item → Type 0) → List Item → Type 0

@@ -1,7 +1,7 @@
 -- Reading a network file from left to right: the tests of its words, and their order.
 use Rattle.std.specs.Prelude.{ℕ, zero, suc, ◌+◌, ◌*◌, ◌^◌, ◌==◌, nat_lt, Bool, true, false, ◌||◌, ◌&&◌, if◌then◌else◌, List, [], length, map, Option, Some, None, Result, Ok, Err, codes}
 use Rattle.snd_tokens.{specs.declared.amounts.NumberFault.TheVariants.{NotANumber, TooLarge}, specs.Terms.{amount_of, units_of, are_digits, WordAt, OpenAt, CloseAt, EndAt}}
-use Rattle.net_core.{specs.Terms.{are_same, is_named, total_need}, specs.declared.ids.NodeId.NodeId, specs.declared.network.Module.Module, specs.declared.places.Places.Places, specs.declared.demand.Demand.Demand}
+use Rattle.net_core.{specs.Terms.{are_same, is_named, total_need}, specs.declared.ids.NodeId.NodeId, specs.declared.network.Module.Module, specs.declared.places.Places.Places, specs.declared.demand.Demand.Demand, specs.Limits.{most_demands, most_links, most_modules, most_nodes, name_bytes}}
 use Rattle.text_kit.specs.Terms.{long_name_fault, named_place, new_name_fault, number_or, Reading, ◌>>=◌, give, step_at, word_at, open_at, close_at, end_at, expected, mapped, Parenthesis, sound, list_at, no_fault, each_at}
 use Rattle.sndlib_reader.{specs.declared.fault.ReadKind.ReadKind, specs.declared.fault.ReadKind.TheVariants.{Section, Token, Ended, Limit, Number, UnknownName, DoubleName, SelfLink, SelfDemand, ZeroModule, FixedLink}, specs.declared.costs.CostedLink.CostedLink, specs.declared.demand.DemandRest.DemandRest, specs.declared.link.LinkNumbers.LinkNumbers, specs.declared.link.LinkRest.LinkRest, specs.Spelling.{NodePart, NodeName, Coordinates, names_of, ends_named, notes_of, Parts}}
 use Rattle.sndlib_reader.specs.declared.fault.Limited.TheVariants as limits
@@ -10,15 +10,15 @@ use Rattle.sndlib_reader.specs.declared.fault.Limited.TheVariants as limits
 
 -- a node's name after earlier ones
 abbrev pub node_fault : List (List ℕ) → List ℕ → Option ReadKind
-node_fault sofar w = new_name_fault (Limit limits.Name) DoubleName (Limit limits.Nodes) 128 (length sofar) (is_named (λ n. n) w sofar) w
+node_fault sofar w = new_name_fault (Limit limits.Name) DoubleName (Limit limits.Nodes) most_nodes (length sofar) (is_named (λ n. n) w sofar) w
 
 -- a link's name after earlier ones
 abbrev pub link_fault : List CostedLink → List ℕ → Option ReadKind
-link_fault sofar w = new_name_fault (Limit limits.Name) DoubleName (Limit limits.Links) 256 (length sofar) (is_named (λ l. l.link.name) w sofar) w
+link_fault sofar w = new_name_fault (Limit limits.Name) DoubleName (Limit limits.Links) most_links (length sofar) (is_named (λ l. l.link.name) w sofar) w
 
 -- a demand's name after earlier ones
 abbrev pub demand_fault : List Demand → List ℕ → Option ReadKind
-demand_fault sofar w = new_name_fault (Limit limits.Name) DoubleName (Limit limits.Demands) 2048 (length sofar) (is_named (λ d. d.name) w sofar) w
+demand_fault sofar w = new_name_fault (Limit limits.Name) DoubleName (Limit limits.Demands) most_demands (length sofar) (is_named (λ d. d.name) w sofar) w
 
 -- any name
 abbrev pub path_name : List ℕ → Result (Unit {0}) ReadKind
@@ -27,7 +27,7 @@ path_name w = sound tt (long_name_fault (Limit limits.Name) w)
 -- one of these names
 abbrev pub known_name : List (List ℕ) → List ℕ → Result (Unit {0}) ReadKind
 known_name names w =
-    if nat_lt 255 (length w) then Err (Limit limits.Name)
+    if nat_lt name_bytes (length w) then Err (Limit limits.Name)
     else (if is_named (λ n. n) w names then Ok tt else Err UnknownName)
 
 -- the place of the node that has a name
@@ -52,7 +52,7 @@ unit p w = number_or Number (units_of p w)
 
 -- the capacity of a further module
 abbrev pub carried : List Module → Result ℕ ReadKind → Result ℕ ReadKind
-carried sofar (Ok n) = if n == 0 then Err ZeroModule else (if nat_lt (length sofar) 16 then Ok n else Err (Limit limits.Modules))
+carried sofar (Ok n) = if n == 0 then Err ZeroModule else (if nat_lt (length sofar) most_modules then Ok n else Err (Limit limits.Modules))
 carried sofar (Err fault) = Err fault
 
 abbrev pub capacity : Places → List Module → List ℕ → Result ℕ ReadKind

@@ -1,7 +1,7 @@
 -- The grammar of a network file: which items spell which network and demands.
 use Rattle.std.{specs.Prelude.{◌≡◌, ℕ, ◌*◌, ◌≤◌, ◌<◌, ◌^◌, ◌==◌, ◌⊎◌, not, Bool, true, false, List, [], ◌∷◌, ◌++◌, length, get_or, map, flat_map, All, IsTrue, Ok, codes}, specs.List.list_any}
 use Rattle.snd_tokens.specs.Terms.{amount_of, units_of, are_digits}
-use Rattle.net_core.{specs.Terms.{IsNetwork, AreDemands}, specs.declared.ids.NodeId.NodeId, specs.declared.network.Module.Module, specs.declared.network.Link.Link, specs.declared.network.Notes.Notes, specs.declared.network.Network.Network, specs.declared.places.Places.Places, specs.declared.demand.Demand.Demand}
+use Rattle.net_core.{specs.Terms.{IsNetwork, AreDemands}, specs.declared.ids.NodeId.NodeId, specs.declared.network.Module.Module, specs.declared.network.Link.Link, specs.declared.network.Notes.Notes, specs.declared.network.Network.Network, specs.declared.places.Places.Places, specs.declared.demand.Demand.Demand, specs.Limits.name_bytes}
 use Rattle.text_kit.specs.Terms.{Item, Verbatim, Money, Opening, Closing, ComeAfter, AreSpelled, section}
 use Rattle.sndlib_reader.{specs.declared.costs.CostedLink.CostedLink, specs.Balance.IsSkipped, specs.Paths.ArePaths}
 
@@ -24,7 +24,7 @@ ends_named named (Coordinates ∷ parts) = ends_named false parts
 
 -- names have at most 255 bytes, and coordinates come right after a name
 abbrev pub IsPartAfter : List NodePart → NodePart → Type 0
-IsPartAfter sofar (NodeName name) = length name ≤ 255
+IsPartAfter sofar (NodeName name) = length name ≤ name_bytes
 IsPartAfter sofar Coordinates = IsTrue (ends_named false sofar)
 
 -- coordinates are anything that balances, between parentheses
@@ -49,7 +49,7 @@ link_items p nodes l =
 
 -- what isn't kept of a link is in its range: its name and the two further costs
 pub record IsShortLink (l : CostedLink) : Type 0 where
-  pub name : length l.link.name ≤ 255
+  pub name : length l.link.name ≤ name_bytes
   pub fixed_cost : l.fixed_cost < 2 ^ 40
   pub routing_cost : l.routing_cost < 2 ^ 40
 
@@ -64,7 +64,7 @@ pub record SpellsDemand (p : Places) (nodes : List (List ℕ)) (d : Demand) (ite
   pub hops : List ℕ
   pub units : ℕ
   pub each : ℕ
-  pub short : length d.name ≤ 255
+  pub short : length d.name ≤ name_bytes
   pub items_are : items ≡ Verbatim d.name ∷ node_pair_items nodes d.from d.to ++ Verbatim unit ∷ Verbatim amount ∷ Verbatim hops ∷ []
   pub unit_is : units_of p unit ≡ Ok units
   pub amount_is : amount_of p amount ≡ Ok each

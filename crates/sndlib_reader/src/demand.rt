@@ -1,5 +1,5 @@
 ghost use Rattle.std.specs.Prelude.{◌≡◌, ◌≤◌, ◌<◌, ◌^◌, ◌+◌, ◌++◌, ◌∷◌, None, false, IsTrue, IfOk, OnOk, Ok, [], length, map};
-ghost use Rattle.net_core.specs.Terms.{is_named, total_need};
+ghost use Rattle.net_core.{specs.Terms.{is_named, total_need}, specs.Limits.{most_nodes, name_bytes}};
 ghost use Rattle.snd_tokens.specs.Terms.{left, size};
 ghost use Rattle.text_kit.specs.Terms.{ReadsAs, TakesElement, sound, word_at};
 ghost use Rattle.sndlib_reader.specs.Reading.{native_demand_at, demand_rest_at, demand_fault, native_demands_at, hops, need, unit};
@@ -8,6 +8,7 @@ use crate::fault::{Limited, ReadKind, ReadRefusal};
 use crate::names::Names;
 use crate::node::ends;
 use crate::words::amount_of;
+use net_core::limits::MOST_DEMANDS;
 use net_core::{Demand, Demands, List, Name, NodeId, Places};
 use snd_tokens::{Cursor, NumberFault, are_digits, units};
 use std::alloc::Global;
@@ -21,8 +22,6 @@ pub struct DemandRest {
     pub to: NodeId,
     pub need: u64,
 }
-
-const MAX_DEMANDS: usize = 2048;
 
 const MAX_NEED: u128 = 1 << 40;
 
@@ -102,14 +101,14 @@ fn hops(text: &mut Cursor) -> Result<(), ReadRefusal>
 fn demand_fault(demands: &[Demand], names: &Names, word: &[u8]) -> Option<ReadKind>
     requires { names.now ≡ map (λ d. d.name) demands.now }
     ensures value { result ≡ demand_fault demands.now word.now }
-    ensures short { result ≡ None → length word.now ≤ 255 }
+    ensures short { result ≡ None → length word.now ≤ name_bytes }
     ensures free { result ≡ None → is_named (λ n. n) word.now names.now ≡ false }
 {
     new_name_fault(
         ReadKind::Limit(Limited::Name),
         ReadKind::DoubleName,
         ReadKind::Limit(Limited::Demands),
-        MAX_DEMANDS,
+        MOST_DEMANDS,
         demands.len(),
         names.has(word),
         word,
@@ -140,7 +139,7 @@ fn demand_rest(
     before: u64,
     text: &mut Cursor,
 ) -> Result<DemandRest, ReadRefusal>
-    requires nodes { length nodes.now ≤ 128 }
+    requires nodes { length nodes.now ≤ most_nodes }
     requires below { before < 2 ^ 44 }
     ensures reads { ReadsAs (λ r. r) result (left text.new) (demand_rest_at places nodes.now before (left text.old)) }
     ensures below { IfOk result (λ r. before + r.need < 2 ^ 44) }
@@ -163,7 +162,7 @@ fn demand<'a>(
     before: u64,
     text: &mut Cursor<'a>,
 ) -> Result<Demand, ReadRefusal>
-    requires nodes { length nodes.now ≤ 128 }
+    requires nodes { length nodes.now ≤ most_nodes }
     requires named { names.now ≡ map (λ d. d.name) demands.now }
     requires sum { before ≡ total_need demands.now }
     requires below { before < 2 ^ 44 }
@@ -191,7 +190,7 @@ fn take_demand<'a>(
     sum: &mut u64,
     text: &mut Cursor<'a>,
 ) -> Result<bool, ReadRefusal>
-    requires nodes { length nodes.now ≤ 128 }
+    requires nodes { length nodes.now ≤ most_nodes }
     requires named { names.now ≡ map (λ d. d.name) all.now }
     requires sum { sum.now ≡ total_need all.now }
     requires below { sum.now < 2 ^ 44 }
@@ -218,7 +217,7 @@ pub(crate) fn demands<'a>(
     nodes: &Names,
     text: &mut Cursor<'a>,
 ) -> Result<(Demands, Names<'a>), ReadRefusal>
-    requires { length nodes.now ≤ 128 }
+    requires { length nodes.now ≤ most_nodes }
     ensures reads { ReadsAs (λ r. r.0) result (left text.new) (native_demands_at places nodes.now [] (left text.old)) }
     ensures named { IfOk result (λ r. r.1 ≡ map (λ d. d.name) r.0) }
 {

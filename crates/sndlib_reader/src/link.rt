@@ -1,5 +1,5 @@
 ghost use Rattle.std.specs.Prelude.{◌≡◌, ◌≤◌, ◌<◌, ◌++◌, ◌∷◌, None, false, IsTrue, IfOk, OnOk, Ok, [], length, map};
-ghost use Rattle.net_core.specs.Terms.{is_named};
+ghost use Rattle.net_core.{specs.Terms.is_named, specs.Limits.{most_nodes, name_bytes}};
 ghost use Rattle.snd_tokens.specs.Terms.{left, size};
 ghost use Rattle.text_kit.specs.Terms.{ReadsAs, TakesElement, Parenthesis, list_at, sound, word_at};
 ghost use Rattle.sndlib_reader.specs.Reading.{capacity, native_link_at, link_numbers_at, link_rest_at, named_link, link_fault, costed_links_at, module_at, unserved};
@@ -9,6 +9,7 @@ use crate::fault::{Limited, ReadKind, ReadRefusal};
 use crate::names::Names;
 use crate::node::ends;
 use crate::words::{amount, amount_of};
+use net_core::limits::{MOST_LINKS, MOST_MODULES};
 use net_core::{Link, List, Module, Name, NodeId, Places};
 use snd_tokens::Cursor;
 use std::alloc::Global;
@@ -34,10 +35,6 @@ pub struct LinkRest {
     pub modules: List<Module>,
 }
 
-const MAX_LINKS: usize = 256;
-
-const MAX_MODULES: usize = 16;
-
 /// The capacity of a word for a module after these ones, in units of a network with these places.
 fn capacity_of(places: Places, modules: &[Module], word: &[u8]) -> Result<u64, ReadKind>
     ensures { result ≡ capacity places modules.now word.now }
@@ -46,7 +43,7 @@ fn capacity_of(places: Places, modules: &[Module], word: &[u8]) -> Result<u64, R
     if capacity == 0 {
         return Err(ReadKind::ZeroModule);
     }
-    if modules.len() >= MAX_MODULES {
+    if modules.len() >= MOST_MODULES {
         return Err(ReadKind::Limit(Limited::Modules));
     }
     Ok(capacity)
@@ -110,14 +107,14 @@ fn modules(
 fn link_fault(links: &[CostedLink], names: &Names, word: &[u8]) -> Option<ReadKind>
     requires { names.now ≡ map (λ l. l.link.name) links.now }
     ensures value { result ≡ link_fault links.now word.now }
-    ensures short { result ≡ None → length word.now ≤ 255 }
+    ensures short { result ≡ None → length word.now ≤ name_bytes }
     ensures free { result ≡ None → is_named (λ n. n) word.now names.now ≡ false }
 {
     new_name_fault(
         ReadKind::Limit(Limited::Name),
         ReadKind::DoubleName,
         ReadKind::Limit(Limited::Links),
-        MAX_LINKS,
+        MOST_LINKS,
         links.len(),
         names.has(word),
         word,
@@ -164,7 +161,7 @@ fn link_rest(
     nodes: &Names,
     text: &mut Cursor,
 ) -> Result<LinkRest, ReadRefusal>
-    requires { length nodes.now ≤ 128 }
+    requires { length nodes.now ≤ most_nodes }
     ensures { ReadsAs (λ r. r) result (left text.new) (link_rest_at places nodes.now (left text.old)) }
 {
     let (a, b) = ends(ReadKind::SelfLink, nodes, text)?;
@@ -207,7 +204,7 @@ fn link<'a>(
     names: &mut Names<'a>,
     text: &mut Cursor<'a>,
 ) -> Result<CostedLink, ReadRefusal>
-    requires nodes { length nodes.now ≤ 128 }
+    requires nodes { length nodes.now ≤ most_nodes }
     requires named { names.now ≡ map (λ l. l.link.name) links.now }
     ensures reads { ReadsAs (λ l. l) result (left text.new) (native_link_at places nodes.now links.now (left text.old)) }
     ensures last { IfOk result (λ l. names.new ≡ names.old ++ l.link.name ∷ []) }
@@ -226,7 +223,7 @@ fn take_link<'a>(
     names: &mut Names<'a>,
     text: &mut Cursor<'a>,
 ) -> Result<bool, ReadRefusal>
-    requires nodes { length nodes.now ≤ 128 }
+    requires nodes { length nodes.now ≤ most_nodes }
     requires named { names.now ≡ map (λ l. l.link.name) all.now }
     ensures turn { TakesElement result (costed_links_at places nodes.now all.old (left text.old))
         (costed_links_at places nodes.now all.new (left text.new)) (Ok (all.new, left text.new)) }
@@ -248,7 +245,7 @@ pub(crate) fn links<'a>(
     nodes: &Names,
     text: &mut Cursor<'a>,
 ) -> Result<(List<CostedLink>, Names<'a>), ReadRefusal>
-    requires { length nodes.now ≤ 128 }
+    requires { length nodes.now ≤ most_nodes }
     ensures reads { ReadsAs (λ r. r.0) result (left text.new) (costed_links_at places nodes.now [] (left text.old)) }
     ensures named { IfOk result (λ r. r.1 ≡ map (λ l. l.link.name) r.0) }
 {

@@ -1,5 +1,5 @@
 ghost use Rattle.std.specs.Prelude.{◌≡◌, ◌≤◌, ◌++◌, ◌∷◌, [], None, false, length, position, IfOk, IsTrue, OnOk};
-ghost use Rattle.net_core.specs.Terms.{are_same, is_named, is_plain};
+ghost use Rattle.net_core.{specs.Terms.{are_same, is_named, is_plain}, specs.Limits.name_bytes};
 ghost use Rattle.snd_tokens.specs.Terms.{EndAt};
 ghost use Rattle.text_kit.specs.Terms.{ReadsAs, placed, sound};
 
@@ -75,7 +75,7 @@ impl<'a> Names<'a> {
     ) -> Result<Name, ReadRefusal>
         requires some { 1 ≤ length word.now }
         requires plain { IsTrue (is_plain word.now) }
-        requires short { fault ≡ None → length word.now ≤ 255 }
+        requires short { fault ≡ None → length word.now ≤ name_bytes }
         requires free { fault ≡ None → is_named (λ n. n) word.now self.now ≡ false }
         ensures reads { ReadsAs (λ n. n) result (EndAt at) (placed at (EndAt at) (sound word.now fault)) }
         ensures last { IfOk result (λ n. self.new ≡ self.old ++ n ∷ []) }

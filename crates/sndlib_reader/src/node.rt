@@ -1,5 +1,5 @@
 ghost use Rattle.std.specs.Prelude.{◌≡◌, ◌≤◌, ◌<◌, None, false, IsTrue, IfOk, OnOk, Ok, [], length};
-ghost use Rattle.net_core.specs.Terms.{is_named};
+ghost use Rattle.net_core.{specs.Terms.is_named, specs.Limits.{most_nodes, name_bytes}};
 ghost use Rattle.snd_tokens.specs.Terms.{left, size};
 ghost use Rattle.text_kit.specs.Terms.{ReadsAs, TakesElement, word_at};
 ghost use Rattle.sndlib_reader.{specs.Reading.{ends_at, node_fault, node_named, native_nodes_at, other_node}, specs.inner.Nodes.parts_so_far};
@@ -7,6 +7,7 @@ ghost use Rattle.sndlib_reader.{specs.Reading.{ends_at, node_fault, node_named, 
 use crate::fault::{Limited, ReadKind, ReadRefusal};
 use crate::names::Names;
 use crate::skip::skip;
+use net_core::limits::MOST_NODES;
 use net_core::{List, Name, NodeId};
 use snd_tokens::{Cursor, Next};
 use std::alloc::Global;
@@ -14,19 +15,17 @@ use text_kit::names::{is_long, new_name_fault};
 use text_kit::refusal::bad;
 use text_kit::steps::{close, open, placed, word};
 
-const MAX_NODES: usize = 128;
-
 /// What is wrong with a word as the name of a node after these ones.
 fn node_fault(nodes: &Names, word: &[u8]) -> Option<ReadKind>
     ensures value { result ≡ node_fault nodes.now word.now }
-    ensures short { result ≡ None → length word.now ≤ 255 }
+    ensures short { result ≡ None → length word.now ≤ name_bytes }
     ensures free { result ≡ None → is_named (λ n. n) word.now nodes.now ≡ false }
 {
     new_name_fault(
         ReadKind::Limit(Limited::Name),
         ReadKind::DoubleName,
         ReadKind::Limit(Limited::Nodes),
-        MAX_NODES,
+        MOST_NODES,
         nodes.len(),
         nodes.has(word),
         word,
@@ -87,7 +86,7 @@ pub(crate) fn nodes<'a>(
 
 /// The place of the node that a word names.
 fn node_named(nodes: &Names, word: &[u8]) -> Result<u32, ReadKind>
-    requires { length nodes.now ≤ 128 }
+    requires { length nodes.now ≤ most_nodes }
     ensures { result ≡ node_named nodes.now word.now }
 {
     if is_long(word) {
@@ -101,7 +100,7 @@ fn node_named(nodes: &Names, word: &[u8]) -> Result<u32, ReadKind>
 
 /// Takes a node's name, and gives its place.
 fn node(nodes: &Names, text: &mut Cursor) -> Result<u32, ReadRefusal>
-    requires { length nodes.now ≤ 128 }
+    requires { length nodes.now ≤ most_nodes }
     ensures { ReadsAs (λ a. a) result (left text.new) (word_at ReadKind.Token ReadKind.Ended (node_named nodes.now) (left text.old)) }
 {
     let (at, word) = word(ReadKind::Token, ReadKind::Ended, text)?;
@@ -110,7 +109,7 @@ fn node(nodes: &Names, text: &mut Cursor) -> Result<u32, ReadRefusal>
 
 /// The place of the node that a word names, where that is another one than `a`.
 fn other_of(kind: ReadKind, nodes: &Names, a: u32, word: &[u8]) -> Result<u32, ReadKind>
-    requires { length nodes.now ≤ 128 }
+    requires { length nodes.now ≤ most_nodes }
     ensures { result ≡ other_node kind nodes.now a word.now }
 {
     let b = node_named(nodes, word)?;
@@ -122,7 +121,7 @@ fn other_of(kind: ReadKind, nodes: &Names, a: u32, word: &[u8]) -> Result<u32, R
 
 /// Takes another node's name than that of `a`, and gives its place.
 fn other_node(kind: ReadKind, nodes: &Names, a: u32, text: &mut Cursor) -> Result<u32, ReadRefusal>
-    requires { length nodes.now ≤ 128 }
+    requires { length nodes.now ≤ most_nodes }
     ensures { ReadsAs (λ b. b) result (left text.new) (word_at ReadKind.Token ReadKind.Ended (other_node kind nodes.now a) (left text.old)) }
 {
     let (at, word) = word(ReadKind::Token, ReadKind::Ended, text)?;
@@ -136,7 +135,7 @@ pub(crate) fn ends(
     nodes: &Names,
     text: &mut Cursor,
 ) -> Result<(NodeId, NodeId), ReadRefusal>
-    requires { length nodes.now ≤ 128 }
+    requires { length nodes.now ≤ most_nodes }
     ensures { ReadsAs (λ ends. ends) result (left text.new) (ends_at kind nodes.now (left text.old)) }
 {
     open(ReadKind::Token, ReadKind::Ended, text)?;

@@ -1,6 +1,6 @@
 ghost use Rattle.std.specs.Prelude.{◌≡◌, ◌≤◌, ℕ, List, [], length, map, IfOk, IfErr, Ok, Err, codes};
 ghost use Rattle.snd_tokens.specs.Terms.{Text, left};
-ghost use Rattle.net_core.{specs.Terms.IsNetwork, specs.declared.network.Network.{Network as Net}, specs.declared.demand.Demand.{Demand as Dem}};
+ghost use Rattle.net_core.{specs.Terms.IsNetwork, specs.declared.network.Network.{Network as Net}, specs.declared.demand.Demand.{Demand as Dem}, specs.Limits.most_nodes};
 ghost use Rattle.text_kit.{specs.Terms.{ReadsAllAs, ReadsAs, word_at}, specs.declared.refusal.Refusal.Refusal};
 ghost use Rattle.sndlib_reader.{specs.declared.fault.ReadKind.ReadKind, specs.NetworkFiles.{IsNoEarlyFault, Spells, network_in, network_of}, specs.inner.Refused.was_too_fine, specs.Spelling.parts_of, specs.Reading.{after_links_at, after_nodes_at, native_demands_at, is_meta, costed_links_at, parts, native_nodes_at, native_section_at, native_sections_at, node_section_at, start_at}};
 
@@ -66,7 +66,7 @@ fn link_section<'a>(
     nodes: &Names,
     text: &mut Cursor<'a>,
 ) -> Result<(List<CostedLink>, Names<'a>), ReadRefusal>
-    requires { length nodes.now ≤ 128 }
+    requires { length nodes.now ≤ most_nodes }
     ensures reads { ReadsAs (λ r. r.0) result (left text.new) (native_section_at (codes "LINKS") (costed_links_at places nodes.now []) (left text.old)) }
     ensures named { IfOk result (λ r. r.1 ≡ map (λ l. l.link.name) r.0) }
 {
@@ -83,7 +83,7 @@ fn demand_section<'a>(
     nodes: &Names,
     text: &mut Cursor<'a>,
 ) -> Result<(Demands, Names<'a>), ReadRefusal>
-    requires { length nodes.now ≤ 128 }
+    requires { length nodes.now ≤ most_nodes }
     ensures reads { ReadsAs (λ r. r.0) result (left text.new) (native_section_at (codes "DEMANDS") (native_demands_at places nodes.now []) (left text.old)) }
     ensures named { IfOk result (λ r. r.1 ≡ map (λ d. d.name) r.0) }
 {
@@ -133,7 +133,7 @@ fn after_links(
     links: &Names,
     text: &mut Cursor,
 ) -> Result<Demands, ReadRefusal>
-    requires { length nodes.now ≤ 128 }
+    requires { length nodes.now ≤ most_nodes }
     ensures { ReadsAs (λ demands. demands) result (left text.new) (after_links_at places nodes.now links.now (left text.old)) }
 {
     let (demands, names) = demand_section(alloc, places, nodes, text)?;
@@ -151,7 +151,7 @@ fn after_nodes(
     nodes: &Names,
     text: &mut Cursor,
 ) -> Result<(List<CostedLink>, Demands), ReadRefusal>
-    requires { length nodes.now ≤ 128 }
+    requires { length nodes.now ≤ most_nodes }
     ensures reads { ReadsAs (λ r. r) result (left text.new) (after_nodes_at places nodes.now (left text.old)) }
     ensures links { IfOk result (λ r. (rest : Text)
         × (native_section_at (codes "LINKS") (costed_links_at places nodes.now []) (left text.old) ≡ Ok (r.0, rest))) }

@@ -1,6 +1,6 @@
 -- edits of demands as items of a text, and items between parentheses
 use Rattle.std.specs.Prelude.{ℕ, ◌≤◌, ◌<◌, ◌^◌, List, [], ◌∷◌, ◌++◌, length, codes}
-use Rattle.net_core.{specs.declared.journal.Edit.Edit, specs.declared.journal.Edit.TheVariants.{Set, Add, Drop}, specs.declared.places.Places.Places}
+use Rattle.net_core.{specs.declared.journal.Edit.Edit, specs.declared.journal.Edit.TheVariants.{Set, Add, Drop}, specs.declared.places.Places.Places, specs.Limits.name_bytes}
 use Rattle.text_kit.specs.Items.{Item, Verbatim, Money, Opening, Closing}
 
 -- items between parentheses
@@ -23,6 +23,6 @@ edit_items p (Drop name) = Verbatim (codes "drop") ∷ Verbatim name ∷ []
 
 -- names have at most 255 bytes, and a need is below 2^40 units of the network
 abbrev pub IsEditInForm : Edit → Type 0
-IsEditInForm (Set name need) = (length name ≤ 255) × (need < 2 ^ 40)
-IsEditInForm (Add name from to need) = (length name ≤ 255) × (length from ≤ 255) × (length to ≤ 255) × (need < 2 ^ 40)
-IsEditInForm (Drop name) = length name ≤ 255
+IsEditInForm (Set name need) = (length name ≤ name_bytes) × (need < 2 ^ 40)
+IsEditInForm (Add name from to need) = (length name ≤ name_bytes) × (length from ≤ name_bytes) × (length to ≤ name_bytes) × (need < 2 ^ 40)
+IsEditInForm (Drop name) = length name ≤ name_bytes

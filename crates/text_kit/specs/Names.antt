@@ -1,11 +1,11 @@
 -- words that are names, of at most 255 bytes
 use Rattle.std.specs.Prelude.{ℕ, nat_lt, Bool, if◌then◌else◌, List, length, position, Option, Some, None, Result, Ok, Err}
-use Rattle.net_core.specs.Terms.{are_same, is_named}
+use Rattle.net_core.{specs.Terms.{are_same, is_named}, specs.Limits.name_bytes}
 use Rattle.text_kit.specs.Reading.{sound}
 
 -- a name that is too long has this fault
 abbrev pub long_name_fault : {K : Type 0} → K → List ℕ → Option K
-long_name_fault long w = if nat_lt 255 (length w) then Some long else None
+long_name_fault long w = if nat_lt name_bytes (length w) then Some long else None
 
 -- any name
 abbrev pub any_name : {K : Type 0} → K → List ℕ → Result (List ℕ) K
@@ -14,7 +14,7 @@ any_name long w = sound w (long_name_fault long w)
 -- a new name may be too long; or it may equal an earlier one; or there may already be as many as are allowed
 abbrev pub new_name_fault : {K : Type 0} → K → K → K → ℕ → ℕ → Bool → List ℕ → Option K
 new_name_fault long double limit most count taken w =
-    if nat_lt 255 (length w) then Some long
+    if nat_lt name_bytes (length w) then Some long
     else (if taken then Some double
     else (if nat_lt count most then None else Some limit))
 
@@ -31,4 +31,4 @@ found_or unknown None = Err unknown
 -- the place of the first of these that has the name
 abbrev pub named_place : {X K : Type 0} → (X → List ℕ) → K → K → List X → List ℕ → Result ℕ K
 named_place name_of long unknown xs w =
-    if nat_lt 255 (length w) then Err long else found_or unknown (position (λ x. are_same (name_of x) w) xs)
+    if nat_lt name_bytes (length w) then Err long else found_or unknown (position (λ x. are_same (name_of x) w) xs)

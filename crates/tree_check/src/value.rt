@@ -1,6 +1,7 @@
 ghost use Rattle.std.specs.Prelude.{◌≡◌, ℕ, ◌+◌, ◌*◌, ◌-◌, ◌<◌, ◌≤◌, ◌^◌, All, IfSome, IsNone, IsTrue, MatchOption, length};
 ghost use Rattle.plan_terms.specs.Terms.{IsBound, IsModule};
 ghost use Rattle.line_check.specs.Testing.{IsSoundAt, weighed};
+ghost use Rattle.net_core.specs.Limits.{most_links};
 ghost use Rattle.tree_check.{specs.BoxValues.{AreNear, IsBoxValue, certain_setup, certain_setups, installs_always}, specs.inner.Weighing.{AreGainsOf, IsValueIn, total_of}};
 
 use crate::boxes::Span;
@@ -38,7 +39,7 @@ fn setup_at(links: &[Link], boxed: &[List<Span>], e: usize) -> u128
 /// The setups of the links of which all counts of the box install something.
 #[tactic(auto, using(crate::proofs::GainsMade::below_next))]
 fn certain_setups(links: &[Link], boxed: &[List<Span>]) -> u128
-    requires few { length links.now ≤ 256 }
+    requires few { length links.now ≤ most_links }
     requires sound { All (λ l. (length l.modules ≤ 16) × (l.setup < 2 ^ 40) × All IsModule l.modules) links.now }
     ensures setups { result ≡ certain_setups links.now boxed.now }
     ensures low { result ≤ 2 ^ 48 }
@@ -108,7 +109,7 @@ pub(crate) fn cert_value(
     boxed: &[List<Span>],
     cert: &BoxCert,
 ) -> Option<u128>
-    requires few { length links.now ≤ 256 }
+    requires few { length links.now ≤ most_links }
     requires sound { All (λ l. (length l.modules ≤ 16) × (l.setup < 2 ^ 40) × All IsModule l.modules) links.now }
     ensures none { IsNone result → (v : ℕ) → All (λ m. IsSoundAt tested.now m.cut) cert.now.lines
         → IsBoxValue links.now boxed.now cert.now.den (weighed tested.now cert.now.lines) v → ⊥ }

@@ -2,8 +2,8 @@ ghost use Rattle.std.{specs.Prelude.{◌∷◌, [], OnOk, length, map, zip}, spe
 ghost use Rattle.report_comments.specs.Comments.{AddsLines, AddsSpaced};
 ghost use Rattle.tree_lines.specs.TreeLines.{box_cut_items};
 
-use report_comments::puts::{put_field, put_lengths, put_whole};
 use net_core::{Bytes, CutLine, NoMemory};
+use report_comments::puts::{put_field, put_lengths, put_whole};
 
 /// Puts the words of a cut last.
 fn put_words(text: &mut Bytes, index: usize, cut: &CutLine) -> Result<(), NoMemory>

@@ -3,8 +3,8 @@ ghost use Rattle.text_kit.specs.Terms.{Verbatim};
 ghost use Rattle.report_comments.specs.Comments.{AddsLines, AddsSpaced};
 ghost use Rattle.tree_lines.specs.TreeLines.{line_items, multiplier_items, table_word};
 
-use report_comments::puts::{put_field, put_lengths, put_whole, put_word};
 use net_core::{Bytes, NoMemory};
+use report_comments::puts::{put_field, put_lengths, put_whole, put_word};
 use tree_check::{Line, Multiplier, TableKind};
 
 /// Puts numerators last, each with the index of its line.

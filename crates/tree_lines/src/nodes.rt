@@ -6,8 +6,8 @@ ghost use Rattle.tree_check.specs.declared.proof.Node.TheVariants.{Stuck as Stuc
 ghost use Rattle.tree_lines.specs.TreeLines.{IsToldNode, box_certificate_items, node_items};
 
 use crate::lines::put_multipliers;
-use report_comments::puts::{put_field, put_whole, put_word};
 use net_core::{Bytes, Demand, Evidence, Link, LinkId, NoMemory};
+use report_comments::puts::{put_field, put_whole, put_word};
 use report_comments::{put_evidence, put_link};
 use tree_check::{BoxCert, Node};
 

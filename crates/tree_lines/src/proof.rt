@@ -6,8 +6,8 @@ ghost use Rattle.tree_lines.specs.TreeLines.{IsToldProof, proof_lines, verdict_i
 use crate::cuts::put_cuts;
 use crate::lines::put_lines;
 use crate::nodes::put_nodes;
-use report_comments::puts::put_word;
 use net_core::{Bytes, Demand, Link, NoMemory, Places};
+use report_comments::puts::put_word;
 use text_kit::write::put_money_word;
 use tree_check::{Proof, Verdict};
 

@@ -1,6 +1,7 @@
 ghost use Rattle.std.specs.Prelude.{◌≡◌, ◌+◌, ◌*◌, ◌≤◌, ◌<◌, ◌^◌, IfOk, IfSome, MatchOption, None, OnOk, Some, length, slice_set};
 ghost use Rattle.tree_check.specs.Boxes.{lower_side, upper_side, whole_box};
 ghost use Rattle.tree_boxes.specs.Terms.{AreCheaperCounts, IsFoundAt, IsOpenBox, IsSearchBox, HasLearned, IsAim, IsSearch, aimed, handed_in, most_entries};
+ghost use Rattle.net_core.specs.Limits.{most_splits};
 ghost use Rattle.tree_search.{specs.inner.Growing.{AreSidesOf, IsChoiceOf, IsFirstTree, IsGrowing, IsGrownTo, IsGrownTree, IsTurnTo, growth_of, sides_with}, specs.inner.Places.IsOpenPlace};
 
 use crate::choice::{Choice, choose};
@@ -310,7 +311,7 @@ fn grow<G: Gate>(
     requires aim { IsAim search.old.known.entries aim.now }
     requires search { IsSearch (aimed aim.now) search.old }
     requires room { most_entries search.old + 2 * limit < 2 ^ 31 }
-    requires limit { limit ≤ 9999 }
+    requires limit { limit ≤ most_splits }
     requires growing { IsGrowing (aimed aim.now) aim.now.plan.now (handed_in search.old) search.old.known.tested 0 tree.old.twigs.items }
     ensures search { OnOk result (IsSearch (aimed aim.now) search.new) }
     ensures learned { OnOk result (HasLearned search.old search.new) }
@@ -355,7 +356,7 @@ fn grown_on<G: Gate>(
     requires aim { IsAim search.old.known.entries aim.now }
     requires search { IsSearch (aimed aim.now) search.old }
     requires room { most_entries search.old + 2 * limit + 1 < 2 ^ 31 }
-    requires limit { limit ≤ 9999 }
+    requires limit { limit ≤ most_splits }
     ensures search { OnOk result (IsSearch (aimed aim.now) search.new) }
     ensures learned { OnOk result (HasLearned search.old search.new) }
     ensures few { OnOk result (length search.new.known.entries ≤ most_entries search.old + 2 * limit + 1) }
@@ -382,7 +383,7 @@ pub(crate) fn grown<G: Gate>(
     requires aim { IsAim search.old.known.entries aim.now }
     requires search { IsSearch (aimed aim.now) search.old }
     requires room { most_entries search.old + 2 * limit + 1 < 2 ^ 31 }
-    requires limit { limit ≤ 9999 }
+    requires limit { limit ≤ most_splits }
     ensures search { OnOk result (IsSearch (aimed aim.now) search.new) }
     ensures learned { OnOk result (HasLearned search.old search.new) }
     ensures few { OnOk result (length search.new.known.entries ≤ most_entries search.old + 2 * limit + 1) }

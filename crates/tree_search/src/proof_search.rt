@@ -2,6 +2,7 @@ ghost use Rattle.std.specs.Prelude.{◌≡◌, [], ◌+◌, ◌*◌, ◌^◌, �
 ghost use Rattle.plan_terms.specs.Terms.{AreDemands, IsSurvivable, case, case_of};
 ghost use Rattle.plan_types.specs.Terms.{IsCertifiedPlan};
 ghost use Rattle.tree_boxes.specs.Terms.{IsRoutedPlan, IsCheaperPlan, AreCheaperCounts, IsKnown, IsOwnCert, IsSearch, IsSoundEntry, IsTestOf, cuts_among, handed_in};
+ghost use Rattle.net_core.specs.Limits.{most_splits};
 ghost use Rattle.tree_search.{specs.FewSplits.AreCharged, specs.Proving.{AreHandedCuts, IsProofOf, ShowsBound, ShowsCheapest}, specs.inner.Making.{AreFirstOf, IsProofMade, IsProofWith}};
 
 use crate::growth::{Growth, grown};
@@ -137,7 +138,7 @@ fn proved<'a, G: Gate>(
     limit: u32,
     gate: &G,
 ) -> Result<Proof, NoMemory>
-    requires limit { limit ≤ 9999 }
+    requires limit { limit ≤ most_splits }
     requires survivable { IsSurvivable (case_of instance.now) }
     requires demands { plan.demands ≡ instance.now.demands.now }
     requires routed { IsRoutedPlan (case_of instance.now) plan }
@@ -230,7 +231,7 @@ fn searched_from<'a, G: Gate>(
     divides: bool,
     gate: &G,
 ) -> Result<Proof, NoMemory>
-    requires limit { limit ≤ 9999 }
+    requires limit { limit ≤ most_splits }
     requires survivable { IsSurvivable (case_of instance.now) }
     requires demands { plan.demands ≡ instance.now.demands.now }
     requires routed { IsRoutedPlan (case_of instance.now) plan }
@@ -258,7 +259,7 @@ fn searched<G: Gate>(
     divides: bool,
     gate: &G,
 ) -> Result<Proof, NoMemory>
-    requires limit { limit ≤ 9999 }
+    requires limit { limit ≤ most_splits }
     requires survivable { IsSurvivable (case_of instance.now) }
     requires demands { plan.demands ≡ instance.now.demands.now }
     requires routed { IsRoutedPlan (case_of instance.now) plan }
@@ -307,7 +308,7 @@ pub fn prove<G: Gate>(
     limit: u32,
     gate: &G,
 ) -> Result<Proof, NoMemory>
-    requires limit { limit ≤ 9999 }
+    requires limit { limit ≤ most_splits }
     requires charged { AreCharged net.now.links }
     requires belong { AreDemands (length net.now.nodes) plan.demands }
     requires survivable { IsSurvivable (case net.now states.now plan.demands) }
@@ -352,7 +353,7 @@ pub fn prove_instance<G: Gate>(
     divides: bool,
     gate: &G,
 ) -> Result<Proof, NoMemory>
-    requires limit { limit ≤ 9999 }
+    requires limit { limit ≤ most_splits }
     requires survivable { IsSurvivable (case_of instance.now) }
     requires demands { plan.demands ≡ instance.now.demands.now }
     requires routed { IsRoutedPlan (case_of instance.now) plan }

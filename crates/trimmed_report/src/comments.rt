@@ -3,8 +3,8 @@ ghost use Rattle.trim_plan.specs.Terms.{Cut as CutStop};
 ghost use Rattle.report_comments.specs.Comments.{AddsLines, AddsSpaced};
 ghost use Rattle.trimmed_report.specs.BlockLines.{IsTold, block_items, stop_items};
 
-use report_comments::puts::{put_field, put_lengths, put_whole, put_word};
 use net_core::{Bytes, CutLine, Demand, Link, NoMemory};
+use report_comments::puts::{put_field, put_lengths, put_whole, put_word};
 use report_comments::{put_evidence, put_link};
 use trim_plan::Block;
 use trim_plan::able_counts::Stop;

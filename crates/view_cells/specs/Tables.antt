@@ -20,4 +20,3 @@ pub record HasRowsAbove (above below : List (List (List ℕ))) (text : List ℕ)
   pub has_upper : HasRows above upper
   pub has_lower : HasRows below lower
   pub printed : text ≡ upper ++ lower
-

@@ -8,10 +8,10 @@ use crate::flows::put_flows;
 use crate::links::put_links;
 use crate::put_csv;
 use crate::sheet::{PlanNumber, sheet_columns};
-use plan_view::Sheet;
 use crate::states::put_states;
 use net_core::{Bytes, Instance, List, NoMemory, Problem};
 use plan_types::{Outcome, Plan};
+use plan_view::Sheet;
 use std::alloc::Global;
 use text_layout::Row;
 

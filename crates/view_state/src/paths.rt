@@ -2,9 +2,9 @@ ghost use Rattle.std.{specs.Prelude.{◌≡◌, ◌≤◌, ◌++◌, ◌∷◌, 
 ghost use Rattle.view_cells.specs.Terms.{HasRows, IsApart};
 ghost use Rattle.view_state.specs.StateTables.{path_cells, path_heads};
 
-use plan_view::FlowRow;
 use net_core::{Bytes, Demand, List, Network, NoMemory};
 use plan_report::demand_name;
+use plan_view::FlowRow;
 use std::alloc::Global;
 use text_layout::{Column, Row};
 use view_cells::cells::{push_joined, push_money, push_three, push_words};

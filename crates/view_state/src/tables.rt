@@ -6,10 +6,9 @@ ghost use Rattle.view_state.specs.StateViews.{HasStateTables, ShowsStateRows, st
 
 use crate::loads::loads_text;
 use crate::paths::paths_text;
-use plan_view::{FlowRow, flow_rows};
 use net_core::{Bytes, Instance, List, NoMemory, Routing};
 use plan_types::Plan;
-use plan_view::{LoadRow, load_rows};
+use plan_view::{FlowRow, LoadRow, flow_rows, load_rows};
 use std::alloc::Global;
 
 /// The rows of the flows of a routing.

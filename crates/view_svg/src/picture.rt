@@ -14,8 +14,8 @@ use net_core::{
     Bytes, Flow, Instance, LinkId, List, Listed, Network, NoMemory, Routing, StateId, States,
 };
 use node_places::Place;
-use plan_report::state_name;
 use picture_layout::{Layout, layout_of};
+use plan_report::state_name;
 use plan_types::Plan;
 use plan_view::{LinkRow, link_rows};
 use std::alloc::Global;

@@ -1,5 +1,5 @@
 ghost use Rattle.std.specs.Prelude.{◌≡◌, ◌≢◌, ◌≤◌, ◌<◌, ◌+◌, ◌*◌, ◌^◌, ◌↔◌, All, AllPairs, IsTrue, length, sum_by};
-ghost use Rattle.net_core.specs.Terms.{AreDemands, IsDemand};
+ghost use Rattle.net_core.{specs.Terms.{AreDemands, IsDemand}, specs.Limits.most_demands};
 
 use net_core::Demand;
 
@@ -36,7 +36,7 @@ fn have_different_names(demands: &[Demand]) -> bool
 
 /// The sum of the needs.
 fn total(demands: &[Demand]) -> u128
-    requires { length demands.now ≤ 2048 }
+    requires { length demands.now ≤ most_demands }
     ensures { result ≡ sum_by (λ d. d.need) demands.now }
 {
     let mut total = 0;

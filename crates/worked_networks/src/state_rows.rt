@@ -1,5 +1,5 @@
 ghost use Rattle.std.specs.Prelude.{◌≡◌, ◌≤◌, ◌<◌, ◌+◌, ◌⊎◌, [], ◌∷◌, IfOk, IfErr, List as Seq, length, map};
-ghost use Rattle.net_core.{specs.declared.states.Listed.{Listed as State}, specs.Terms.{AreStates, single_state}};
+ghost use Rattle.net_core.{specs.declared.states.Listed.{Listed as State}, specs.Terms.{AreStates, single_state}, specs.Limits.most_links};
 ghost use Rattle.worked_networks.specs.Tables.{AreSingles, RefusesStates, failed_of};
 
 use crate::fault::WorkedFault;
@@ -74,7 +74,7 @@ fn single(alloc: Global, id: LinkId, link: &Link) -> Result<Listed, NoMemory>
 
 /// The states that each fail one link, under its name.
 fn singles(alloc: Global, links: &[Link]) -> Result<List<Listed>, NoMemory>
-    requires { length links.now ≤ 256 }
+    requires { length links.now ≤ most_links }
     ensures { IfOk result (AreSingles links.now) }
 {
     let mut listed = List::new(alloc);

@@ -4,9 +4,8 @@
 mod run;
 mod teller;
 
-use outside_io::Status;
 use net_core::NoMemory;
-use outside_io::{FileShelf, StreamSink};
+use outside_io::{FileShelf, Status, StreamSink};
 use run::run;
 use std::process::ExitCode;
 use std::{env, io};

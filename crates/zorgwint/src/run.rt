@@ -3,8 +3,7 @@ ghost use Rattle.input_files.specs.Shelves.{KeepsShelf};
 ghost use Rattle.people_commands.specs.Endings.{EndsForPeople, PutsBoth};
 ghost use Rattle.outside_io.specs.declared.status.Status.{Status};
 
-use outside_io::Status;
-use outside_io::{Shelf, Sink};
+use outside_io::{Shelf, Sink, Status};
 use people_commands::run as commands;
 use plan_progress::Teller;
 use std::alloc::Global;

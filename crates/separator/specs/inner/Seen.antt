@@ -2,6 +2,7 @@
 use Rattle.std.{specs.Prelude.{ℕ, zero, suc, ◌≤◌, List, [], ◌∷◌, drop, length, map, refl, take}, proofs.Common.{◌∙◌, ap, inl, inr, subst, sym}, proofs.Math.Logic.∥∥₁_map, proofs.lemmas.List.length-map}
 use Rattle.plan_terms.specs.Terms.{Demand, Entry, Edited, Pooled, Network, States, case}
 use Rattle.cut_pool.{specs.declared.pooled_cut.PooledCut.PooledCut, specs.Terms.{IsBoardAfter, IsLegalAfter, cut_of_line, line_of_pooled}}
+use Rattle.net_core.specs.Limits.{most_cuts, most_entries}
 use Rattle.separator.specs.Separators.{IsCutEntry, IsPartOf, IsSeenHistory}
 
 part_more : {X : Type 0} (xs ys : List X) (y : X) → IsPartOf xs ys → IsPartOf xs (y ∷ ys)
@@ -26,7 +27,7 @@ legal_cut net states opening before (Pooled index state lengths) some legal = le
 
 pub board_is_seen : (n : ℕ) (net : Network) (states : States) (opening : List Demand) (entries : List Entry) (demands : List Demand) (version : ℕ)
     (pool : List PooledCut)
-    → length entries ≤ 65536 → length pool ≤ 4096
+    → length entries ≤ most_entries → length pool ≤ most_cuts
     → ∥ IsBoardAfter (case net states opening) entries demands version (map line_of_pooled pool) ∥₁
     → ∥ IsSeenHistory net states (record { history = entries; own = drop n entries }) ∥₁
 board_is_seen n net states opening entries demands version pool few few_cuts stands = ∥∥₁_map stands (λ b. record {

@@ -8,6 +8,7 @@ use Rattle.cut_pool.specs.Terms.{opening_case, cuts_of}
 use Rattle.session_script.{specs.declared.script.Command.Command, specs.Terms.{IsCommandInForm, is_plan}}
 use Rattle.turn_lock.specs.Passes.{Seen}
 use Rattle.board_desk.{specs.declared.caller.Caller.Caller, specs.Turns.{IsAtDesk, board_made, caller_places}}
+use Rattle.net_core.specs.Limits.{most_entries}
 use Rattle.session_run.{specs.Transcripts.{IsOnePlan, IsPlanned, RunsFrom, acts_of, edit_asked, edit_made, outcomes_of}, specs.declared.setting.Setting.Setting, specs.declared.setting.Stop.Stop, specs.declared.setting.Stop.TheVariants.{NoMemory, Full}}
 
 -- the command is of a caller from `low` on and below `high`
@@ -46,7 +47,7 @@ pub record HaveRun (p : Case) (seen : Seen Entry) (commands : List Command) (out
 -- a caller finds no room only where the history has 65,536 entries
 abbrev pub IsFullAt : List Entry → Stop → Type 0
 IsFullAt seen NoMemory = Unit {0}
-IsFullAt seen Full = 65536 ≤ length seen
+IsFullAt seen Full = most_entries ≤ length seen
 
 -- the result of running these commands: they have run, or some caller has stopped, with few own entries beside pooled cuts
 abbrev pub EndsRun : {A : Type 0} → Case → List Command → Seen Entry → Result (Vec Outcome A) Stop → Type 0
