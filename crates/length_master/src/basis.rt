@@ -1,9 +1,10 @@
 use crate::entrant::{Entrant, entering, set_products};
 use crate::leaving_row::leaving;
 use crate::line::Line;
-use crate::row::{KeptRow, combine, enter, unit_row, worth};
+use crate::row::{KeptRow, combine, enter, unit_row};
 use net_core::{List, NoMemory};
 use std::alloc::Global;
+use warm_basis::worth;
 
 /// The most turns that are taken in a call.
 const MOST_TURNS: usize = 20_000;

@@ -2,6 +2,7 @@ use crate::slot::Slot;
 use checked_fraction::gcd;
 use net_core::{List, NoMemory};
 use std::alloc::Global;
+use warm_basis::{bits_of, divide, mix};
 
 /// Numbers of a row are below this; with wider ones nothing is found.
 const WIDE: u128 = 1 << 62;
@@ -61,17 +62,6 @@ pub(crate) fn part(number: u128, by: u128) -> u128 {
     if by > 1 { number / by } else { number }
 }
 
-/// What is taken of a row's column, from the bounds of all rows.
-pub(crate) fn worth(nums: &[i64], bounds: &[i128]) -> i128 {
-    let mut sum = 0i128;
-    for e in 0..nums.len() {
-        if e < bounds.len() && nums[e] != 0 {
-            sum = sum.wrapping_add((nums[e] as i128).wrapping_mul(bounds[e]));
-        }
-    }
-    sum
-}
-
 /// A number of the row less that of another, each taken some times.
 fn mixed(number: i64, times: i128, other: i64, less: i128) -> i128 {
     (number as i128)
@@ -100,7 +90,7 @@ fn common_of(nums: &[i64], times: i128, other: &[i64], less: i128, whole: u128) 
 }
 
 /// Takes `less` times another row from `times` this row, over a common divisor.
-fn mix(nums: &mut [i64], times: i128, other: &[i64], less: i128, shared: u128) {
+fn mix_wide(nums: &mut [i64], times: i128, other: &[i64], less: i128, shared: u128) {
     for e in 0..nums.len() {
         if e < other.len() {
             nums[e] = word(over(mixed(nums[e], times, other[e], less), shared));
@@ -117,29 +107,9 @@ fn common(a: u64, b: u64) -> u64 {
     }
 }
 
-/// The bits of all numbers of a row.
-fn bits_of(nums: &[i64]) -> u64 {
-    let mut bits = 0;
-    for e in 0..nums.len() {
-        bits |= nums[e].unsigned_abs();
-    }
-    bits
-}
-
-/// Takes `less` times another row from `times` this row, in words.
-fn mix_words(nums: &mut [i64], times: i64, other: &[i64], less: i64) {
-    for e in 0..nums.len() {
-        if e < other.len() {
-            nums[e] = nums[e]
-                .wrapping_mul(times)
-                .wrapping_sub(other[e].wrapping_mul(less));
-        }
-    }
-}
-
 /// Mixes rows of narrow numbers, and answers the divisor that they and the denominator have lost; `None` where a number stays too wide.
 fn combine_words(row: &mut KeptRow, times: i64, other: &[i64], less: i64) -> Option<u128> {
-    mix_words(row.nums.items_mut(), times, other, less);
+    mix(row.nums.items_mut(), times, less, other);
     let whole = row.den.wrapping_mul(times);
     let shared = shared_of(row.nums.items(), whole.unsigned_abs());
     let by = word(shared as i128);
@@ -159,7 +129,7 @@ fn combine_words(row: &mut KeptRow, times: i64, other: &[i64], less: i64) -> Opt
 fn combine_wide(row: &mut KeptRow, times: i128, other: &[i64], less: i128) -> Option<u128> {
     let whole = (row.den as i128).wrapping_mul(times);
     let shared = common_of(row.nums.items(), times, other, less, whole.unsigned_abs())?;
-    mix(row.nums.items_mut(), times, other, less, shared);
+    mix_wide(row.nums.items_mut(), times, other, less, shared);
     row.den = word(over(whole, shared));
     Some(shared)
 }
@@ -204,15 +174,6 @@ fn shared_of(nums: &[i64], one: u64) -> u64 {
         shared = common(num.unsigned_abs(), shared);
     }
     shared
-}
-
-/// Divides each number by a positive one; by another one it leaves them.
-fn divide(nums: &mut [i64], by: i64) {
-    for e in 0..nums.len() {
-        if by > 1 {
-            nums[e] /= by;
-        }
-    }
 }
 
 /// The row of the column that has entered; `None` where its product is too wide.

@@ -24,6 +24,7 @@ mod routing;
 mod row;
 mod share;
 mod shortage;
+mod whole_numbers;
 
 pub use basis::Basis;
 pub use column::{Column, along, beyond_key};
@@ -33,3 +34,4 @@ pub use routing::routing_of;
 pub use row::BasisRow;
 pub use share::{Share, is_counted, need_of, no_places, shares_of};
 pub use shortage::{Shortage, is_short, short_in_all, shortage_of};
+pub use whole_numbers::{bits_of, divide, mix, worth};

@@ -1,5 +1,6 @@
 use crate::column::Column;
 use crate::numbers::{common, over, signed, wide_over};
+use crate::whole_numbers::{bits_of, divide, mix, worth};
 use net_core::{Copied, List, NoMemory};
 use std::alloc::Global;
 
@@ -55,17 +56,6 @@ impl BasisRow {
     }
 }
 
-/// The product of a row's numbers with what the keys leave of the links.
-fn worth(nums: &[i64], rest: &[i128]) -> i128 {
-    let mut sum = 0i128;
-    for e in 0..nums.len() {
-        if e < rest.len() && nums[e] != 0 {
-            sum = sum.wrapping_add((nums[e] as i128).wrapping_mul(rest[e]));
-        }
-    }
-    sum
-}
-
 /// The values at what the keys leave of the links.
 pub(crate) fn set_values(rows: &mut [BasisRow], rest: &[i128]) {
     for i in 0..rows.len() {
@@ -87,22 +77,6 @@ fn common_of(nums: &[i64], den: u64) -> u64 {
     shared
 }
 
-/// Divides each number.
-fn divide(nums: &mut [i64], by: i64) {
-    for e in 0..nums.len() {
-        nums[e] = over(nums[e], by);
-    }
-}
-
-/// The bits of all numbers.
-fn bits_of(nums: &[i64]) -> u64 {
-    let mut bits = 0;
-    for e in 0..nums.len() {
-        bits |= nums[e].unsigned_abs();
-    }
-    bits
-}
-
 /// Brings a row to lowest terms; `None` where its numbers are too wide.
 pub(crate) fn lower(row: &mut BasisRow) -> Option<()> {
     let shared = common_of(row.nums.items(), row.den.unsigned_abs());
@@ -115,26 +89,6 @@ pub(crate) fn lower(row: &mut BasisRow) -> Option<()> {
     }
     signed(bits_of(row.nums.items()) | row.den.unsigned_abs())?;
     Some(())
-}
-
-/// Takes `less` times another row from `times` this row.
-fn mix(nums: &mut [i64], times: i64, less: i64, other: &[i64]) {
-    let count = nums.len().min(other.len());
-    if times == 1 && less == 1 {
-        for e in 0..count {
-            nums[e] = nums[e].wrapping_sub(other[e]);
-        }
-    } else if times == 1 && less == -1 {
-        for e in 0..count {
-            nums[e] = nums[e].wrapping_add(other[e]);
-        }
-    } else {
-        for e in 0..count {
-            nums[e] = nums[e]
-                .wrapping_mul(times)
-                .wrapping_sub(other[e].wrapping_mul(less));
-        }
-    }
 }
 
 /// A row after a turn at another one, whose product is positive.
