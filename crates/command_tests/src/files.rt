@@ -1,7 +1,8 @@
 use crate::measured::MEASURED;
-use net_core::{List, Name};
+use net_core::List;
 use outside_io::MemFile;
 use std::alloc::Global;
+use worked_networks::{File, put_files};
 
 pub(crate) const TRIANGLE: &[u8] = b"?SNDlib native format; type: network; version: 1.0
 NODES ( A B C )
@@ -259,7 +260,6 @@ caller 9 plan
 ";
 
 /// The name and the bytes of a file.
-pub(crate) type File<'a> = (&'a str, &'a [u8]);
 
 /// Networks, scripts and flows that the commands name.
 const NETWORKS_AND_SCRIPTS: [File<'static>; 17] = [
@@ -302,29 +302,14 @@ const FURTHER_FILES: [File<'static>; 16] = [
     ("last", LAST_FAILS),
 ];
 
-/// Adds a file.
-fn put(held: &mut List<MemFile>, alloc: Global, file: File) -> Option<()> {
-    let name = Name::new(alloc, file.0.as_bytes()).ok()?;
-    let bytes = List::from_slice(alloc, file.1).ok()?;
-    held.push(MemFile { name, bytes }).ok()
-}
-
-/// Adds files.
-pub(crate) fn put_all(held: &mut List<MemFile>, alloc: Global, files: &[File]) -> Option<()> {
-    for file in files {
-        put(held, alloc, *file)?;
-    }
-    Some(())
-}
-
 /// Adds the networks, scripts and flows.
 fn put_networks(held: &mut List<MemFile>, alloc: Global) -> Option<()> {
-    put_all(held, alloc, &NETWORKS_AND_SCRIPTS)
+    put_files(held, alloc, &NETWORKS_AND_SCRIPTS)
 }
 
 /// Adds the further files.
 fn put_further(held: &mut List<MemFile>, alloc: Global) -> Option<()> {
-    put_all(held, alloc, &FURTHER_FILES)
+    put_files(held, alloc, &FURTHER_FILES)
 }
 
 /// All files, the measured network, and the given ones.
@@ -332,7 +317,7 @@ pub(crate) fn all_files(alloc: Global, more: &[File]) -> Option<List<MemFile>> {
     let mut held = List::new(alloc);
     put_networks(&mut held, alloc)?;
     put_further(&mut held, alloc)?;
-    put(&mut held, alloc, ("measured", MEASURED))?;
-    put_all(&mut held, alloc, more)?;
+    put_files(&mut held, alloc, &[("measured", MEASURED)])?;
+    put_files(&mut held, alloc, more)?;
     Some(held)
 }

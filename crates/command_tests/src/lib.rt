@@ -1,4 +1,4 @@
-//! Tests of the commands for programs and of those for people, over files in memory, and of what is told while a plan is made.
+//! Tests of the commands for programs, over files in memory.
 #![tactic(auto)]
 
 #[cfg(test)]
@@ -15,18 +15,6 @@ mod imports;
 mod long_files;
 #[cfg(test)]
 mod measured;
-#[cfg(test)]
-mod people_columns;
-#[cfg(test)]
-mod people_files;
-#[cfg(test)]
-mod people_lists;
-#[cfg(test)]
-mod people_plans;
-#[cfg(test)]
-mod people_progress;
-#[cfg(test)]
-mod people_runs;
 #[cfg(test)]
 mod plans;
 #[cfg(test)]

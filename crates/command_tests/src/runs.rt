@@ -1,11 +1,12 @@
-use crate::files::{File, all_files};
+use crate::files::all_files;
 use net_core::{Bytes, List};
-use outside_io::{MemFile, MemShelf, MemSink, OpenGate, Shelf, Sink, have_different_names};
+use outside_io::{MemShelf, MemSink, OpenGate, Shelf, Sink};
 use planner_commands::Status;
 use planner_commands::run::run;
 use std::alloc::Global;
 use std::sync::Wait;
 use std::thread::Threads;
+use worked_networks::{File, shelf_with, sink_of, words_of};
 
 /// How a run ended: its status, what it wrote, and how often the shelf and the sink failed.
 #[derive(Drop)]
@@ -33,27 +34,6 @@ impl Ended {
     pub(crate) fn text(&self) -> &str {
         str::from_utf8(self.out.bytes()).unwrap_or("")
     }
-}
-
-/// The words of a command.
-pub(crate) fn words_of(alloc: Global, words: &str) -> Option<Vec<String>> {
-    let mut list = Vec::new(alloc);
-    for word in words.split(' ') {
-        list.push(word.to_string(alloc).ok()?).ok()?;
-    }
-    Some(list)
-}
-
-/// A shelf of files, whose fetches of these numbers fail, counted from 0.
-pub(crate) fn shelf_with(alloc: Global, files: List<MemFile>, fetches: &[u32]) -> Option<MemShelf> {
-    let failing = List::from_slice(alloc, fetches).ok()?;
-    have_different_names(files.items()).then(|| MemShelf::new(files, failing))
-}
-
-/// An empty sink with room for this many bytes, whose puts of these numbers fail, counted from 0.
-pub(crate) fn sink_of(alloc: Global, room: u64, puts: &[u32]) -> Option<MemSink> {
-    let failing = List::from_slice(alloc, puts).ok()?;
-    MemSink::new(alloc, room, failing).ok()
 }
 
 /// Runs words over a shelf and a sink.

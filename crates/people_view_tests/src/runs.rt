@@ -3,10 +3,11 @@ use crate::files::{LIST, MODEL, NETWORK};
 use crate::models::{MODELS, OTHER_MODELS};
 use crate::networks::{FIRST_LINES, NAMES, NUMBERS, SECTIONS, WHOLE, WholeRow};
 use input_files::PlanFiles;
-use net_core::{Bytes, List, Name};
-use outside_io::{MemFile, MemShelf, have_different_names};
+use net_core::{Bytes, List};
+use outside_io::MemShelf;
 use people_files::{CaseFiles, Halt, load_case};
 use std::alloc::Global;
+use worked_networks::{put_files, shelf_with};
 
 /// A part of a file, what replaces it, and the message about the file.
 pub(crate) type Row = (&'static [u8], &'static [u8], &'static [u8]);
@@ -30,20 +31,12 @@ fn changed(alloc: Global, base: &[u8], row: &Row) -> Option<Bytes> {
     Some(text)
 }
 
-/// Appends a file.
-fn put(held: &mut List<MemFile>, alloc: Global, name: &str, bytes: &[u8]) -> Option<()> {
-    let name = Name::new(alloc, name.as_bytes()).ok()?;
-    let bytes = List::from_slice(alloc, bytes).ok()?;
-    held.push(MemFile { name, bytes }).ok()
-}
-
 /// A shelf of a network, a model and a failure list.
 fn shelf_of(alloc: Global, network: &[u8], model: &[u8], list: &[u8]) -> Option<MemShelf> {
     let mut files = List::new(alloc);
-    put(&mut files, alloc, "net", network)?;
-    put(&mut files, alloc, "model", model)?;
-    put(&mut files, alloc, "list", list)?;
-    have_different_names(files.items()).then(|| MemShelf::new(files, List::new(alloc)))
+    let named = [("net", network), ("model", model), ("list", list)];
+    put_files(&mut files, alloc, &named)?;
+    shelf_with(alloc, files, &[])
 }
 
 /// What is said when these files are read; `None` if they are right.

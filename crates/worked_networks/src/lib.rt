@@ -14,6 +14,7 @@ mod fault;
 mod link_rows;
 mod names;
 mod shapes;
+mod shelves;
 mod state_rows;
 
 pub use chain::{CHAIN_DEMANDS, STAGES, chain_links, numbered, numbered_nodes};
@@ -21,4 +22,5 @@ pub use demand_rows::{DemandRow, demands};
 pub use fault::WorkedFault;
 pub use link_rows::{CHAIN, LinkRow, ONE, PARALLEL, RING, TEN, network};
 pub use shapes::{problem, triangle};
+pub use shelves::{File, put_files, shelf_with, sink_of, words_of};
 pub use state_rows::{failing, single_failures};

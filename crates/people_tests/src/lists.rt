@@ -1,4 +1,4 @@
-use crate::people_runs::{Faults, Row, comes_to};
+use crate::runs::{Faults, Row, comes_to};
 use people_commands::Status;
 
 const USAGE: &str = "these words are no command; zorgwint --help tells which are

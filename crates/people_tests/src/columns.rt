@@ -1,11 +1,11 @@
-use crate::people_runs::ends_with;
-use crate::runs::{shelf_with, words_of};
+use crate::runs::ends_with;
 use net_core::{Bytes, List, Name, NoMemory};
 use outside_io::MemFile;
 use people_commands::Status;
 use std::alloc::Global;
 use std::sync::Wait;
 use std::thread::Threads;
+use worked_networks::{shelf_with, words_of};
 
 /// Two nodes with 18 links between them. In these texts each @ means 240 letters and each ~ means 240 spaces, so that all names of nodes
 /// and links have 255 bytes.

@@ -1,5 +1,4 @@
-use crate::people_files::all_files;
-use crate::runs::{shelf_with, sink_of, words_of};
+use crate::files::all_files;
 use outside_io::{MemShelf, MemSink, Shelf, Sink};
 use people_commands::Status;
 use people_commands::run::run;
@@ -7,6 +6,7 @@ use plan_progress::NoTeller;
 use std::alloc::Global;
 use std::sync::Wait;
 use std::thread::Threads;
+use worked_networks::{shelf_with, sink_of, words_of};
 
 /// Which fetch and which put fail, counted from 0, and for how many bytes there is room.
 pub(crate) type Faults = (u32, u32, u64);

@@ -1,8 +1,7 @@
 use net_core::{Bytes, Module, Problem};
 use outside_io::{OpenGate, Status};
-use people_commands::people_plans::{PlanAnswer, plan_for_people};
-use people_commands::people_views::view_report;
-use people_views::ViewForm;
+use people_plans::{PlanAnswer, plan_for_people};
+use people_views::{ViewForm, view_report};
 use std::alloc::Global;
 use std::sync::Wait;
 use std::thread::Threads;

@@ -1,7 +1,7 @@
-use crate::files::{File, put_all};
 use net_core::List;
 use outside_io::MemFile;
 use std::alloc::Global;
+use worked_networks::{File, put_files};
 
 const TRIANGLE: &[u8] = b"?SNDlib native format; type: network; version: 1.0
 NODES ( A B C )
@@ -75,6 +75,6 @@ const FILES: [File<'static>; 8] = [
 /// All files of these tests.
 pub(crate) fn all_files(alloc: Global) -> Option<List<MemFile>> {
     let mut held = List::new(alloc);
-    put_all(&mut held, alloc, &FILES)?;
+    put_files(&mut held, alloc, &FILES)?;
     Some(held)
 }
