@@ -92,8 +92,8 @@ impl<'d, 'a> Caller<'d, 'a> {
         self.number = number;
     }
 
-    /// The caller, moved out, so that it may be handed on by value and put back. What is left keeps its number and
-    /// its desk, and has no pass. It takes constant time and no memory.
+    /// The caller, moved out, so that it may be handed on by value and put back, as where a separator holds it: a struct with a field behind
+    /// `&mut` can't have facts of its own. What is left keeps its number and its desk, and has no pass. It takes constant time and no memory.
     pub fn take(&mut self) -> Caller<'d, 'a>
         ensures moved { result ≡ self.old }
         ensures number { self.new.number ≡ self.old.number }

@@ -1,7 +1,8 @@
 use metric_cut::Cut;
 use net_core::{Edit, Reply};
 
-/// What a board answers to an edit. An edit that wasn't committed comes back.
+/// What a board answers to an edit. An edit that wasn't committed comes back. Memory runs out only where something would be committed, so
+/// that each other answer comes exactly where its cause holds.
 #[derive(Drop)]
 pub enum EditAnswer {
     /// It is at this position of the history, with its reply; positions count from 1.
@@ -12,7 +13,7 @@ pub enum EditAnswer {
     NoMemory(Edit),
 }
 
-/// What a board answers to a cut. A cut that wasn't admitted comes back.
+/// What a board answers to a cut. A cut that wasn't admitted comes back. Memory runs out only where a cut would be committed, as with edits.
 #[derive(Drop)]
 pub enum AdmitAnswer {
     /// It has this index in the pool, and its entry is at this position of the history; positions count from 1.

@@ -26,7 +26,8 @@ pub(crate) fn is_control(text: &[u8], i: usize) -> bool
     is_order(byte_at(text, i)) || ends_order(text, i) || ends_order(text, i + 1)
 }
 
-/// The byte at a place as it is shown: control characters are spaces, so that the caret is below its byte.
+/// The byte at a place as it is shown: control characters are spaces, so that the caret is below its byte. One of two bytes is a no-break
+/// space, which begins with the same byte.
 pub(crate) fn shown_byte(text: &[u8], i: usize) -> u8
     ensures { result ≡ shown_byte text.now i }
 {

@@ -9,7 +9,8 @@ use net_core::{Demand, NoMemory};
 use short_paths::PathFinder;
 use std::alloc::Global;
 
-/// Routes one demand along paths of links that aren't full, until nothing is missing or no such path is left.
+/// Routes one demand along paths of links that aren't full, until nothing is missing or no such path is left. Each flow ends its demand or
+/// fills a link, so that there are at most as many flows as links and demands together.
 pub fn route_demand(
     alloc: Global,
     finder: &mut PathFinder,

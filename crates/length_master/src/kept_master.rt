@@ -173,7 +173,8 @@ impl KeptMaster {
         self.turned(alloc, net, cuts, pairs, &program, basis)
     }
 
-    /// The best certificate of cuts and a least share of theirs, or why there is none: as `master` answers, whatever is kept.
+    /// The best certificate of cuts and a least share of theirs, or why there is none: as `master` answers, whatever is kept. Where several
+    /// best bases cost the same, multipliers and share may be others than those of `master`.
     ///
     /// It begins with the basis that the last call ended with, which stays feasible where cuts are added to the list. The basis that it
     /// ends with is tested; where it fails, a number is too wide or 20,000 turns don't suffice, `master` answers.

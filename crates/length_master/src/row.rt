@@ -10,7 +10,8 @@ const WIDE: u128 = 1 << 62;
 /// The product of two numbers below this fits into a word, and so does the sum of two such products.
 const NARROW: u64 = 1 << 31;
 
-/// A column of the basis with its row of the inverse over lengths, whole numbers over `den`.
+/// A column of the basis with its row of the inverse over lengths, whole numbers over `den`. They may wrap: a row is a hint, and only the
+/// basis that turns end with is tested.
 #[derive(Drop)]
 pub struct KeptRow {
     pub slot: Slot,
@@ -140,7 +141,8 @@ fn are_narrow(row: &KeptRow, pivot: &KeptRow, times: i128, less: i128) -> bool {
     bits < NARROW && times.unsigned_abs() < NARROW as u128 && less.unsigned_abs() < NARROW as u128
 }
 
-/// A row after a turn at another one, whose product is positive; `None` where a number is too wide.
+/// A row after a turn at another one, whose product is positive; `None` where a number is too wide. Narrow rows are mixed in words, since
+/// divisions of 128 bits took a fifth of a planning where links have many different capacities.
 pub(crate) fn combine(row: &mut KeptRow, pivot: &KeptRow) -> Option<()> {
     if row.product == 0 {
         return Some(());

@@ -69,7 +69,8 @@ struct Lines {
     multipliers: List<Multiplier>,
 }
 
-/// The lines that an optimum gives whose share costs something, unless a value of it is too wide.
+/// The lines that an optimum gives whose share costs something, unless a value of it is too wide. Their denominator is the least for the
+/// amounts of the cuts alone, so that its limits are met more often.
 fn lines_of(
     alloc: Global,
     task: &Task,
@@ -257,7 +258,8 @@ fn answered(
 
 /// The best certificate of cuts, and a share of each link's unit pair that costs as much. No certificate of these cuts has a greater
 /// raw value, and the share violates none of them. The certificate has at most 256 lines, of different cuts, in lowest terms; where
-/// the raw value is 0 it has none. Where a number is 2^62 or more, the answer names a basis and what of it is too wide.
+/// the raw value is 0 it has none, over the denominator 1. Where a number is 2^62 or more, the answer names a basis and what of it is too
+/// wide.
 ///
 /// There are at most 8,192 cuts, of which no two have the same state and lengths, each with lengths that have a bound of their own
 /// and a right side below 2^84.

@@ -64,7 +64,7 @@ fn is_wide(links: &[Link], pairs: &[UnitPair], cut: &CutLine) -> bool
         || has_wide_entry(pairs, cut.lengths.items())
 }
 
-/// The place of the first cut of which a number is 2^62 or more.
+/// The place of the first cut of which a number is 2^62 or more: right sides may have 84 bits, and a program is solved with 62.
 pub(crate) fn wide_cut(links: &[Link], pairs: &[UnitPair], cuts: &[CutLine]) -> Option<usize>
     requires few { length links.now ≤ most_links }
     requires sound { All (λ l. l.fixed < 2 ^ 40) links.now }

@@ -10,8 +10,8 @@ use net_core::{
 use short_paths::{DistanceTable, all_pairs_in};
 use std::alloc::Global;
 
-/// Lengths that a state keeps, one per link, with the distances along the links that survive in it. For 128 nodes and 256 links
-/// it takes 66 KB.
+/// Lengths that a state keeps, one per link, with the distances along the links that survive in it. It doesn't hold the network: its calls
+/// answer for whatever graph it is a cut of. For 128 nodes and 256 links it takes 66 KB.
 #[derive(Drop)]
 pub struct Cut {
     state: StateId,

@@ -83,7 +83,8 @@ fn cover_by_table(
     Ok(())
 }
 
-/// Covers the need of each link that has the modules of this one.
+/// Covers the need of each link that has the modules of this one. Their table is made for the greatest of their needs that is few enough
+/// steps, and there is one table at a time.
 fn cover_alike(
     alloc: Global,
     links: &[Link],

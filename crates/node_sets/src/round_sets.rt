@@ -111,7 +111,8 @@ fn offer_crossed(
     Ok(())
 }
 
-/// What runs between the nodes where the state fails one link.
+/// What runs between the nodes where the state fails one link: that of the round, less the link. Counting it anew for each state took a
+/// twelfth of a planning of 650 demands.
 fn table_without(
     alloc: Global,
     task: &RouteTask,

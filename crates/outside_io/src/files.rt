@@ -16,7 +16,7 @@ pub struct FileShelf<'f, F> {
     faults: u64,
 }
 
-/// What the machine's kind of an error says of a file.
+/// What the machine's kind of an error says of a file: only what a user can do something about has a word of its own.
 fn fault_of(kind: ErrorKind) -> ReadFault
     ensures { IsFaultOf kind result }
 {
@@ -55,6 +55,7 @@ pub fn read_whole<R: Read>(file: &mut R, limit: u64, into: &mut Bytes) -> Fetch
     ensures bounded { ConsumesUpTo (limit + 1) (R.remaining file.old) (R.remaining file.new) }
 {
     let mut buffer = [0u8; 4096];
+    // Each function must return, so that reads end as a fault after 2^64 - 1 rounds.
     for _ in 0..u64::MAX {
         let left = limit - into.len() as u64;
         let most = left.min(4095) as usize + 1;

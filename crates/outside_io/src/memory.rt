@@ -25,7 +25,8 @@ impl Copied for MemFile {
     }
 }
 
-/// Files in memory. Exactly those calls of `fetch` fail whose numbers are in its list, counted from 0. A fetch takes time in
+/// Files in memory. Exactly those calls of `fetch` fail, with another cause than a folder or a missing right, whose numbers are in its list,
+/// counted from 0. A fetch takes time in
 /// the names of the files and the bytes that it copies, and memory for these.
 #[derive(Drop)]
 pub struct MemShelf {
@@ -86,7 +87,7 @@ fn find<'a>(files: &'a [MemFile], name: &[u8]) -> Option<&'a MemFile>
 }
 
 impl MemShelf {
-    /// A shelf of these files. The fetches whose numbers are in `failing` will fail, counted from 0.
+    /// A shelf of these files, whose names `have_different_names` tests. The fetches whose numbers are in `failing` will fail, counted from 0.
     /// A fetch takes time in the number of files, and memory for a copy of the file that it finds.
     pub fn new(files: List<MemFile>, failing: List<u32>) -> MemShelf
         requires { HaveDifferentNames files }
@@ -142,8 +143,9 @@ impl Shelf for MemShelf {
     }
 }
 
-/// A sink in memory with a fixed room, in bytes. A put whose piece doesn't fit into what is left fails and takes nothing of it.
-/// Of the others exactly those fail whose numbers are in its list, counted from 0; they take half of the piece, rounded down.
+/// A sink in memory with a fixed room, in bytes. A put whose piece doesn't fit into what is left fails as on a full disk and takes nothing
+/// of it, even if its number is in the list. Of the others exactly those fail, with another cause, whose numbers are in its list, counted
+/// from 0; they take half of the piece, rounded down.
 /// A put takes no memory.
 #[derive(Drop)]
 pub struct MemSink {

@@ -22,7 +22,7 @@ impl<W: Write> StreamSink<W> {
     }
 }
 
-/// What the machine's kind of an error says of a disk.
+/// What the machine's kind of an error says of a disk: a spent quota is a full one.
 fn failed_of(kind: ErrorKind) -> Failed
     ensures { (result ≡ Failed.DiskFull) ↔ IsFullDisk kind }
 {
@@ -50,6 +50,7 @@ fn write_whole<W: Write>(out: &mut W, piece: &[u8]) -> Result<(), Failed>
     ensures { Writes (W.contents out.old) (W.contents out.new) result piece.now }
 {
     let mut done = 0;
+    // Each function must return, so that writes end as a fault after 2^64 - 1 rounds.
     for _ in 0..u64::MAX {
         if done == piece.len() {
             return out.flush().map_err(|e| failed_of(e.kind()));

@@ -20,7 +20,8 @@ fn all_survive(graph: &Surviving, lengths: &[u32]) -> bool
     true
 }
 
-/// Whether the state keeps lengths, one per link, as they are. It takes time in the links, times those that the state fails.
+/// Whether the state keeps lengths, one per link, as they are, by the links and their divisor, without a search. It takes time in the links,
+/// times those that the state fails.
 pub fn is_kept(graph: &Surviving, lengths: &[u32]) -> bool
     requires { length lengths.now ≡ length graph.now.net.now.links }
     ensures { let g = graph_of graph.now in IsTrue result ↔ AreKept g lengths.now }

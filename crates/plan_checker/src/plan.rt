@@ -14,7 +14,7 @@ use net_core::{Demands, Instance, Network, States};
 use plan_types::Plan;
 use std::alloc::Global;
 
-/// Whether a plan is right for its own demands.
+/// Whether a plan is right for its own demands: that they are the instance's was tested before, as the first finding.
 fn check_own(alloc: Global, instance: &Instance, plan: &Plan, full: bool) -> Test
     requires form { IsPlanInForm (known_of instance.now.net.now instance.now.states.now) plan.now }
     requires demands { plan.now.demands ≡ instance.now.demands.now }

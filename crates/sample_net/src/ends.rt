@@ -20,7 +20,7 @@ fn ring(alloc: Global, n: u32) -> Result<List<Ends>, NoMemory>
     Ok(ends)
 }
 
-/// The ends of the chords, each with one draw.
+/// The ends of the chords, each with one draw. Two chords may join the same two nodes.
 fn chords(alloc: Global, n: u32, draws: &mut Draws) -> Result<List<Ends>, NoMemory>
     requires { (4 ≤ n) × (n ≤ 40) }
     ensures ends { IfOk result (λ ends. ends ≡ map (chord_ends draws.old.number n) (range_with_len 0 (chord_count n))) }

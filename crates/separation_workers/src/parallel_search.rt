@@ -117,7 +117,8 @@ fn both(
 }
 
 /// The answers that this thread and a number of helpers find, each helper on a thread of its own. A worker takes the next state that nobody
-/// has taken, so that one slow state holds nobody up. Where a thread can't be started, this one does its work.
+/// has taken, so that one slow state holds nobody up. Where a thread can't be started, this one does its work. Threads are joined from the
+/// last one inwards.
 fn find_beside<R: Threads>(
     rt: &R,
     round: &Round,

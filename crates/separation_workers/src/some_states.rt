@@ -272,8 +272,9 @@ fn ask_ring<R: Threads + Wait, G: Gate>(
 
 /// A round that stops early. It looks for violated sets of nodes, with the room of `level` and then with less, until some are found, and
 /// answers their cuts, one for each state that has one. Where no set is violated even without room, the states are asked in a ring, four in
-/// parallel, beginning with `first`, the one that was violated last when states were asked. The first batch with cuts ends it, and those
-/// cuts are the answer; where there are none, the answers of all states are.
+/// parallel, beginning with `first`, the one that was violated last when states were asked. The first batch with cuts ends it, and all of
+/// them are the answer, though a number of another state may be too wide; where there are none, the answers of all states are. On fewer
+/// than four processors up to three states are asked after one that has a cut, so that the answers don't depend on processors.
 pub fn answer_some<R: Threads + Wait, G: Gate>(
     lead: &Lead<R, G>,
     round: &Round,

@@ -18,7 +18,7 @@ use warm_routing::{WarmAnswer, WarmRouter};
 const TURNS: u32 = 6_000;
 
 /// The cut of a set of nodes that lie near to each other under the lengths of a violated cut, and that cut itself where no such set is
-/// violated or memory runs out.
+/// violated or memory runs out, so that a call without memory changes nothing that is known of a state.
 fn nearest_set(alloc: Global, task: &RouteTask, cut: Cut) -> Cut
     requires scale { 0 < task.now.caps.now.scale }
     requires cut { IsFoundCutOf (graph_of task.now.graph) task.now.demands.now task.now.caps.now cut }

@@ -59,7 +59,7 @@ fn both(
     }
 }
 
-/// Runs the commands of one caller, under its number. It may never return.
+/// Runs the commands of one caller, under its number: each thread goes through the whole script and takes its own. It may never return.
 fn run_one<'d, 'a, R: Threads + Wait, G: Gate>(
     rt: &R,
     gate: &G,

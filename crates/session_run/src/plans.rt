@@ -104,7 +104,8 @@ fn outcome_for(
     }
 }
 
-/// Plans for a caller that has taken this snapshot of all that it has seen.
+/// Plans for a caller that has taken this snapshot of all that it has seen. Where a state separates a demand, the snapshot's demands come back,
+/// since the outcome names the demand.
 fn plan_at<R: Threads + Wait, G: Gate>(
     rt: &R,
     gate: &G,

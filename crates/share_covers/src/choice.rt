@@ -57,7 +57,8 @@ fn widened(quality: Quality, evidence: Evidence) -> Quality
     }
 }
 
-/// The covers where the states answer with routings, else the fallback plan.
+/// The covers where the states answer with routings, else the fallback plan. Those of a share that carries the demands are never short, so
+/// the covers of a tight plan are routed, or a number is too wide.
 fn decided(covers: RoutedCovers, fallback: Fallback, quality: Quality) -> Chosen
     ensures { result ≡ decided covers.installed fallback quality covers.answer }
 {
@@ -84,7 +85,8 @@ fn decided(covers: RoutedCovers, fallback: Fallback, quality: Quality) -> Chosen
     }
 }
 
-/// The covers of a share, with what the states answer within them; `None` where they cost more than so much.
+/// The covers of a share, with what the states answer within them; `None` where they cost more than so much, since their routings would be
+/// thrown away then.
 fn routed_covers(
     alloc: Global,
     instance: &Instance,

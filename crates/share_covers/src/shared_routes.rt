@@ -124,6 +124,10 @@ fn mended_or_anew(
 /// `None` where a state's routing of the share is needed, and has more flows than there are links and demands together, or a denominator of
 /// 2^62 or more.
 ///
+/// Greedy paths come first since they are short, where a share's flows may take detours that its covers make needless. The share's flows
+/// always fit, since the covers of a link have what it has in the share, or as much as all demands need. Covers take a fifth to a seventh of
+/// the time that they take where each state has greedy paths of its own.
+///
 /// Where 10000 units over the scale 3 are 10000/3 of capacity, a flow of 10000 over the denominator 1 fits, and carries 10000/3 of a
 /// demand: it becomes one of 10000 over the denominator 3. It takes time and memory as `greedy` does in the state without failures, as `mended`
 /// in each other state, there also as `greedy` where the mended routing doesn't carry all, and in the length of the routings.
@@ -154,7 +158,9 @@ fn routes_of_share(
 }
 
 /// Routings within counts that cover a share: where the quality is tight by it, those of `routes_of_share` if there are any; else such as
-/// `route_installed` finds.
+/// `route_installed` finds, which takes the time of the simplex method for other routings at the same cost. So a plan's denominators may be
+/// larger; where neither mended nor greedy paths carry a state, flows keep to the share though the covers have room beside it; and a state with
+/// failures may keep a path that isn't the shortest that it has room for.
 pub(crate) fn route_covers(
     alloc: Global,
     instance: &Instance,

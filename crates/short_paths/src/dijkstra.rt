@@ -8,7 +8,7 @@ use std::alloc::Global;
 /// The number of a node that isn't reached.
 pub const FAR: u128 = u128::MAX;
 
-/// The lengths in the width of a search.
+/// The lengths in the width of a search, which is 128 bits whatever the lengths are, since prices below 2^62 add up beyond 64.
 pub fn widened(alloc: Global, lengths: &Lengths) -> Result<List<u128>, NoMemory>
     ensures same { IfOk result (λ wide. wide ≡ lengths.now) }
     ensures short { IfOk result (λ wide. (e : ℕ) → slice_index wide e < 2 ^ 32) }

@@ -23,7 +23,8 @@ impl Copied for PricedPath {
     }
 }
 
-/// Lengths above 0, under which a shortest path has the least price: a price counts more than all links of a path.
+/// Lengths above 0, under which a shortest path has the least price: a price counts more than all links of a path. Links of price 0 have
+/// one too, so that they can't lead round in a circle.
 pub(crate) fn scaled(alloc: Global, prices: &[u64]) -> Result<List<u128>, NoMemory>
     ensures { IfOk result (λ lengths. lengths ≡ map scaled prices.now) }
 {

@@ -76,7 +76,8 @@ fn set_name<N: Drop>(names: &mut List<N>, r: usize, name: N)
     names.items_mut()[r] = name;
 }
 
-/// Whether the absolute products of the objective row with the bounds sum to less than 2^126.
+/// Whether the absolute products of the objective row with the bounds sum to less than 2^126. It is tested after each pivot, since the
+/// proof that the method returns needs this limit, though a program may be refused so that might have come through.
 fn is_low(duals: &Row, bounds: &List<i64>) -> bool
     requires equal { length duals.now.nums ≡ length bounds.now }
     requires bounds { (k : ℕ) → IsNarrow (num bounds.now k) }

@@ -10,7 +10,7 @@ use std::alloc::Global;
 use std::marker::Model;
 use text_kit::names::named;
 
-/// Names in the order in which they came, each once and as the word of the file that it is. One is
+/// Names in the order in which they came, each once and as the word of the file that it is, so that none is copied. One is
 /// found in constant time.
 #[derive(Drop)]
 pub(crate) struct Names<'a> {

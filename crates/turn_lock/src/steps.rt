@@ -54,7 +54,8 @@ pub(crate) fn sleep<T: Chronicle, R: Wait>(rt: &R, table: &TurnTable<T>, ticket:
     }
 }
 
-/// Puts the value into the slot again, which stays with the seat.
+/// Puts the value into the slot again, which stays with the seat. This comes before its item is counted, since a step at the shared words
+/// sees only the list in the slot.
 pub(crate) fn put_back<T: Chronicle>(table: &TurnTable<T>, seat: &mut TurnSeat<T>, value: T)
     requires own { seat.old.table_id ≡ table.now.shared.table_id }
     requires hand { seat.old.me.1 ≡ (0, None) ∷ [] }

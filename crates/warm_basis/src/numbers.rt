@@ -4,7 +4,8 @@ pub(crate) const WIDE: u64 = 1 << 31;
 /// More steps than the greatest common divisor of two words takes.
 const STEPS: u32 = 96;
 
-/// The greatest common divisor (Euclid's algorithm).
+/// The greatest common divisor by Euclid's algorithm, over words: that of `checked_fraction` divides numbers of 128 bits, and each turn
+/// reduces rows.
 pub(crate) fn common(a: u64, b: u64) -> u64 {
     if a == 1 || b == 1 {
         return 1;
