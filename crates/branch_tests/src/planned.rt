@@ -4,9 +4,9 @@ ghost use Rattle.plan_terms.specs.Terms.{case_of, IsSurvivable};
 ghost use Rattle.proof_report.specs.Terms.{IsTranscript, plan_commands, whole_report};
 ghost use Rattle.trim_plan.specs.Trimmed.{IsRoutedPlan};
 
-use lone_plan::{LonePlan, PlannedReport, plan_once};
 use net_core::{Instance, NoMemory};
 use outside_io::OpenGate;
+use plan_reports::{LonePlan, PlannedReport, plan_once};
 use plan_types::Plan;
 use std::alloc::Global;
 use std::sync::Wait;

@@ -1,7 +1,7 @@
 ghost use Rattle.std.specs.Prelude.{◌≡◌, IfOk};
 ghost use Rattle.plan_terms.specs.Terms.{case, case_of};
 ghost use Rattle.plan_report.specs.Terms.{known_of, IsReportInForm, SpellsReport, report_text};
-ghost use Rattle.plan_import.specs.Terms.{IsTranscript, IsLoneAnswer, plan_commands};
+ghost use Rattle.plan_reports.specs.Terms.{IsTranscript, IsLoneAnswer, plan_commands};
 ghost use Rattle.proof_report.specs.Terms.{IsSeparationOf, whole_report};
 ghost use Rattle.check_answers.specs.Separations.{NamesFirstSeparation};
 ghost use Rattle.command_answers.specs.Answers.{EndsPlan};
@@ -9,8 +9,8 @@ ghost use Rattle.command_answers.specs.Answers.{EndsPlan};
 use failure_texts::separated_line;
 use net_core::{Instance, Name, Network, NoMemory, Problem, StateId, States};
 use outside_io::{Answer, Gate, Status};
-use plan_import::lone_plan::{LonePlan, PlannedReport, plan_once};
 use plan_report::write_report;
+use plan_reports::{LonePlan, PlannedReport, plan_once};
 use plan_types::Report;
 use std::alloc::Global;
 use std::sync::Wait;

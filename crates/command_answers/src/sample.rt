@@ -1,7 +1,7 @@
 ghost use Rattle.std.specs.Prelude.{◌≡◌, ◌≤◌, ◌+◌, ◌++◌, IfOk, OnOk, decimal, length};
 ghost use Rattle.plan_terms.specs.Terms.{AreDemands, Three, case_of, IsSurvivable};
 ghost use Rattle.sample_net.specs.Samples.{no_notes, sample_demands, sample_links, sample_nodes, with_single_failures};
-ghost use Rattle.plan_import.specs.Terms.{IsTranscript, plan_commands};
+ghost use Rattle.plan_reports.specs.Terms.{IsTranscript, plan_commands};
 ghost use Rattle.proof_report.specs.Terms.{whole_report};
 ghost use Rattle.text_kit.specs.Terms.{money_word};
 ghost use Rattle.outside_io.specs.declared.status.Status.{Status};
@@ -10,7 +10,7 @@ ghost use Rattle.command_answers.specs.Answers.{IsSummary, quality_word, raw_lin
 use model_reader::single_links;
 use net_core::{Bytes, Demands, Instance, List, Network, NoMemory, Places};
 use outside_io::{Answer, OpenGate, Status};
-use plan_import::lone_plan::{LonePlan, PlannedReport, plan_once};
+use plan_reports::{LonePlan, PlannedReport, plan_once};
 use plan_types::{Plan, Quality};
 use sample_net::{network_text, sample};
 use sndlib_reader::{ReadRefusal, read_network};

@@ -8,7 +8,7 @@ ghost use Rattle.command_answers.specs.Answers.{IsPrintedReport};
 use crate::plan::reported;
 use net_core::{NoMemory, Problem};
 use outside_io::{Answer, Gate, Status};
-use plan_import::session_run::run_session;
+use session_run::run_session;
 use session_script::Script;
 use std::alloc::Global;
 use std::sync::Wait;

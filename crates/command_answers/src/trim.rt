@@ -6,12 +6,11 @@ ghost use Rattle.command_answers.specs.Answers.{EndsTrim};
 use crate::plan::separated;
 use net_core::{Instance, List, NoMemory, Problem};
 use outside_io::{Answer, Gate, Status};
-use plan_import::lone_plan::PlannedReport;
-use proof_report::trim_plan::Block;
-use proof_report::trimmed_report::{TrimEnding, trim_once, write_trimmed};
+use plan_reports::{PlannedReport, TrimEnding, trim_once, write_trimmed};
 use std::alloc::Global;
 use std::sync::Wait;
 use std::thread::Threads;
+use trim_plan::Block;
 
 /// The answer with a trimmed plan: the report, and a comment line for each block.
 fn answer_trimmed(

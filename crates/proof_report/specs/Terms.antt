@@ -1,5 +1,5 @@
 -- The words of this crate's contracts from other crates, passed on from one place to crates above. Declares nothing.
 pub use Rattle.tree_search.specs.FewSplits.{AreCharged}
-pub use Rattle.trimmed_report.specs.BlockLines.{block_lines}
-pub use Rattle.trimmed_report.specs.Terms.{Block, IsSeparationOf, IsTranscript, plan_commands, whole_report}
-pub use Rattle.trimmed_report.specs.TrimmedReports.{IsTrimEnding, IsTrimmedReport}
+pub use Rattle.plan_reports.specs.BlockLines.{block_lines}
+pub use Rattle.plan_reports.specs.Terms.{Block, IsSeparationOf, IsTranscript, plan_commands, whole_report}
+pub use Rattle.plan_reports.specs.TrimmedReports.{IsTrimEnding, IsTrimmedReport}

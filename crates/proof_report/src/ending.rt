@@ -1,19 +1,18 @@
 ghost use Rattle.std.specs.Prelude.{◌≡◌, [], ◌≤◌, IfOk, false};
 ghost use Rattle.plan_terms.specs.Terms.{case_of};
-ghost use Rattle.trimmed_report.specs.TrimmedReports.{IsTrimEnding};
+ghost use Rattle.plan_reports.specs.TrimmedReports.{IsTrimEnding};
 ghost use Rattle.tree_search.specs.FewSplits.{AreCharged};
 ghost use Rattle.proof_report.specs.ProvedReports.{IsLinedEnding, IsLinedReport, IsProofEnding, IsTrimmedOnce};
 
 use crate::handed_cuts::{handed_cuts, work_out};
 use net_core::{CutLine, Entry, Instance, List, Name, NoMemory, Notes, StateId};
 use outside_io::Gate;
+use plan_reports::{PlannedReport, TrimEnding, trim_once};
 use std::alloc::Global;
 use std::sync::Wait;
 use std::thread::Threads;
+use tree_check::Proof;
 use tree_search::prove_instance;
-use tree_search::tree_check::Proof;
-use trimmed_report::lone_plan::PlannedReport;
-use trimmed_report::{TrimEnding, trim_once};
 
 /// The report of one plan command of caller 1, with the proof of its plan apart from the other parts.
 #[derive(Drop)]

@@ -2,11 +2,11 @@ ghost use Rattle.std.specs.Prelude.{◌≡◌, ◌⊎◌, ◌++◌, ◌∷◌, [
 ghost use Rattle.plan_terms.specs.Terms.{IsCut, case_of};
 ghost use Rattle.proof_report.specs.ProvedReports.{AreHandedIn, certificate_cuts};
 
+use line_check::tested_lines::tested_cut;
 use net_core::{Copied, CutLine, Instance, List, NoMemory};
 use plan_types::Certificate;
 use std::alloc::Global;
 use tree_search::index_of;
-use tree_search::line_check::tested_lines::tested_cut;
 
 /// Adds a copy of a cut, unless the list has it.
 fn hand_in(cuts: &mut List<CutLine>, cut: &CutLine) -> Result<(), NoMemory>

@@ -8,6 +8,4 @@ mod writer;
 
 pub use charged::{are_charged, are_dear};
 pub use ending::{ProofEnding, ProvedReport, prove_once, prove_once_by_lines};
-pub use trimmed_report;
-pub use trimmed_report::{lone_plan, trim_plan};
 pub use writer::write_lined;

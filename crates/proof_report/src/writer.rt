@@ -2,17 +2,17 @@ ghost use Rattle.std.specs.Prelude.{◌≡◌, ◌++◌, IfOk, OnOk};
 ghost use Rattle.plan_terms.specs.Terms.{case_of};
 ghost use Rattle.plan_report.specs.Terms.{known_of, report_text, SpellsReport};
 ghost use Rattle.report_comments.specs.Comments.{AddsLines};
-ghost use Rattle.trimmed_report.specs.Terms.{whole_report};
+ghost use Rattle.plan_reports.specs.Terms.{whole_report};
 ghost use Rattle.tree_lines.specs.TreeLines.{IsToldProof, proof_lines};
 ghost use Rattle.proof_report.specs.ProvedReports.{IsLinedReport, proved_report, proof_text};
 
 use crate::ending::ProvedReport;
 use net_core::{Bytes, Copied, Instance, NoMemory};
 use plan_report::write_report;
+use plan_reports::PlannedReport;
 use std::alloc::Global;
+use tree_check::Proof;
 use tree_lines::put_proof;
-use tree_search::tree_check::Proof;
-use trimmed_report::lone_plan::PlannedReport;
 
 /// The parts of a proved report: the report with the proof's plan, and the proof.
 fn parted(report: ProvedReport) -> Result<(PlannedReport, Proof), NoMemory>

@@ -1,7 +1,7 @@
 use Rattle.std.proofs.Common.{inr, subst}
 use Rattle.net_core.proofs.Library.{IfOk-weaker}
 use Rattle.plan_terms.specs.Terms.{case_of}
-use Rattle.plan_import.specs.ImportedPlans.{IsImportEnding}
+use Rattle.plan_reports.specs.ImportedPlans.{IsImportEnding}
 use Rattle.command_answers.proofs.import.answer_ending.Goals as goal
 
 pub answer_imported-requires : goal.answer_imported-requires

@@ -3,7 +3,7 @@ use Rattle.plan_terms.specs.Terms.{case_of}
 use Rattle.plan_report.specs.Terms.{known_to, SpellsReport, report_text}
 use Rattle.flow_file.specs.declared.flow.FlowFile.{FlowFile}
 use Rattle.proof_report.specs.Terms.{whole_report}
-use Rattle.plan_import.specs.ImportedPlans.{IsImportedReport}
+use Rattle.plan_reports.specs.ImportedPlans.{IsImportedReport}
 use Rattle.outside_io.{specs.declared.answer.Answer.Answer, specs.declared.status.Status.TheVariants.Done}
 use Rattle.command_answers.{specs.Answers.EndsImported, proofs.Clauses.three_ok}
 use Rattle.command_answers.proofs.import.answer_imported.Goals as goal

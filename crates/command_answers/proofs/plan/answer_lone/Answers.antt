@@ -1,7 +1,7 @@
 use Rattle.std.proofs.Common.{inr, subst}
 use Rattle.net_core.proofs.Library.{IfOk-weaker}
 use Rattle.plan_terms.specs.Terms.{case_of}
-use Rattle.plan_import.specs.Terms.{IsLoneAnswer}
+use Rattle.plan_reports.specs.Terms.{IsLoneAnswer}
 use Rattle.command_answers.proofs.plan.answer_lone.Goals as goal
 
 pub answer_planned-requires : goal.answer_planned-requires

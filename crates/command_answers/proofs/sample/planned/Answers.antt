@@ -1,6 +1,6 @@
 use Rattle.std.proofs.Common.{subst}
 use Rattle.plan_terms.specs.Terms.{case_of}
-use Rattle.plan_import.specs.Terms.{IsLoneAnswer}
+use Rattle.plan_reports.specs.Terms.{IsLoneAnswer}
 use Rattle.proof_report.specs.Terms.{IsSeparationOf}
 use Rattle.command_answers.proofs.sample.planned.Goals as goal
 

@@ -1,7 +1,7 @@
 use Rattle.std.proofs.Common.{◌≡◌}
 use Rattle.plan_terms.specs.Terms.{case}
 use Rattle.plan_report.specs.Terms.{known_to, SpellsReport, report_text, Report}
-use Rattle.plan_import.proofs.Lemmas.{transcript_accepted}
+use Rattle.plan_reports.proofs.Lemmas.{transcript_accepted}
 use Rattle.outside_io.specs.declared.answer.Answer.{Answer}
 use Rattle.command_answers.{specs.Answers.IsPrintedReport, proofs.Clauses.both_ok}
 use Rattle.command_answers.proofs.session.answer_session.Goals as goal

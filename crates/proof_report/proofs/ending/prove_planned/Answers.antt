@@ -2,7 +2,7 @@ use Rattle.std.proofs.Common.{List, All, arith, subst, sym}
 use Rattle.plan_terms.specs.Terms.{CutLine, IsCut, case_of}
 use Rattle.net_core.proofs.Library.{length-map}
 use Rattle.plan_types.specs.declared.certificate.CertLine.{CertLine}
-use Rattle.trimmed_report.proofs.Lemmas.{lone_plans_carry}
+use Rattle.plan_reports.proofs.Lemmas.{lone_plans_carry}
 use Rattle.proof_report.{proofs.Certain.certified_certain, proofs.Handing.handed_long, proofs.Known.{certificate_few, certified_told, handed_told, lines_shown, own_stand, pool_few}, proofs.Proved.{lined_report_made, routed_plan}, specs.ProvedReports.certificate_cuts}
 use Rattle.proof_report.proofs.ending.prove_planned.Goals as goal
 

@@ -1,6 +1,6 @@
 use Rattle.std.proofs.Common.{subst}
 use Rattle.plan_terms.specs.Terms.{case_of}
-use Rattle.trimmed_report.specs.TrimmedReports.{IsTrimEnding}
+use Rattle.plan_reports.specs.TrimmedReports.{IsTrimEnding}
 use Rattle.proof_report.proofs.ending.prove_trimmed.Goals as goal
 
 pub prove_planned-requires-clause-trimmed : goal.prove_planned-requires-clause-trimmed

@@ -2,7 +2,7 @@ use Rattle.std.proofs.Common.{◌++◌, ◌∙◌, ◌≡◌, List, ℕ, ap, sub
 use Rattle.plan_terms.specs.Terms.{case_of}
 use Rattle.plan_report.specs.Terms.{IsReportInForm, SpellsReport, known_to, report_text, Report}
 use Rattle.report_comments.{specs.Comments.AddsLines, proofs.Spelling.reports_take_comments}
-use Rattle.trimmed_report.specs.Terms.{whole_report}
+use Rattle.plan_reports.specs.Terms.{whole_report}
 use Rattle.tree_search.specs.Terms.{Proof}
 use Rattle.tree_lines.specs.TreeLines.{IsToldProof, proof_lines}
 use Rattle.proof_report.{specs.ProvedReports.{proof_text, proved_report}, proofs.Told.proof_told}

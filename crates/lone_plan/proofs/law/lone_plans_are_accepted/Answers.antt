@@ -1,5 +1,0 @@
-use Rattle.lone_plan.proofs.Accepted.{lone_plans_are_accepted}
-use Rattle.lone_plan.proofs.law.lone_plans_are_accepted.Goals as goal
-
-pub returns : goal.returns
-returns c = lone_plans_are_accepted

@@ -1,4 +1,0 @@
-pub mod LonePlans
-pub mod Laws
-pub mod Designs
-pub mod Terms

@@ -1,3 +1,0 @@
-pub mod Designs
-pub mod Endings
-pub mod Lemmas

@@ -1,2 +1,0 @@
-pub mod ImportedPlans
-pub mod Terms

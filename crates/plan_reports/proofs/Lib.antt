@@ -1,0 +1,10 @@
+pub mod Blocks
+pub mod Lemmas
+pub mod Trimming
+pub mod Alone
+pub mod Accepted
+pub mod CheaperKept
+pub mod Certain
+pub mod PlansOf
+pub mod ImportedDesigns
+pub mod Imported
