@@ -10,8 +10,9 @@ use net_core::{Bytes, List as Items, NoMemory};
 use snd_tokens::{Token, TokenKind, next_token};
 use std::alloc::Global;
 use strsim::generic_levenshtein;
-/// How many bytes have to be put in, left out or changed to come from one name to another, if they are fewer than a limit. Where the lengths
-/// differ by as many, it takes no time.
+/// How many bytes have to be put in, left out or changed to come from one name to another, if they are fewer than a limit. Two letters exchanged
+/// are two edits, and so is a character of two bytes for one of ASCII, since a name is bytes that needn't be UTF-8. Where the lengths differ by
+/// as many, it takes no time.
 #[tactic(auto, using(crate::proofs::EditBounds::edits_bound))]
 fn edits_below(
     alloc: Global,
@@ -154,7 +155,7 @@ fn push_other(
     Ok(())
 }
 
-/// The words of a text that begin before a place and aren't this name.
+/// The words of a text that begin before a place and aren't this name, whatever they name: the reader keeps no names when it refuses a file.
 fn other_words(alloc: Global, text: &[u8], at: u64, name: &[u8]) -> Result<Items<Bytes>, NoMemory>
     ensures { IfOk result (λ words. words ≡ other_words text.now at name.now (tokens_from 0 text.now)) }
 {
@@ -168,7 +169,7 @@ fn other_words(alloc: Global, text: &[u8], at: u64, name: &[u8]) -> Result<Items
 }
 
 /// Puts a line last that asks for another word of a text instead of this one: the nearest of those that begin before a place, if one is near.
-/// For a word of more bytes than a name has it puts nothing.
+/// For a word of more bytes than a name has it puts nothing, so that a file of a few long words takes no longer than one of many short ones.
 fn put_other_note(
     text: &mut Bytes,
     alloc: Global,

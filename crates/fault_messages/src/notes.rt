@@ -162,7 +162,7 @@ fn put_report_notes(
 
 /// What is known of a refused report besides its first fault's sentence, as a line or nothing: that a report with the header of a finer or a
 /// coarser network is of another one, or what a file with another header seems to be; and of a name that nothing in the network, the failure
-/// list and the demands has, that the report is of others. It takes time in the names.
+/// list and the demands has, that the report is of others. Nothing of the kind is said where a number doesn't fit. It takes time in the names.
 pub fn report_notes(
     alloc: Global,
     problem: &Problem,

@@ -2,7 +2,8 @@ ghost use Rattle.std.specs.Prelude.{◌≤◌, IfSome};
 ghost use Rattle.people_plans.specs.PlansForPeople.{IsDefaultLimit, IsLimitOf};
 
 /// How many splits a branch tree has at most by default: 100 for up to 20 nodes, 10 for up to 40, and none for more, so that the tree is
-/// its root alone. It takes constant time, and no memory.
+/// its root alone. So a plan comes in seconds where nobody says how long to look, and the same words give the same tree on every machine, as
+/// a limit of time wouldn't. It takes constant time, and no memory.
 pub fn default_splits(nodes: usize) -> u32
     ensures limit { IsDefaultLimit nodes result }
     ensures few { result ≤ 100 }

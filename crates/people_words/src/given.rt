@@ -83,7 +83,8 @@ fn take<'w>(
     }
 }
 
-/// What all words give; none where one of them is out of place. It takes time and memory in the words.
+/// What all words give, whatever the command is; none where one of them is out of place. Which options it takes is asked afterwards. It takes
+/// time and memory in the words.
 pub(crate) fn given_by(alloc: Global, words: &[String]) -> Result<Option<Given<'_>>, NoMemory>
     ensures { IfOk result (λ r. MatchOption r
         ((names : List (List ℕ)) (options : List GivenOption) → AreRead None (map string_bytes words.now) names options → ⊥)

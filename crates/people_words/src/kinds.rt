@@ -38,7 +38,7 @@ fn is_flag(word: &str) -> bool
     same_words(word, "--report") || same_words(word, "--quiet") || same_words(word, "--svg")
 }
 
-/// Whether a word is an option whose value is the next word.
+/// Whether a word is an option whose value is the next word, whatever that is, so that `--model -x` names a file.
 fn is_valued(word: &str) -> bool
     ensures { result ≡ is_valued word.now }
 {
@@ -50,7 +50,7 @@ fn is_valued(word: &str) -> bool
         || same_words(word, "--state")
 }
 
-/// What an option is to the word after it.
+/// What an option is to the word after it, whichever command takes it. There are no short options, and none with its value after `=`.
 fn option_kind(word: &str) -> WordKind
     ensures { result ≡ option_kind word.now }
 {

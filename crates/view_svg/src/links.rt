@@ -239,7 +239,8 @@ fn put_row(
     }
 }
 
-/// Puts the link of a row last, in a state that fails these links and brings these amounts onto other paths.
+/// Puts the link of a row last, in a state that fails these links and brings these amounts onto other paths. Numbers and colours are of the
+/// worst state even so, so that two pictures of one plan can be compared.
 fn put_in_state(
     text: &mut Bytes,
     alloc: Global,

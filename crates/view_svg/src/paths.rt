@@ -49,7 +49,8 @@ fn put_changed_curves(
     Ok(())
 }
 
-/// Puts the links last on which something goes along other paths than without failures.
+/// Puts the links last on which something goes along other paths than without failures, in one line behind each, so that a picture doesn't grow
+/// with the demands. One path can't be followed by the eye so; the tables of a state list them.
 pub(crate) fn put_changes(
     text: &mut Bytes,
     strokes: &[Stroke],

@@ -52,8 +52,8 @@ fn put_planned(
 }
 
 /// Puts the picture of an accepted report's first plan last, in one state, of which 0 is the one without failures; where the report has no plan, a
-/// picture that says so. The network's file has this name, and its nodes are at these places. Where memory runs out, the text may end in part
-/// of the picture. It takes the time and the memory of `put_picture`.
+/// picture that says so. The other plans of a session would need pictures of their own. The network's file has this name, and its nodes are at
+/// these places. Where memory runs out, the text may end in part of the picture. It takes the time and the memory of `put_picture`.
 pub fn put_report_picture(
     text: &mut Bytes,
     alloc: Global,
