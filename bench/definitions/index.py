@@ -1,6 +1,6 @@
 #!/usr/bin/env python3
-"""Writes the index of names at the end of docs/DEFINITIONS.md: each definition that the page explains, with the section that first
-does so. With --check it writes nothing, and fails where the index is out of date."""
+"""Writes the index of names at the end of docs/DEFINITIONS.md: the sections with their numbers, and each definition that the page
+explains with the number of the section that first does so. With --check it writes nothing, and fails where the index is out of date."""
 
 import re
 import sys
@@ -9,7 +9,7 @@ from pathlib import Path
 TOP = Path(__file__).resolve().parent.parent.parent
 HEAD = re.compile(r"^(?:pub )?(?:abbrev|unfoldable|opaque|record|data) (?:pub )?(?:\{[^}]*\} )?(\S+)")
 TITLE = "## Index of names\n"
-MOST_CHARACTERS = 1_000
+WIDTH = 120
 
 
 def defined_names():
@@ -28,13 +28,20 @@ def anchor(section):
     return "#" + re.sub(r"[^a-z0-9 -]", "", section.lower()).replace(" ", "-")
 
 
+def sections_of(text):
+    """The sections in their order, apart from the two at the beginning, on what to read and how."""
+    titles = [line[3:] for line in text.splitlines() if line.startswith("## ")]
+    return [title for title in titles if "to read" not in title]
+
+
 def places_in(text, names):
-    """The section in which each of the names first stands, apart from the two at the beginning."""
+    """The section in which each of the names first stands."""
     places, section = {}, None
+    sections = sections_of(text)
     for line in text.splitlines():
         if line.startswith("## "):
             section = line[3:]
-        elif section and "read" not in section:
+        elif section in sections:
             for word in re.findall(r"`([^`]+)`", line):
                 name = word.split()[0]
                 if name in names:
@@ -42,14 +49,14 @@ def places_in(text, names):
     return places
 
 
-def items_of(entries):
-    """The entries of a letter, as items of a list that are not much longer than a paragraph should be."""
-    items = [""]
+def lines_of(entries):
+    """Entries on lines that are as long as a line of code."""
+    lines = [""]
     for entry in entries:
-        if len(items[-1]) + len(entry) > MOST_CHARACTERS:
-            items.append("")
-        items[-1] += (", " if items[-1] else "- ") + entry
-    return items
+        if lines[-1] and len(lines[-1]) + len(entry) + 2 > WIDTH:
+            lines.append("")
+        lines[-1] += ("  " if lines[-1] else "") + entry
+    return lines
 
 
 def main():
@@ -57,11 +64,11 @@ def main():
     text = page.read_text()
     body = text.partition(TITLE)[0]
     places = places_in(body, defined_names())
-    lines = [TITLE, "With the section that explains each; `bench/definitions/index.py` writes this list.", ""]
-    for letter in sorted({name[0].upper() for name in places}):
-        entries = sorted((name for name in places if name[0].upper() == letter), key=str.lower)
-        lines += items_of([f"`{name}` [{places[name]}]" for name in entries])
-    lines += [""] + [f"[{section}]: {anchor(section)}" for section in dict.fromkeys(places.values())]
+    numbers = {section: number for number, section in enumerate(sections_of(body), 1)}
+    names = sorted(places, key=lambda name: (name.lower(), name))
+    lines = [TITLE, "Each name with the number of the section that explains it. `bench/definitions/index.py` writes this list.", ""]
+    lines += [", ".join(f"{number} [{section}]({anchor(section)})" for section, number in numbers.items()), "", "```"]
+    lines += lines_of([f"{name} {numbers[places[name]]}" for name in names]) + ["```"]
     new = body.rstrip() + "\n\n" + "\n".join(lines) + "\n"
     if sys.argv[1:] == ["--check"]:
         if new != text:
