@@ -3,17 +3,13 @@
 
 crates.txt has a line for each crate, under headings that are the storeys of the house, lowest first. This writes crates/README.md,
 one line a crate under the same headings by the //! lines of its root file, and the picture in docs/ARCHITECTURE.md. It fails where
-a crate depends on one of a later line, where no file of a crate names a library that crates.txt gives it, where a crate has no
-line, and where there are too many ways down the house. With --check it writes nothing, and fails also where one of the two files is out of date.
+a crate depends on one of a later line, where no file of a crate names a library that crates.txt gives it, and where a crate has no
+line. With --check it writes nothing, and fails also where one of the two files is out of date.
 """
 
 import re
 import sys
 from pathlib import Path
-
-# `rt ci` of rattle-kit-13b reads the files of a library twice for each way that leads from a crate down to it, some five milliseconds
-# each time. At this many ways that is half an hour of reading, beside the proofs.
-MOST_WAYS = 180_000
 
 TOP = Path(__file__).resolve().parent.parent
 BEGIN = "<!-- the picture that bench/house.py draws -->"
@@ -63,14 +59,6 @@ def levels_of(crates):
     for name in crates:
         level(name, ())
     return levels
-
-
-def ways_of(crates):
-    """The number of ways down from each crate: one to itself, and those of each library that it names."""
-    ways = {}
-    for crate in sorted(crates.values(), key=lambda it: it.place):
-        ways[crate.name] = 1 + sum(ways[library] for library in crate.libraries if library in ways)
-    return ways
 
 
 def text_of(crate):
@@ -173,9 +161,6 @@ def main():
     crates = read_crates()
     levels = levels_of(crates)
     faults = faults_of(crates)
-    ways = sum(ways_of(crates).values())
-    if ways > MOST_WAYS:
-        faults.append(f"{ways} ways lead down the house, and at most {MOST_WAYS} should")
 
     page = TOP / "docs" / "ARCHITECTURE.md"
     before, mark, rest = page.read_text().partition(BEGIN)
@@ -191,7 +176,7 @@ def main():
         else:
             path.write_text(text)
 
-    print(f"{len(crates)} crates under {len(storeys_of(crates))} headings, {max(levels.values()) + 1} levels, {ways} ways down, {len(faults)} faults")
+    print(f"{len(crates)} crates under {len(storeys_of(crates))} headings, {max(levels.values()) + 1} levels, {len(faults)} faults")
     for fault in faults:
         print(fault)
     sys.exit(1 if faults else 0)
