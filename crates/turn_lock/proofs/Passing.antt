@@ -1,9 +1,9 @@
 -- Splitting, joining, the look at the count, and the end.
 use Rattle.std.proofs.Common.{◌≡◌, ℕ, ◌+◌, ◌^◌, ◌≤◌, List, [], ◌∷◌, length, sum_by, set, Some, Option, ⊎_elim, refl, sym, ap, subst, ◌∙◌, arith, true}
 use Rattle.net_core.proofs.Library.{set-get_or, sum_by_push, cases_lt, range_with_len}
-use Rattle.atomic_table.{specs.Table.{State, step, Allows, keeps, Splits, Joins, Final, Seen}, proofs.Lists.set_else}
+use Rattle.atomic_table.{specs.Table.{State, Allows, keeps, Splits, Joins, Final, Seen}, proofs.Lists.set_else}
 use Rattle.turn_lock.{specs.declared.rule.View.View, specs.declared.rule.Stage.Stage, specs.declared.rule.Stage.TheVariants.{Idle, Waiting, Holding, Joined}, specs.Histories.{IsPrefix, longer, are_places, merged}, specs.inner.Tests.stage_number, specs.inner.Rule.{one_within, times_at, tickets_of, ticket_at, turns_of, reach, KnowsStage, Knows, Kept}, specs.inner.Plays.{OwnItemsStand, also_seen, first_half, second_half, joined_view, spent_view, Settles}, proofs.Lists.{each_set, each_snoc, sum_set, sum_zero, two_below, one_below}, proofs.Places.{within_few, within_from, prefix_all, both_begin_longer, longer_of, longer_le, wider, times_merged, times_after, merged_ascends, all_places}, proofs.Turns.{idle_from_number, slot_set, slot_snoc}}
-use mathlib.Core.Option.{some, none, some-injective}
+use mathlib.Core.Option.{some, some-injective}
 use lib.ListN.{get_elem?}
 
 module _ {T I O : Type 0} (history : T → List I) (made : T → O) (origin : O) where
@@ -79,7 +79,7 @@ module _ {T I O : Type 0} (history : T → List I) (made : T → O) (origin : O)
 
   -- step 9
   pub settle_allows : (slots id : ℕ) (v : View I O) (cs : List (ℕ × Option T)) (ys : List I) → v.stage ≡ Joined ys
-      → Allows (Kept history made origin) slots id (v, cs) 2 (λ n. n) (Settles (step slots 2 0 0 none) (v, cs))
+      → Allows (Kept history made origin) slots id (v, cs) 2 (λ n. n) (λ _. Settles (v, cs))
   settle_allows slots id v cs ys is s k len at small =
       let mine : Knows k.log k.served origin v = k.each_view id v at in
       let w : View I O = record v { stage = Idle; seen = longer v.seen ys } in

@@ -1,8 +1,8 @@
 -- The steps of a turn keep the rule: draw, look, commit, serve.
 use Rattle.std.proofs.Common.{◌≡◌, ◌≢◌, ℕ, zero, suc, ◌+◌, ◌%◌, ◌^◌, ◌<◌, ◌≤◌, List, [], ◌∷◌, ◌++◌, length, get_or, sum_by, eqb, set, Some, Option, inl, inr, ⊎_elim, refl, sym, ap, subst, ◌∙◌, arith, length-append, map, true}
 use Rattle.net_core.proofs.Library.{set-get_or, sum_by_push, cases_eq, some_same}
-use Rattle.atomic_table.{specs.Table.{State, Me, Step, step, Allows, keeps, takes, gives, stepped, rest, opening}, proofs.Lists.one_turn}
-use Rattle.turn_lock.{specs.declared.rule.View.View, specs.declared.rule.Stage.Stage, specs.declared.rule.Stage.TheVariants.{Idle, Waiting, Holding, Joined}, specs.Histories.{IsPrefix, are_places}, specs.inner.Tests.stage_number, specs.inner.Rule.{one_where, one_within, times_at, tickets_of, ticket_at, turns_of, reach, KnowsStage, Knows, HasSlot, Kept, first_view}, specs.inner.Plays.{Awaits, Draws, Looks, TakesValue, Commits, Serves}, proofs.Lists.{each_set, sum_set, one_below, two_below, sums_le, sums_lt}, proofs.Places.{one_if, within_after, within_few, within_some, within_more, within_less, prefix_same, prefix_le, prefix_more, wider, place_last}}
+use Rattle.atomic_table.{specs.Table.{State, Me, Allows, keeps, takes, gives, stepped, rest, opening}, proofs.Lists.one_turn}
+use Rattle.turn_lock.{specs.declared.rule.View.View, specs.declared.rule.Stage.Stage, specs.declared.rule.Stage.TheVariants.{Idle, Waiting, Holding, Joined}, specs.Histories.{IsPrefix, are_places}, specs.inner.Tests.stage_number, specs.inner.Rule.{one_where, one_within, times_at, tickets_of, ticket_at, turns_of, reach, KnowsStage, Knows, HasSlot, Kept, first_view}, specs.inner.Plays.{Awaits, Draws, Looks, Took, Commits, Serves}, proofs.Lists.{each_set, sum_set, one_below, two_below, sums_le, sums_lt}, proofs.Places.{one_if, within_after, within_few, within_some, within_more, within_less, prefix_same, prefix_le, prefix_more, wider, place_last}}
 use mathlib.Core.Option.{some, none, some-injective, some-ne-none}
 use lib.ListN.{get_elem?}
 
@@ -54,7 +54,7 @@ module _ {T I O : Type 0} (history : T → List I) (made : T → O) (origin : O)
 
   -- step 1
   pub draw_allows : (slots id : ℕ) (v : View I O) (cs : List (ℕ × Option T)) → v.stage ≡ Idle → 1 ≤ v.units
-      → Allows (Kept history made origin) slots id (v, cs) 0 (λ n. (n + 1) % 2 ^ 64) (Draws (step slots 0 1 0 none) (v, cs))
+      → Allows (Kept history made origin) slots id (v, cs) 0 (λ n. (n + 1) % 2 ^ 64) (Draws (v, cs))
   draw_allows slots id v cs idle some_units s k len at small =
       let w : View I O = record v { stage = Waiting k.drawn } in
       let found : get_or s.words 0 0 ≡ k.drawn % 2 ^ 64 = ap (λ ws. get_or ws 0 0) k.words in
@@ -151,7 +151,7 @@ module _ {T I O : Type 0} (history : T → List I) (made : T → O) (origin : O)
 
   -- step 2
   pub look_allows : (slots id t : ℕ) (v : View I O) (cs : List (ℕ × Option T)) → v.stage ≡ Waiting t
-      → Allows (Kept history made origin) slots id (v, cs) 1 (λ n. n) (Looks history made (step slots 1 0 0 none) (v, cs))
+      → Allows (Kept history made origin) slots id (v, cs) 1 (λ n. n) (Looks history made (v, cs))
   look_allows slots id t v cs waits s k len at small =
       let found : get_or s.words 1 0 ≡ k.served % 2 ^ 64 = ap (λ ws. get_or ws 1 0) k.words in
       let mine : Knows k.log k.served origin v = k.each_view id v at in
@@ -171,7 +171,7 @@ module _ {T I O : Type 0} (history : T → List I) (made : T → O) (origin : O)
         ap (λ hs. get_elem? hs 0) h.1.1,
         taken s k id v cs at waits' x h.1.1 h.1.2 begins,
         λ n is. let same : k.served ≡ n = now ∙ cc (waits, is) in
-            inl (found ∙ ap (λ m. m % 2 ^ 64) same, (x, ap (λ m. record v { stage = Holding m; seen = history x }) same, refl, begins, made_of, placed_later k.log v (Waiting t) (history x) waits refl begins mine.placed)),
+            inl (found ∙ ap (λ m. m % 2 ^ 64) same, (x, record { view = (k.served, refl); begins = begins; made = made_of; placed = placed_later k.log v (Waiting t) (history x) waits refl begins mine.placed }, refl)),
       ))
       (λ h. absurd (omega (arith, h.0, no_turn_out s k id v at waits')))
       k.slot)
@@ -193,7 +193,7 @@ module _ {T I O : Type 0} (history : T → List I) (made : T → O) (origin : O)
 
   -- step 4
   pub commit_allows : (slots id t : ℕ) (v : View I O) (cs : List (ℕ × Option T)) (x : T) (item : I) → v.stage ≡ Holding t → history x ≡ v.seen ++ item ∷ []
-      → Allows (Kept history made origin) slots id (v, (0, Some x) ∷ cs) 2 (λ n. (n + 1) % 2 ^ 64) (Commits history (step slots 2 1 0 none) (v, (0, Some x) ∷ cs))
+      → Allows (Kept history made origin) slots id (v, (0, Some x) ∷ cs) 2 (λ n. (n + 1) % 2 ^ 64) (λ _. Commits history (v, (0, Some x) ∷ cs))
   commit_allows slots id t v cs x item holds more s k len at small =
       let w : View I O = record v { seen = history x; places = v.places ++ length v.seen ∷ [] } in
       let mine : Knows k.log k.served origin v = k.each_view id v at in
@@ -238,13 +238,12 @@ module _ {T I O : Type 0} (history : T → List I) (made : T → O) (origin : O)
               (others_know s k id v at out (history x) k.served (λ ys b. prefix_more ys k.log (history x) item more' b));
           slot = inr (omega (arith, sum_set (λ (y : View I O). turns_of y.stage) s.views id v w at, (empty_slot s k id v at out).0), (empty_slot s k id v at out).1);
         },
-        λ y ds same. let is : x ≡ y = carried_same x y cs ds same in
-            (ap (λ z. record v { seen = history z; places = v.places ++ length v.seen ∷ [] }) is, refl),
+        (history x, refl, λ y ds same. ap history (carried_same x y cs ds same)),
       )
 
   -- steps 5 and 6
   pub serve_allows : (slots id t : ℕ) (v : View I O) (cs : List (ℕ × Option T)) (x : T) → v.stage ≡ Holding t → history x ≡ v.seen → v.origin ≡ Some (made x)
-      → Allows (Kept history made origin) slots id (v, (0, Some x) ∷ cs) 1 (λ n. (n + 1) % 2 ^ 64) (Serves (step slots 1 1 0 none) (v, (0, Some x) ∷ cs))
+      → Allows (Kept history made origin) slots id (v, (0, Some x) ∷ cs) 1 (λ n. (n + 1) % 2 ^ 64) (λ _. Serves (v, (0, Some x) ∷ cs))
   serve_allows slots id t v cs x holds is made_of s k len at small =
       let w : View I O = record v { stage = Idle } in
       let mine : Knows k.log k.served origin v = k.each_view id v at in
@@ -288,13 +287,13 @@ module _ {T I O : Type 0} (history : T → List I) (made : T → O) (origin : O)
 
   -- a commit, for a hand that is known by an equation
   pub commit_at : (slots id t : ℕ) (v : View I O) (hand : List (ℕ × Option T)) (x : T) (item : I) → hand ≡ (0, Some x) ∷ [] → v.stage ≡ Holding t → history x ≡ v.seen ++ item ∷ []
-      → Allows (Kept history made origin) slots id (v, hand) 2 (λ n. (n + 1) % 2 ^ 64) (Commits history (step slots 2 1 0 none) (v, hand))
-  commit_at slots id t v hand x item e holds more = subst (λ (cs : List (ℕ × Option T)). Allows (Kept history made origin) slots id (v, cs) 2 (λ n. (n + 1) % 2 ^ 64) (Commits history (step slots 2 1 0 none) (v, cs))) (sym e)
+      → Allows (Kept history made origin) slots id (v, hand) 2 (λ n. (n + 1) % 2 ^ 64) (λ _. Commits history (v, hand))
+  commit_at slots id t v hand x item e holds more = subst (λ (cs : List (ℕ × Option T)). Allows (Kept history made origin) slots id (v, cs) 2 (λ n. (n + 1) % 2 ^ 64) (λ _. Commits history (v, cs))) (sym e)
       (commit_allows slots id t v [] x item holds more)
 
   pub serve_at : (slots id t : ℕ) (v : View I O) (hand : List (ℕ × Option T)) (x : T) → hand ≡ (0, Some x) ∷ [] → v.stage ≡ Holding t → history x ≡ v.seen → v.origin ≡ Some (made x)
-      → Allows (Kept history made origin) slots id (v, hand) 1 (λ n. (n + 1) % 2 ^ 64) (Serves (step slots 1 1 0 none) (v, hand))
-  serve_at slots id t v hand x e holds is made_of = subst (λ (cs : List (ℕ × Option T)). Allows (Kept history made origin) slots id (v, cs) 1 (λ n. (n + 1) % 2 ^ 64) (Serves (step slots 1 1 0 none) (v, cs))) (sym e)
+      → Allows (Kept history made origin) slots id (v, hand) 1 (λ n. (n + 1) % 2 ^ 64) (λ _. Serves (v, hand))
+  serve_at slots id t v hand x e holds is made_of = subst (λ (cs : List (ℕ × Option T)). Allows (Kept history made origin) slots id (v, cs) 1 (λ n. (n + 1) % 2 ^ 64) (λ _. Serves (v, cs))) (sym e)
       (serve_allows slots id t v [] x holds is made_of)
 
   -- the rule at the start
@@ -320,5 +319,6 @@ pub hand_is : {T : Type 0} (hand cs : List (ℕ × Option T)) (y : Option T) →
 hand_is hand cs y e = e ∙ ap (λ r. (0, y) ∷ r) (sym (ap rest e))
 
 -- a look that found the pass's own ticket
-pub took : {T I O : Type 0} (history : T → List I) (made : T → O) (st : Step (Option T)) (m n : Me (Option T) (View I O)) (word found : ℕ) → Awaits word m.0 → found ≡ word → Looks history made st m found n → (k : ℕ) × TakesValue history made m n k
-took history made st m n word found waits is looks = ⊎_elim (λ h. (waits.0, h.1)) (λ h. absurd (h.0 (is ∙ waits.1))) (looks waits.0 waits.2)
+pub taken_now : {T I O : Type 0} (history : T → List I) (made : T → O) (m n : Me (Option T) (View I O)) (word found : ℕ) → Awaits word m.0 → found ≡ word → Looks history made m found n
+    → (x : T) × Took history made x m.0 n.0 × (n.1 ≡ (0, Some x) ∷ m.1)
+taken_now history made m n word found waits is looks = ⊎_elim (λ h. h.1) (λ h. absurd (h.0 (is ∙ waits.1))) (looks waits.0 waits.2)

@@ -65,7 +65,7 @@ pub struct Draw;
 impl<T: Chronicle> Play<Option<T>, View<T::Item, T::Origin>> for Draw {
     ghost use Rattle.turn_lock.specs.inner.Plays.{Draws};
 
-    ghost then = { Draws };
+    ghost then = { λ s. Draws };
 }
 
 /// A look at the ticket that is served.
@@ -74,7 +74,7 @@ pub struct Look;
 impl<T: Chronicle> Play<Option<T>, View<T::Item, T::Origin>> for Look {
     ghost use Rattle.turn_lock.specs.inner.Plays.{Looks};
 
-    ghost then = { Looks T.history T.origin };
+    ghost then = { λ s. Looks T.history T.origin };
 }
 
 /// An item is committed.
@@ -83,7 +83,7 @@ pub struct Commit;
 impl<T: Chronicle> Play<Option<T>, View<T::Item, T::Origin>> for Commit {
     ghost use Rattle.turn_lock.specs.inner.Plays.{Commits};
 
-    ghost then = { Commits T.history };
+    ghost then = { λ s m found. Commits T.history m };
 }
 
 /// The next ticket is served.
@@ -92,7 +92,7 @@ pub struct Serve;
 impl<T: Chronicle> Play<Option<T>, View<T::Item, T::Origin>> for Serve {
     ghost use Rattle.turn_lock.specs.inner.Plays.{Serves};
 
-    ghost then = { Serves };
+    ghost then = { λ s m found. Serves m };
 }
 
 /// A pass is split.
@@ -123,5 +123,5 @@ pub struct Settle;
 impl<T: Chronicle> Play<Option<T>, View<T::Item, T::Origin>> for Settle {
     ghost use Rattle.turn_lock.specs.inner.Plays.{Settles};
 
-    ghost then = { Settles };
+    ghost then = { λ s m found. Settles m };
 }

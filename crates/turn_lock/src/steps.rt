@@ -1,6 +1,6 @@
 //! The steps at the table, each in a function of its own.
-ghost use Rattle.std.specs.Prelude.{◌≡◌, ◌≤◌, ◌+◌, ◌++◌, ◌∷◌, [], Some, None, length, IfSome, IfNone};
-ghost use Rattle.turn_lock.{specs.Histories.{IsPrefix, longer, merged}, specs.inner.Plays.{Awaits, Got, OwnItemsStand, first_half, second_half}, specs.inner.Tests.{IsDeskTable, stage_number}};
+ghost use Rattle.std.specs.Prelude.{◌≡◌, ◌≤◌, ◌++◌, ◌∷◌, [], Some, None, length, IfSome, IfNone};
+ghost use Rattle.turn_lock.{specs.inner.Plays.{Awaits, Commits, Draws, Serves, Settles, Took, first_half, joined_view, second_half}, specs.inner.Tests.{IsDeskTable, stage_number}};
 
 use crate::chronicle::Chronicle;
 use crate::rule::{Commit, Draw, Halves, Look, Merge, Serve, Settle, TurnSeat, TurnTable};
@@ -13,12 +13,7 @@ pub(crate) fn draw<T: Chronicle>(table: &TurnTable<T>, seat: &mut TurnSeat<T>) -
     requires idle { stage_number seat.old.me.0.stage ≡ 0 }
     requires units { 1 ≤ seat.old.me.0.units }
     ensures own { seat.new.table_id ≡ seat.old.table_id }
-    ensures drawn { Awaits result seat.new.me.0 }
-    ensures seen { seat.new.me.0.seen ≡ seat.old.me.0.seen }
-    ensures units { seat.new.me.0.units ≡ seat.old.me.0.units }
-    ensures places { seat.new.me.0.places ≡ seat.old.me.0.places }
-    ensures origin { seat.new.me.0.origin ≡ seat.old.me.0.origin }
-    ensures hand { seat.new.me.1 ≡ seat.old.me.1 }
+    ensures drawn { Draws seat.old.me result seat.new.me }
 {
     table.shared.fetch_add::<Draw>(seat, 0, 1)
 }
@@ -34,7 +29,7 @@ pub(crate) fn try_take<T: Chronicle>(
     requires waits { Awaits ticket seat.old.me.0 }
     requires hand { seat.old.me.1 ≡ [] }
     ensures own { seat.new.table_id ≡ seat.old.table_id }
-    ensures got { IfSome result (λ x. Got T.history T.origin x seat.old.me.0 seat.new.me.0) }
+    ensures took { IfSome result (λ x. Took T.history T.origin x seat.old.me.0 seat.new.me.0) }
     ensures hand { IfSome result (λ x. seat.new.me.1 ≡ (0, None) ∷ []) }
     ensures none { IfNone result (seat.new.me ≡ seat.old.me) }
 {
@@ -73,12 +68,7 @@ pub(crate) fn commit<T: Chronicle>(table: &TurnTable<T>, seat: &mut TurnSeat<T>)
     requires holds { stage_number seat.old.me.0.stage ≡ 2 }
     requires hand { (x : T) × (item : T.Item) × (seat.old.me.1 ≡ (0, Some x) ∷ []) × (T.history x ≡ seat.old.me.0.seen ++ item ∷ []) }
     ensures own { seat.new.table_id ≡ seat.old.table_id }
-    ensures holds { seat.new.me.0.stage ≡ seat.old.me.0.stage }
-    ensures seen { (x : T) → seat.old.me.1 ≡ (0, Some x) ∷ [] → seat.new.me.0.seen ≡ T.history x }
-    ensures places { seat.new.me.0.places ≡ seat.old.me.0.places ++ length seat.old.me.0.seen ∷ [] }
-    ensures units { seat.new.me.0.units ≡ seat.old.me.0.units }
-    ensures origin { seat.new.me.0.origin ≡ seat.old.me.0.origin }
-    ensures hand { seat.new.me.1 ≡ seat.old.me.1 }
+    ensures committed { Commits T.history seat.old.me seat.new.me }
 {
     table.shared.fetch_add::<Commit>(seat, 2, 1);
 }
@@ -90,13 +80,7 @@ pub(crate) fn serve<T: Chronicle>(table: &TurnTable<T>, seat: &mut TurnSeat<T>)
     requires holds { stage_number seat.old.me.0.stage ≡ 2 }
     requires hand { (x : T) × (seat.old.me.1 ≡ (0, Some x) ∷ []) × (T.history x ≡ seat.old.me.0.seen) × (seat.old.me.0.origin ≡ Some (T.origin x)) }
     ensures own { seat.new.table_id ≡ seat.old.table_id }
-    ensures idle { stage_number seat.new.me.0.stage ≡ 0 }
-    ensures placed { OwnItemsStand seat.new.me.0 }
-    ensures seen { seat.new.me.0.seen ≡ seat.old.me.0.seen }
-    ensures places { seat.new.me.0.places ≡ seat.old.me.0.places }
-    ensures units { seat.new.me.0.units ≡ seat.old.me.0.units }
-    ensures origin { seat.new.me.0.origin ≡ seat.old.me.0.origin }
-    ensures hand { seat.new.me.1 ≡ [] }
+    ensures served { Serves seat.old.me seat.new.me }
 {
     table.shared.fetch_add::<Serve>(seat, 1, 1);
     table.shared.wake_all(1);
@@ -124,15 +108,7 @@ pub(crate) fn join<T: Chronicle>(table: &TurnTable<T>, seat: &mut TurnSeat<T>, o
     requires units { 1 ≤ seat.old.me.0.units }
     requires hand { length other.me.1 ≡ 0 }
     ensures own { seat.new.table_id ≡ seat.old.table_id }
-    ensures idle { stage_number seat.new.me.0.stage ≡ 0 }
-    ensures placed { OwnItemsStand seat.new.me.0 }
-    ensures seen { seat.new.me.0.seen ≡ longer seat.old.me.0.seen other.me.0.seen }
-    ensures first { IsPrefix seat.old.me.0.seen seat.new.me.0.seen }
-    ensures second { IsPrefix other.me.0.seen seat.new.me.0.seen }
-    ensures places { seat.new.me.0.places ≡ merged seat.old.me.0.places other.me.0.places }
-    ensures units { seat.new.me.0.units ≡ seat.old.me.0.units + other.me.0.units }
-    ensures origin { seat.new.me.0.origin ≡ seat.old.me.0.origin }
-    ensures hand { seat.new.me.1 ≡ seat.old.me.1 }
+    ensures joined { Settles (joined_view seat.old.me.0 other.me.0, seat.old.me.1) seat.new.me }
 {
     table.shared.join_seat::<Merge>(seat, other);
     table.shared.load::<Settle>(seat, 2);

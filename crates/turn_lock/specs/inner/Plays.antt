@@ -1,6 +1,6 @@
 -- What each step tells the pass that makes it.
 use Rattle.std.specs.Prelude.{◌≡◌, ◌≢◌, ℕ, ◌+◌, ◌-◌, ◌/◌, ◌%◌, ◌^◌, List, [], ◌∷◌, ◌++◌, length, ◌⊎◌, true, Some, None, Option}
-use Rattle.atomic_table.specs.Table.{Me, Step, rest}
+use Rattle.atomic_table.specs.Table.{Me, rest}
 use Rattle.turn_lock.{specs.declared.rule.View.View, specs.declared.rule.Stage.Stage, specs.declared.rule.Stage.TheVariants.{Idle, Waiting, Holding, Joined}, specs.Histories.{IsPrefix, longer, are_places, merged}}
 
 -- the list that a pass which was taken in had seen
@@ -39,41 +39,33 @@ Hand T I O = Me (Option T) (View I O)
 
 module _ {T I O : Type 0} where
   -- a ticket was drawn
-  abbrev pub Draws : Step (Option T) → Hand T I O → ℕ → Hand T I O → Type 0
-  Draws s m found n = (k : ℕ) × (found ≡ k % 2 ^ 64) × (n.0 ≡ record m.0 { stage = Waiting k }) × (n.1 ≡ m.1)
+  abbrev pub Draws : Hand T I O → ℕ → Hand T I O → Type 0
+  Draws m found n = (k : ℕ) × (found ≡ k % 2 ^ 64) × (n.0 ≡ record m.0 { stage = Waiting k }) × (n.1 ≡ m.1)
 
   -- the value went home
-  abbrev pub Serves : Step (Option T) → Hand T I O → ℕ → Hand T I O → Type 0
-  Serves s m found n = (n.0 ≡ record m.0 { stage = Idle }) × (n.1 ≡ rest m.1) × OwnItemsStand n.0
+  abbrev pub Serves : Hand T I O → Hand T I O → Type 0
+  Serves m n = (n.0 ≡ record m.0 { stage = Idle }) × (n.1 ≡ rest m.1) × OwnItemsStand n.0
 
   -- after a join: the longer list is kept, and both begin it
-  abbrev pub Settles : Step (Option T) → Hand T I O → ℕ → Hand T I O → Type 0
-  Settles s m found n = (n.0 ≡ record m.0 { stage = Idle; seen = longer m.0.seen (also_seen m.0.stage) }) × (n.1 ≡ m.1)
+  abbrev pub Settles : Hand T I O → Hand T I O → Type 0
+  Settles m n = (n.0 ≡ record m.0 { stage = Idle; seen = longer m.0.seen (also_seen m.0.stage) }) × (n.1 ≡ m.1)
       × IsPrefix m.0.seen n.0.seen × IsPrefix (also_seen m.0.stage) n.0.seen × OwnItemsStand n.0
 
   module _ (history : T → List I) where
-    -- the history has one item more, and it is the pass's own
-    abbrev pub Commits : Step (Option T) → Hand T I O → ℕ → Hand T I O → Type 0
-    Commits s m found n = (x : T) (cs : List (ℕ × Option T)) → m.1 ≡ (0, Some x) ∷ cs
-        → (n.0 ≡ record m.0 { seen = history x; places = m.0.places ++ length m.0.seen ∷ [] }) × (n.1 ≡ m.1)
+    -- the pass has seen the history of the value in its hand, whose last item is its own
+    abbrev pub Commits : Hand T I O → Hand T I O → Type 0
+    Commits m n = (new : List I) × (n ≡ (record m.0 { seen = new; places = m.0.places ++ length m.0.seen ∷ [] }, m.1))
+        × ((x : T) (cs : List (ℕ × Option T)) → m.1 ≡ (0, Some x) ∷ cs → new ≡ history x)
 
     module _ (origin_of_value : T → O) where
-      -- the ticket k is served, and the value is in the hand
-      abbrev pub TakesValue : Hand T I O → Hand T I O → ℕ → Type 0
-      TakesValue m n k = (x : T) × (n.0 ≡ record m.0 { stage = Holding k; seen = history x }) × (n.1 ≡ (0, Some x) ∷ m.1)
-          × IsPrefix m.0.seen (history x) × (m.0.origin ≡ Some (origin_of_value x)) × OwnItemsStand n.0
+      -- the pass's ticket is served, and the value x came into its hand
+      pub record Took (x : T) (old new : View I O) : Type 0 where
+        pub view : (k : ℕ) × (new ≡ record old { stage = Holding k; seen = history x })
+        pub begins : IsPrefix old.seen (history x)
+        pub made : old.origin ≡ Some (origin_of_value x)
+        pub placed : OwnItemsStand new
 
       -- the pass's ticket is served, or nothing changed
-      abbrev pub Looks : Step (Option T) → Hand T I O → ℕ → Hand T I O → Type 0
-      Looks s m found n = (k : ℕ) → m.0.stage ≡ Waiting k → ((found ≡ k % 2 ^ 64) × TakesValue m n k) ⊎ ((found ≢ k % 2 ^ 64) × (n ≡ m))
-
--- the value x came into the hand of the pass
-pub record Got {T I O : Type 0} (history : T → List I) (origin_of_value : T → O) (x : T) (old new : View I O) : Type 0 where
-  pub holds : (k : ℕ) × (new.stage ≡ Holding k)
-  pub stands : history x ≡ new.seen
-  pub begins : IsPrefix old.seen new.seen
-  pub made : old.origin ≡ Some (origin_of_value x)
-  pub placed : OwnItemsStand new
-  pub units : new.units ≡ old.units
-  pub places : new.places ≡ old.places
-  pub origin : new.origin ≡ old.origin
+      abbrev pub Looks : Hand T I O → ℕ → Hand T I O → Type 0
+      Looks m found n = (k : ℕ) → m.0.stage ≡ Waiting k
+          → ((found ≡ k % 2 ^ 64) × ((x : T) × Took x m.0 n.0 × (n.1 ≡ (0, Some x) ∷ m.1))) ⊎ ((found ≢ k % 2 ^ 64) × (n ≡ m))

@@ -1,7 +1,5 @@
 use Rattle.std.proofs.Common.{arith, ◌∙◌}
-use Rattle.atomic_table.specs.Table.{step}
-use Rattle.turn_lock.proofs.Turns.{look_allows, took, hand_is}
-use mathlib.Core.Option.{none}
+use Rattle.turn_lock.proofs.Turns.{look_allows, taken_now, hand_is}
 use Rattle.turn_lock.proofs.steps.try_take.Goals as goal
 
 pub load-requires : goal.load-requires
@@ -9,5 +7,5 @@ load-requires g c = (c.requires.own, omega (arith, c.requires.sizes), look_allow
 
 pub exchange-requires : goal.exchange-requires
 exchange-requires g c =
-    let t = took g.T.Chronicle.history g.T.Chronicle.origin (step c.args.table.now.shared.table_id.slots 1 0 0 none) c.args.seat.now.me c.load.new.seat.me c.args.ticket c.load.result c.requires.waits c.if-load-ticket.false c.load.ensures.2 in
-    (c.load.ensures.0 ∙ c.requires.own, (_, hand_is _ _ _ t.1.2))
+    let t = taken_now g.T.Chronicle.history g.T.Chronicle.origin c.args.seat.now.me c.load.new.seat.me c.args.ticket c.load.result c.requires.waits c.if-load-ticket.false c.load.ensures.2 in
+    (c.load.ensures.0 ∙ c.requires.own, (_, hand_is _ _ _ t.2))
