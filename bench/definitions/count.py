@@ -10,6 +10,10 @@ import glob
 import os
 import re
 import sys
+from pathlib import Path
+
+sys.path.insert(0, str(Path(__file__).resolve().parent.parent))
+from import_lines import names_of
 
 WORD = re.compile(r"[^\s(){}\[\],;]+")
 HEAD = re.compile(r"(?:pub )?(?:abbrev|unfoldable|opaque|record|data) (?:pub )?(?!\{)(\S+)(?=\s|$)")
@@ -28,15 +32,10 @@ def imports(lines, prefix):
         if " as " in path and ".{" not in path:
             module, alias = path.split(" as ")
             aliases[alias.strip()] = module.strip()
-        elif ".{" in path:
-            module, listed = path.split(".{", 1)
-            for name in listed.rstrip("}").split(","):
-                name = name.strip()
-                if " as " in name:
-                    name, alias = (part.strip() for part in name.split(" as "))
-                    names[alias] = (module, name)
-                else:
-                    names[name] = (module, name)
+        else:
+            for module, name in names_of(path):
+                name, _, alias = name.partition(" as ")
+                names[(alias or name).strip()] = (module, name.strip())
     return names, aliases
 
 
