@@ -13,6 +13,6 @@ mod pool;
 mod routings;
 mod writer;
 
-pub use crate::{demand_name, link_name, node_name, state_name};
+pub use part_names::{demand_name, link_name, node_name, state_name};
 pub use plan_types::{Outcome, Report};
 pub use writer::write_report;
