@@ -10,4 +10,4 @@ mod decimal;
 mod places;
 
 pub use decimal::thousandths;
-pub use places::Place;
+pub use places::{Place, node_places};

@@ -10,8 +10,7 @@ use net_core::{Bytes, Problem};
 use node_places::Place;
 use outside_io::Shelf;
 use people_files::{Halt, fetch_report, load_placed_case};
-use people_views::people_views::ViewForm;
-use people_views::{picture_form, state_form, view_report};
+use people_views::{ViewForm, picture_form, state_form, view_report};
 use people_words::{FormWords, ViewWords};
 use std::alloc::Global;
 

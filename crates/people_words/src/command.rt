@@ -6,9 +6,9 @@ ghost use Rattle.people_words.{specs.PeopleCommands.{AskedForm, AskedPlan, AsksP
 use crate::given::{Given, OptionValue, given_by};
 use crate::options::{takes_options, value_given};
 use crate::words::{FormWords, HelpTopic, PeopleWords, PlanRequest, ViewWords};
+use input_files::{DEFAULT, PlanFiles};
 use net_core::NoMemory;
 use people_files::CaseFiles;
-use people_files::input_files::{DEFAULT, PlanFiles};
 use plan_view::Sheet;
 use std::alloc::Global;
 

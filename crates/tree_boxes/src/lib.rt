@@ -29,6 +29,5 @@ pub use evaluation::look;
 pub use found::{Cheaper, Found};
 pub use known::{Known, first_items, index_of};
 pub use lines::make_first_lines;
-pub use proof_order;
 pub use search::{MOST_FURTHER, MOST_SET_CUTS, Search};
 pub use twigs::{OpenBox, Twig};

@@ -1,11 +1,11 @@
 ghost use Rattle.std.specs.Prelude.{◌<◌, ◌^◌, All, Contains, IfOk, length, map};
 ghost use Rattle.tree_boxes.specs.Searches.{IsOwnCert};
 
+use line_maker::Entry;
 use net_core::{CutLine, List, NoMemory};
 use plan_types::Plan;
 use std::alloc::Global;
 use tree_boxes::index_of;
-use tree_boxes::line_maker::Entry;
 use tree_check::{BoxCert, Multiplier};
 
 /// The certificate of a plan as one of boxes, with its cuts given by their indices in the list.

@@ -9,13 +9,13 @@ use crate::growth::{Growth, grown};
 use crate::own_cert::own_cert;
 use crate::tree::{Tree, finished};
 use able_counts::AbleTest;
+use line_maker::{Entry, Ordered, in_order};
 use net_core::{Copied, CutLine, Instance, List, Network, NoMemory, States, discard};
 use outside_io::Gate;
 use plan_swaps::swap;
 use plan_types::Plan;
 use std::alloc::Global;
 use std::mem;
-use tree_boxes::line_maker::{Entry, Ordered, in_order};
 use tree_boxes::{
     Aim, Cheaper, Known, MOST_FURTHER, MOST_SET_CUTS, Search, empty_cert, first_items,
 };
