@@ -8,7 +8,7 @@ set -eu
 cd "$(dirname "$0")/../.."
 room=$(mktemp -d)
 trap 'rm -r "$room"' EXIT
-python3 bench/plain/plain.py "$room" checked_fraction simplex_core short_paths key_rows key_paths module_prices metric_cut greedy_router flow_router node_sets master_bound separator flow_mending row_prices row_cuts warm_basis warm_routing plan_types module_choice share_covers able_counts trim_plan plan_swaps plan_checker cover_table line_check table_maker tree_check box_program line_maker proof_order tree_boxes tree_search outside_io
+python3 bench/plain/plain.py "$room" checked_fraction simplex_core short_paths key_rows key_paths module_prices metric_cut greedy_router flow_router node_sets master_bound separator flow_mending row_cuts warm_basis warm_routing plan_types module_choice share_covers able_counts trim_plan plan_swaps plan_checker line_check table_maker tree_check box_program line_maker tree_boxes tree_search outside_io
 rm "$room/metric_cut.rs" "$room/separator.rs" "$room/plan_types.rs" "$room/plan_checker.rs" "$room/outside_io.rs"
 cp bench/prove/main.rs "$room"
 cp bench/trim/net_core.rs "$room"

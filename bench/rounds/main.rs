@@ -17,7 +17,6 @@ mod module_prices;
 mod net_core;
 mod node_sets;
 mod row_cuts;
-mod row_prices;
 mod share_covers;
 mod short_paths;
 mod simplex_core;

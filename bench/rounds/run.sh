@@ -7,7 +7,7 @@ set -eu
 cd "$(dirname "$0")/../.."
 room=$(mktemp -d)
 trap 'rm -r "$room"' EXIT
-python3 bench/plain/plain.py "$room" checked_fraction simplex_core short_paths key_rows key_paths module_prices metric_cut greedy_router flow_router node_sets master_bound length_master flow_mending row_prices row_cuts warm_basis warm_routing separator plan_types module_choice share_covers
+python3 bench/plain/plain.py "$room" checked_fraction simplex_core short_paths key_rows key_paths module_prices metric_cut greedy_router flow_router node_sets master_bound length_master flow_mending row_cuts warm_basis warm_routing separator plan_types module_choice share_covers
 rm "$room/metric_cut.rs" "$room/separator.rs" "$room/plan_types.rs"
 cp bench/rounds/main.rs bench/trim/net_core.rs "$room"
 sed -i 's/^mod /pub mod /' "$room/share_covers.rs"

@@ -16,7 +16,6 @@ mod node_sets;
 mod plan_swaps;
 mod share_covers;
 mod row_cuts;
-mod row_prices;
 mod short_paths;
 mod simplex_core;
 mod trim_plan;

@@ -5,7 +5,7 @@ set -eu
 cd "$(dirname "$0")/../.."
 room=$(mktemp -d)
 trap 'rm -r "$room"' EXIT
-python3 bench/plain/plain.py "$room" checked_fraction simplex_core short_paths key_rows key_paths module_prices metric_cut greedy_router flow_router node_sets master_bound separator flow_mending row_prices row_cuts warm_basis warm_routing plan_types module_choice share_covers able_counts trim_plan plan_swaps
+python3 bench/plain/plain.py "$room" checked_fraction simplex_core short_paths key_rows key_paths module_prices metric_cut greedy_router flow_router node_sets master_bound separator flow_mending row_cuts warm_basis warm_routing plan_types module_choice share_covers able_counts trim_plan plan_swaps
 rm "$room/metric_cut.rs" "$room/separator.rs" "$room/plan_types.rs"
 cp bench/trim/main.rs bench/trim/net_core.rs "$room"
 grep -lE '\bVec\b' "$room"/*/*.rs | xargs sed -i '1i use crate::net_core::Vec;'
