@@ -9,8 +9,8 @@ use Rattle.master_law.specs.Terms.{AreUnitPairs, IsLeastShare, IsSameCut}
 use Rattle.master_bound.specs.declared.answer.Best.{Best}
 use Rattle.plan_law.{specs.WorkedLists.{AreDifferentCuts, IsBeginning}, proofs.Pairs.pairs_append, proofs.Rounds.{begun_worked, found_is_new, worked_cuts}}
 use Rattle.turn_lock.specs.Passes.{Seen}
-use Rattle.separator.specs.Separators.{IsCutEntry, IsFullHistory, IsPartOf, IsSeenHistory, IsSeparatingCut, IsSpotIn, SeesMore, SeparatesAt, cuts_since}
-use Rattle.plan_rounds.{specs.WorkedRounds.{IsPoolOf, IsWorkedPool}, specs.inner.Alone.{HasSameCuts, IsAlone, IsPoolAfterTurn, IsPoolAsFar, IsPoolOfList}, specs.inner.Answered.AreSorted, specs.inner.Listing.AreListed, specs.inner.Turns.{AddsFirst, AddsFound, Judges}, specs.declared.candidates.Candidates.Candidates, specs.declared.rounds.Turn.Turn, specs.declared.rounds.Turn.TheVariants.{Further, Last}, specs.declared.sorted_answers.Answered.Answered, proofs.OwnPool.{IsRoundOfPool, all_cuts, alone_since, few_within, pool_round}, proofs.Turning.{GivesNoLess, found_of}}
+use Rattle.separator.{specs.declared.answers.StateAnswer.StateAnswer, specs.Separators.{IsCutEntry, IsFullHistory, IsPartOf, IsSeenHistory, IsSeparatingCut, IsSpotIn, SeesMore, SeparatesAt, cuts_answered, cuts_since}}
+use Rattle.plan_rounds.{specs.WorkedRounds.{IsPoolOf, IsWorkedPool}, specs.inner.Alone.{HasSameCuts, IsAlone, IsPoolAfterTurn, IsPoolAsFar, IsPoolOfList}, specs.inner.Answered.{AreAnswers, AreSorted}, specs.inner.Listing.AreListed, specs.inner.Turns.{AddsFirst, AddsFound, Judges}, specs.declared.candidates.Candidates.Candidates, specs.declared.rounds.Turn.Turn, specs.declared.rounds.Turn.TheVariants.{Further, Last}, specs.declared.sorted_answers.Answered.Answered, proofs.OwnPool.{IsRoundOfPool, all_cuts, alone_since, few_within, pool_round}, proofs.Turning.{GivesNoLess, found_of}}
 
 -- and so one line for a state and lengths
 line_once : (p : Case) (a b : CutLine) → IsCut p a → IsCut p b → cut_of_line a ≡ cut_of_line b → a ≡ b
@@ -45,14 +45,17 @@ pairs_differ lines different i j d ij lj same =
     different i j none ij inside (ap (λ n. record { 0 = n }) state, ap (λ x. x.1) pair)
 
 module _ (p : Case) (pairs : List UnitPair) (units : AreUnitPairs p.links pairs) (net : Network) (states : States) (past now : Seen Entry) (part : IsPartOf past.own past.history) (more : SeesMore past now) (seen : IsSeenHistory net states now) (alone : IsAlone now)
-    (share : Share) (caps : Caps) (a : Answered) (old : Candidates) (answered : List (ℕ × List ℕ)) (n : ℕ) (least : IsLeastShare p.links pairs old.lines share) (gives : GivesNoLess p pairs caps share)
-    (separates : All (SeparatesAt p caps) (cuts_since past now)) (apart : AllPairs (λ x y. x.0 ≢ y.0) (cuts_since past now)) (inside : All (Contains answered) (cuts_since past now)) (found_is : map cut_of_line a.found.lines ≡ answered)
-    (sorted : AreSorted p caps now.history n a) (listed : AreListed p past.history old) (pool : IsPoolOfList p pairs (cuts_of past.history) old.lines) where
+    (share : Share) (caps : Caps) (a : Answered) (old : Candidates) (least : IsLeastShare p.links pairs old.lines share) (gives : GivesNoLess p pairs caps share)
+    (answers : List StateAnswer) (told : AreAnswers p caps past now answers) (separates : All (SeparatesAt p caps) (cuts_since past now)) (found_is : map cut_of_line a.found.lines ≡ cuts_answered answers)
+    (sorted : AreSorted p caps now.history (length p.listed + 1) a) (listed : AreListed p past.history old) (pool : IsPoolOfList p pairs (cuts_of past.history) old.lines) where
   since : cuts_of now.history ≡ cuts_of past.history ++ cuts_since past now
   since = alone_since past now part more alone
 
+  among : All (Contains (map cut_of_line a.found.lines)) (cuts_since past now)
+  among = subst (λ cuts. All (Contains cuts) (cuts_since past now)) (sym found_is) told.among
+
   round : IsRoundOfPool p pairs pool.made (cuts_of past.history) (cuts_since past now)
-  round = pool_round p pairs caps (cuts_of past.history) old.lines share (cuts_since past now) pool least (λ line cut. found_of p pairs share caps line gives cut) separates apart (subst (λ xs. length xs ≤ 4096) since seen.few_cuts)
+  round = pool_round p pairs caps (cuts_of past.history) old.lines share (cuts_since past now) pool least (λ line cut. found_of p pairs share caps line gives cut) separates told.different (subst (λ xs. length xs ≤ 4096) since seen.few_cuts)
 
   pub worked : IsWorkedPool p now.history
   worked = record { pairs = pairs; rounds = round.rounds; lines = round.made; list = round.list; pooled = round.pooled ∙ sym since }
@@ -101,9 +104,8 @@ module _ (p : Case) (pairs : List UnitPair) (units : AreUnitPairs p.links pairs)
 
     few_since : length (cuts_since past now) ≤ length a.found.lines
     few_since =
-        let most = few_within (cuts_since past now) answered (λ i j d ij lj e. apart i j d ij lj (ap (λ x. x.0) e)) inside in
-        let long = ap length found_is in
-        omega (arith, most, long, length-map a.found.lines cut_of_line)
+        let most = few_within (cuts_since past now) (map cut_of_line a.found.lines) (λ i j d ij lj e. told.different i j d ij lj (ap (λ x. x.0) e)) among in
+        omega (arith, most, length-map a.found.lines cut_of_line)
 
     all_found : (room_left : ℕ) → length old.lines + room_left ≡ 4096 → take room_left a.found.lines ≡ a.found.lines
     all_found room_left full = take_all room_left a.found.lines (let few = few_both in let limit = seen.few_cuts in omega (arith, few, limit, full))
@@ -127,8 +129,7 @@ module _ (p : Case) (pairs : List UnitPair) (units : AreUnitPairs p.links pairs)
           (λ first. Contains-append_left old.lines a.found.lines line (same.back line first))
           (λ second.
           let of : Contains (cuts_since past now) (cut_of_line line) = subst (λ xs. Contains xs (cut_of_line line)) round.are (cut_among round.found line second) in
-          let told : Contains (map cut_of_line a.found.lines) (cut_of_line line) = subst (λ xs. Contains xs (cut_of_line line)) (sym found_is) (All-contains (Contains answered) (cuts_since past now) (cut_of_line line) inside of) in
-          let found = line_of_cut a.found.lines (cut_of_line line) told in
+          let found = line_of_cut a.found.lines (cut_of_line line) (All-contains (Contains (map cut_of_line a.found.lines)) (cuts_since past now) (cut_of_line line) among of) in
           let once = line_once p found.0 line (All-contains (IsCut p) a.found.lines found.0 found_cuts found.1) (All-contains (IsCut p) round.found line round.are_cuts second) found.2 in
           Contains-append_right old.lines a.found.lines line (subst (Contains a.found.lines) once found.1))
           (Contains-append_cases pool.made round.found line (subst (λ xs. Contains xs line) round.following here));

@@ -9,7 +9,7 @@ use Rattle.master_law.{specs.Terms.{AreUnitPairs, IsLeastShare, share_capacities
 use Rattle.master_bound.specs.declared.answer.Best.{Best}
 use Rattle.length_master.specs.WideShares.{AreLeastCaps}
 use Rattle.plan_law.{specs.WorkedLists.{AreRounds, IsRound, IsWorkedList, Round, after_rounds}, proofs.Rounds.worked_on}
-use Rattle.plan_rounds.{specs.WorkedRounds.{AreWorkedRounds, EndsBy, IsBestOfLast}, specs.inner.Answered.AreSorted, specs.inner.Listing.AreListed, specs.inner.Turns.{AddsFound, AddsRound, ArePassed, Extends, IsFurther, IsLaterTurn, IsOpenTurn, IsTurnAfter, IsTurnOf}, specs.declared.candidates.Candidates.Candidates, specs.inner.Sharing.IsDividedCaps, specs.declared.shares.ShareCaps.ShareCaps, specs.declared.rounds.Turn.Turn, specs.declared.rounds.Turn.TheVariants.{Further, Last}, specs.declared.sorted_answers.Answered.Answered, proofs.Turning.{GivesNoLess, IsWorking, divided_gives, further_room, listed_round, proper, round, taken_few, taken_some, working_ends, working_on}}
+use Rattle.plan_rounds.{specs.WorkedRounds.{AreWorkedRounds, EndsBy, IsBestOfLast}, specs.inner.Answered.AreSorted, specs.inner.Listing.AreListed, specs.inner.Turns.{AddsFound, AddsRound, ArePassed, Extends, IsFurther, IsLaterTurn, IsOpenTurn, IsPast, IsTurnAfter, IsTurnOf, worked_of}, specs.declared.candidates.Candidates.Candidates, specs.inner.Sharing.IsDividedCaps, specs.declared.shares.ShareCaps.ShareCaps, specs.declared.rounds.Turn.Turn, specs.declared.rounds.Turn.TheVariants.{Further, Last}, specs.declared.sorted_answers.Answered.Answered, proofs.Turning.{GivesNoLess, IsWorking, divided_gives, further_room, listed_round, proper, round, taken_few, taken_some, working_ends, working_on}}
 
 module _ (p : Case) (pairs : List UnitPair) where
   -- ---- the share behind capacities
@@ -66,10 +66,7 @@ module _ (p : Case) (pairs : List UnitPair) where
 
   -- ---- rounds
 
-  pub passed_none : (most : ℕ) (lines : List CutLine) → length lines ≤ most → ArePassed p pairs most lines lines
-  passed_none most lines few = record { rounds = []; are_rounds = tt; whole = refl; few = few }
-
-  pub passed_more : (most room : ℕ) (old mid new : List CutLine) (one : Round) → ArePassed p pairs most old mid → IsRound p pairs mid one → new ≡ mid ++ one.cuts → length one.cuts ≤ room → length mid + room ≤ most
+  passed_more : (most room : ℕ) (old mid new : List CutLine) (one : Round) → ArePassed p pairs most old mid → IsRound p pairs mid one → new ≡ mid ++ one.cuts → length one.cuts ≤ room → length mid + room ≤ most
       → ArePassed p pairs most old new
   passed_more most room old mid new one passed is whole few fits = record {
     rounds = one ∷ passed.rounds;
@@ -78,10 +75,13 @@ module _ (p : Case) (pairs : List UnitPair) where
     few = let long = ap length whole ∙ length-append mid one.cuts in omega (arith, long, few, fits);
   }
 
-  pub extends_none : (c : Candidates) → Extends c c
-  extends_none c = record { more_lines = []; more_spots = []; lines = sym (append-nil c.lines); spots = sym (append-nil c.spots) }
+  pub past_none : (most : ℕ) (c : Candidates) → length c.lines ≤ most → IsPast p pairs most c c
+  past_none most c few = record {
+    passed = record { rounds = []; are_rounds = tt; whole = refl; few = few };
+    extends = record { more_lines = []; more_spots = []; lines = sym (append-nil c.lines); spots = sym (append-nil c.spots) };
+  }
 
-  pub extends_both : (a b c : Candidates) → Extends a b → Extends b c → Extends a c
+  extends_both : (a b c : Candidates) → Extends a b → Extends b c → Extends a c
   extends_both a b c one two = record {
     more_lines = one.more_lines ++ two.more_lines;
     more_spots = one.more_spots ++ two.more_spots;
@@ -97,17 +97,16 @@ module _ (p : Case) (pairs : List UnitPair) where
       ap (λ xs. record { lines = xs; spots = back.spots }) lines_are ∙ ap (λ xs. record { lines = old.lines; spots = xs }) spots_are
 
   -- a round that is added, or not, after those that have come
-  pub passed_added : (most room : ℕ) (old mid new : Candidates) (added : Bool) → length mid.lines + room ≡ most → ArePassed p pairs most old.lines mid.lines → AddsRound p pairs room mid new added → ArePassed p pairs most old.lines new.lines
-  passed_added most room old mid new true fits passed adds = passed_more most room old.lines mid.lines new.lines adds.0 passed adds.1 adds.2 adds.4 (omega (arith, fits))
-  passed_added most room old mid new false fits passed same = subst (λ (c : Candidates). ArePassed p pairs most old.lines c.lines) (sym same) passed
-
-  pub extends_added : (room : ℕ) (old mid new : Candidates) (added : Bool) → Extends old mid → AddsRound p pairs room mid new added → Extends old new
-  extends_added room old mid new true extends adds = extends_both old mid new extends adds.5
-  extends_added room old mid new false extends same = subst (Extends old) (sym same) extends
+  pub past_added : (most : ℕ) (old mid new : Candidates) (added : Bool) → IsPast p pairs most old mid → AddsRound p pairs (most - length mid.lines) mid new added → IsPast p pairs most old new
+  past_added most old mid new true past adds = record {
+    passed = let few = past.passed.few in passed_more most (most - length mid.lines) old.lines mid.lines new.lines adds.0 past.passed adds.1 adds.2 adds.4 (omega (arith, few));
+    extends = extends_both old mid new past.extends adds.5;
+  }
+  past_added most old mid new false past same = subst (IsPast p pairs most old) (sym same) past
 
   -- a round that is added leaves less room
-  pub less_room : (most room : ℕ) (mid new : Candidates) → length mid.lines + room ≡ most → AddsRound p pairs room mid new true → most - length new.lines < most - length mid.lines
-  less_room most room mid new fits adds = let long = ap length adds.2 ∙ length-append mid.lines adds.0.cuts in let some = adds.3 in let few = adds.4 in omega (arith, long, some, few, fits)
+  pub less_room : (most : ℕ) (mid new : Candidates) → length mid.lines ≤ most → AddsRound p pairs (most - length mid.lines) mid new true → most - length new.lines < most - length mid.lines
+  less_room most mid new fits adds = let long = ap length adds.2 ∙ length-append mid.lines adds.0.cuts in let some = adds.3 in let few = adds.4 in omega (arith, long, some, few, fits)
 
   -- rounds after a worked list make a worked list
   pub worked_past : (pool : List CutLine) (rounds passed : List Round) (lines : List CutLine) → All (IsCut p) pool → IsWorkedList p pairs pool rounds lines → AreRounds p pairs lines passed
@@ -148,40 +147,39 @@ module _ (p : Case) (pairs : List UnitPair) where
   open_turn room some mid new (Further best) one two = one
   open_turn room some mid new (Last best quality) one two = (one.0, never_master mid (room ≡ 0) some best quality one.1 two.1)
 
-  pub turn_room : (room most : ℕ) (before : Option Best) (old new : List CutLine) (best : Best) → room ≡ most - length old → length old ≤ most → IsTurnAfter p pairs room before old new (Further best)
-      → (length new ≤ most) × (most - length new < most - length old)
-  turn_room room most before old new best is fits turn = ⊎_elim
-      (λ (f : IsFurther p pairs room before old new best). further_room p pairs room most before old new best is fits f)
-      (λ (later : IsLaterTurn p pairs room old new (Further best)).
+  pub turn_room : (most : ℕ) (before : Option Best) (old new : List CutLine) (best : Best) → length old ≤ most → IsTurnAfter p pairs most before old new (Further best) → (length new ≤ most) × (most - length new < most - length old)
+  turn_room most before old new best fits turn = ⊎_elim
+      (λ (f : IsFurther p pairs (most - length old) before old new best). further_room p pairs (most - length old) most before old new best refl fits f)
+      (λ (later : IsLaterTurn p pairs most old new (Further best)).
       let f = later.after in
+      let few = later.passed.few in
       let long : length new ≡ length later.mid + length f.found = ap length f.lines ∙ length-append later.mid f.found in
-      let same = later.fits in
-      let long_mid = later_long old later.mid (length old + room) later.passed in
-      (omega (arith, long, f.few, same, is, fits), omega (arith, long, f.few, f.some, same, is, fits, long_mid)))
+      let long_mid = later_long old later.mid most later.passed in
+      (omega (arith, long, f.few, few), omega (arith, long, f.few, f.some, few, long_mid)))
       turn
 
-  pub turn_further : (pool old new : List CutLine) (before : Option Best) (room : ℕ) (best : Best) → All (IsCut p) pool → length old + room ≡ length pool + 4096 → IsWorking p pairs pool old before
-      → IsTurnAfter p pairs room before old new (Further best) → IsWorking p pairs pool new (Some best)
-  turn_further pool old new before room best known fits w turn = ⊎_elim
-      (λ (f : IsFurther p pairs room before old new best). working_on p pairs pool old new before room best known (omega (arith, fits)) w.rounds w.list f)
-      (λ (later : IsLaterTurn p pairs room old new (Further best)).
-      let list = later_list pool old later.mid (length old + room) known (omega (arith, fits)) before w later.passed in
-      let same = later.fits in
-      working_on p pairs pool later.mid new None later.rest best known (omega (arith, same, fits)) (later.passed.rounds ++ w.rounds) list later.after)
+  pub turn_further : (pool old new : List CutLine) (before : Option Best) (most : ℕ) (best : Best) → All (IsCut p) pool → length pool + 4096 ≡ most → length old ≤ most → IsWorking p pairs pool old before
+      → IsTurnAfter p pairs most before old new (Further best) → IsWorking p pairs pool new (Some best)
+  turn_further pool old new before most best known same fits w turn = ⊎_elim
+      (λ (f : IsFurther p pairs (most - length old) before old new best). working_on p pairs pool old new before (most - length old) best known (omega (arith, same, fits)) w.rounds w.list f)
+      (λ (later : IsLaterTurn p pairs most old new (Further best)).
+      let few = later.passed.few in
+      let list = later_list pool old later.mid most known (omega (arith, same)) before w later.passed in
+      working_on p pairs pool later.mid new None (most - length later.mid) best known (omega (arith, same, few)) (later.passed.rounds ++ w.rounds) list later.after)
       turn
 
-  pub turn_ends : (h : List Entry) (pool old : List CutLine) (c : Candidates) (before best : Option Best) (room : ℕ) (quality : Quality) → All (IsCut p) pool → AreListed p h c → length old + room ≡ length pool + 4096 → IsWorking p pairs pool old before
-      → IsTurnAfter p pairs room before old c.lines (Last best quality) → AreWorkedRounds p h pool (record { lines = c.lines; spots = c.spots; best = best; quality = quality })
-  turn_ends h pool old c before best room quality known are fits w turn = ⊎_elim
-      (λ (here : IsTurnOf p pairs room before old c.lines (Last best quality)).
+  pub turn_ends : (h : List Entry) (pool old : List CutLine) (c : Candidates) (before best : Option Best) (most : ℕ) (quality : Quality) → All (IsCut p) pool → AreListed p h c → length pool + 4096 ≡ most → length old ≤ most → IsWorking p pairs pool old before
+      → IsTurnAfter p pairs most before old c.lines (Last best quality) → AreWorkedRounds p h pool (worked_of c best quality)
+  turn_ends h pool old c before best most quality known are same fits w turn = ⊎_elim
+      (λ (here : IsTurnOf p pairs (most - length old) before old c.lines (Last best quality)).
       let long = ap length here.0 in
       let worked = subst (λ ls. IsWorking p pairs pool ls before) (sym here.0) w in
-      working_ends p pairs (λ b. b ≡ before) h pool c best room quality are (omega (arith, long, fits)) worked.rounds worked.list
-      (λ b same. subst (IsBestOfLast p pairs worked.list.start worked.rounds) (sym same) worked.last) (subst (λ ls. EndsBy p pairs ls (room ≡ 0) (λ b. b ≡ before) best quality) (sym here.0) here.1))
-      (λ (later : IsLaterTurn p pairs room old c.lines (Last best quality)).
-      let list = later_list pool old later.mid (length old + room) known (omega (arith, fits)) before w later.passed in
-      let same = later.fits in
+      working_ends p pairs (λ b. b ≡ before) h pool c best (most - length old) quality are (omega (arith, long, same, fits)) worked.rounds worked.list
+      (λ b last. subst (IsBestOfLast p pairs worked.list.start worked.rounds) (sym last) worked.last) (subst (λ ls. EndsBy p pairs ls (most - length old ≡ 0) (λ b. b ≡ before) best quality) (sym here.0) here.1))
+      (λ (later : IsLaterTurn p pairs most old c.lines (Last best quality)).
+      let few = later.passed.few in
       let long = ap length later.after.0 in
-      working_ends p pairs (λ b. ⊥) h pool c best later.rest quality are (omega (arith, long, same, fits)) (later.passed.rounds ++ w.rounds) (subst (λ ls. IsWorkedList p pairs pool (later.passed.rounds ++ w.rounds) ls) (sym later.after.0) list)
-      (λ b none. absurd none) (subst (λ ls. EndsBy p pairs ls (later.rest ≡ 0) (λ b. ⊥) best quality) (sym later.after.0) later.after.1))
+      let list = later_list pool old later.mid most known (omega (arith, same)) before w later.passed in
+      working_ends p pairs (λ b. ⊥) h pool c best (most - length later.mid) quality are (omega (arith, long, same, few)) (later.passed.rounds ++ w.rounds) (subst (λ ls. IsWorkedList p pairs pool (later.passed.rounds ++ w.rounds) ls) (sym later.after.0) list)
+      (λ b none. absurd none) (subst (λ ls. EndsBy p pairs ls (most - length later.mid ≡ 0) (λ b. ⊥) best quality) (sym later.after.0) later.after.1))
       turn

@@ -1,12 +1,12 @@
 -- histories that a separator has seen, as they grow, and the spots of cuts in them
-use Rattle.std.proofs.Common.{◌≡◌, ◌≢◌, ℕ, zero, suc, ◌<◌, ◌≤◌, ⊎_elim, List, [], ◌∷◌, ◌++◌, AllPairs, Some, length, take, slice_get, refl, sym, subst, ◌∙◌, arith, append_assoc, append-nil, length-append}
-use Rattle.net_core.proofs.Library.{all_pairs_push}
-use Rattle.plan_terms.specs.Terms.{Entry, Edited, Pooled, CutLine, Case}
+use Rattle.std.proofs.Common.{◌≡◌, ◌≢◌, ℕ, zero, suc, ◌<◌, ◌≤◌, ⊎_elim, List, [], ◌∷◌, ◌++◌, AllPairs, Some, length, take, slice_get, refl, sym, ap, subst, ◌∙◌, arith, append_assoc, append-nil, length-append}
+use Rattle.net_core.{proofs.Library.all_pairs_push, specs.declared.instance.Instance.Instance}
+use Rattle.plan_terms.specs.Terms.{Entry, Edited, Pooled, CutLine, Case, case_of}
 use Rattle.plan_types.specs.declared.certificate.Spot.{Spot}
 use Rattle.cut_pool.specs.Terms.{IsLegalAfter, cut_of_line, cuts_of}
 use Rattle.turn_lock.specs.Passes.{Seen}
 use Rattle.separator.{specs.Separators.{Frame, IsCutEntry, IsSpotIn}, proofs.Lemmas.{cuts_both, get_more, sees_both, sees_none, spot_later}}
-use Rattle.plan_rounds.{specs.WorkedRounds.StandAtSpots, specs.inner.Listing.GoesOn}
+use Rattle.plan_rounds.{specs.WorkedRounds.StandAtSpots, specs.inner.Listing.{AreListed, GoesOn, IsPlanning}, specs.declared.candidates.Candidates.Candidates}
 
 -- ---- some more entries
 
@@ -15,6 +15,14 @@ goes_none frame seen = record { same = refl; more = sees_none seen }
 
 pub goes_both : {M : Type 0} (f0 f1 f2 : Frame M) (s0 s1 s2 : Seen Entry) → GoesOn f0 f1 s0 s1 → GoesOn f1 f2 s1 s2 → GoesOn f0 f2 s0 s2
 goes_both f0 f1 f2 s0 s1 s2 a b = record { same = b.same ∙ a.same; more = sees_both s0 s1 s2 a.more b.more }
+
+-- with a list that is listed for what has been seen by now
+pub planning_on : {M : Type 0} (i : Instance) (f0 f1 : Frame M) (s0 s1 : Seen Entry) (c0 c1 : Candidates) → IsPlanning i f0 s0 c0 → GoesOn f0 f1 s0 s1 → ∥ AreListed (case_of i) s1.history c1 ∥₁ → IsPlanning i f1 s1 c1
+planning_on i f0 f1 s0 s1 c0 c1 is on listed = record {
+  network = is.network ∙ ap (λ f. f.network) (sym on.same);
+  states = is.states ∙ ap (λ f. f.states) (sym on.same);
+  listed = listed;
+}
 
 -- ---- spots are kept
 

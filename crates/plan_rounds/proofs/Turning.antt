@@ -9,7 +9,7 @@ use Rattle.separator.{specs.Terms.{IsEvidenceHere, IsRouted, IsSeparatingCut}, p
 use Rattle.master_law.{specs.Terms.{IsLeastShare, IsMasterEvidence, IsSameCut, AreUnitPairs, share_caps, share_cost}, proofs.PairsOnce.links_once}
 use Rattle.master_bound.{specs.Answers.{IsBestOf, IsEvidenceOf}, specs.declared.answer.Best.Best}
 use Rattle.plan_law.{specs.Terms.{IsProperShare, Round, IsBeginning, IsFoundCut, IsRound, IsWorkedList}, proofs.Pairs.pairs_append, proofs.Rounds.{begun_worked, found_is_new, short_round, worked_on}}
-use Rattle.plan_rounds.{specs.WorkedRounds.{AreWorkedRounds, EndsBy, IsBestAt, IsBestOfLast, IsCarriedOrWide, StandAtSpots, AreCarriedOrWide}, specs.inner.Answered.AreSorted, specs.inner.Listing.AreListed, specs.inner.Sharing.{IsDividedCaps, IsDividedShare, IsQualityAt}, specs.inner.Turns.{AddsFirst, IsFurther, IsTurnOf, Judges}, specs.declared.candidates.Candidates.Candidates, specs.declared.rounds.Turn.Turn, specs.declared.rounds.Turn.TheVariants.Last, specs.declared.shares.ShareCaps.ShareCaps, specs.declared.sorted_answers.Answered.Answered, proofs.Rights.right_low}
+use Rattle.plan_rounds.{specs.WorkedRounds.{AreWorkedRounds, EndsBy, IsBestAt, IsBestOfLast, IsCarriedOrWide, StandAtSpots, AreCarriedOrWide}, specs.inner.Answered.AreSorted, specs.inner.Listing.AreListed, specs.inner.Sharing.{IsDividedCaps, IsDividedShare, IsQualityAt}, specs.inner.Turns.{AddsFirst, IsFurther, IsTurnOf, Judges, worked_of}, specs.declared.candidates.Candidates.Candidates, specs.declared.rounds.Turn.Turn, specs.declared.rounds.Turn.TheVariants.Last, specs.declared.shares.ShareCaps.ShareCaps, specs.declared.sorted_answers.Answered.Answered, proofs.Rights.right_low}
 
 -- a worked list of the pool, and what is known of the best certificate before it
 pub record IsWorking (p : Case) (pairs : List UnitPair) (pool lines : List CutLine) (before : Option Best) : Type 0 where
@@ -257,7 +257,7 @@ module _ (p : Case) (pairs : List UnitPair) where
   -- an end of the rounds, where IsLast says what is known of the best certificate before this list's
   pub working_ends : (IsLast : Option Best → Type 0) (h : List Entry) (pool : List CutLine) (c : Candidates) (best : Option Best) (room : ℕ) (quality : Quality) → AreListed p h c → length c.lines + room ≡ length pool + 4096 → (rounds : List Round)
       → (list : IsWorkedList p pairs pool rounds c.lines) → ((b : Option Best) → IsLast b → IsBestOfLast p pairs list.start rounds b) → EndsBy p pairs c.lines (room ≡ 0) IsLast best quality
-      → AreWorkedRounds p h pool (record { lines = c.lines; spots = c.spots; best = best; quality = quality })
+      → AreWorkedRounds p h pool (worked_of c best quality)
   working_ends IsLast h pool c best room quality are fits rounds list last e = record {
     pairs = pairs;
     rounds = rounds;

@@ -2,7 +2,7 @@ ghost use Rattle.std.specs.Prelude.{◌≡◌, ◌≤◌, IfOk, IsTrue, OnOk, fa
 ghost use Rattle.plan_terms.specs.Terms.{graph_in, case_of};
 ghost use Rattle.metric_cut.specs.Cuts.{IsCutOf};
 ghost use Rattle.plan_law.specs.WorkedLists.{HasCut, Lacks};
-ghost use Rattle.plan_rounds.{specs.inner.Alone.PoolsOpening, specs.inner.Listing.{AreFirstSpots, AreListed, GoesOn, PutsLine, TakesCut}};
+ghost use Rattle.plan_rounds.{specs.inner.Alone.PoolsOpening, specs.inner.Listing.{AreFirstSpots, AreListed, GoesOn, IsPlanning, PutsLine, TakesCut}};
 
 use master_bound::is_same_cut;
 use metric_cut::Cut;
@@ -62,10 +62,8 @@ pub fn take_cut<S: Separate>(
     separator: &mut S,
     candidates: &mut Candidates,
 ) -> Result<(), NoMemory>
-    requires network { instance.now.net.now ≡ (S.frame separator.old).network }
-    requires states { instance.now.states.now ≡ (S.frame separator.old).states }
     requires cut { IsCutOf (graph_in (case_of instance.now) cut.state.0) cut }
-    requires listed { ∥ AreListed (case_of instance.now) (S.seen_of separator.old).history candidates.old ∥₁ }
+    requires planning { IsPlanning instance.now (S.frame separator.old) (S.seen_of separator.old) candidates.old }
     ensures on { GoesOn (S.frame separator.old) (S.frame separator.new) (S.seen_of separator.old) (S.seen_of separator.new) }
     ensures listed { OnOk result ∥ AreListed (case_of instance.now) (S.seen_of separator.new).history candidates.new ∥₁ }
     ensures taken { OnOk result (TakesCut instance.now.demands.now cut candidates.old.lines candidates.new.lines) }

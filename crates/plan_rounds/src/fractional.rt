@@ -2,9 +2,9 @@ ghost use Rattle.std.specs.Prelude.{◌≡◌, ◌*◌, ◌+◌, ◌<◌, ◌≤
 ghost use Rattle.plan_terms.specs.Terms.{graph_in, case_of, DemandSlack, LinkSlack};
 ghost use Rattle.simplex_law.specs.Terms.{AreNames, slack_basis};
 ghost use Rattle.separator.specs.Terms.{IsEvidenceHere};
-ghost use Rattle.route_law.specs.Terms.{caps_times, beside};
+ghost use Rattle.route_law.specs.Terms.{beside};
 ghost use Rattle.net_core.specs.Limits.{most_demands};
-ghost use Rattle.plan_rounds.{specs.inner.Answered.{AreRoutedStates, IsEvidenceOfState}, specs.inner.Sharing.{AreSlackNames, HasWideNeed, IsQualityAt, at_caps}};
+ghost use Rattle.plan_rounds.{specs.inner.Answered.{AreRoutedStates, IsEvidenceOfState}, specs.inner.Sharing.{AreSlackNames, HasWideNeed, IsDividedCaps, IsQualityAt, at_caps}};
 
 use crate::shares::ShareCaps;
 use crate::whole_routings::undivided_all;
@@ -102,8 +102,7 @@ fn carried(
     caps: ShareCaps,
     routings: List<Routing>,
 ) -> Result<Quality, NoMemory>
-    requires positive { 0 < caps.divisor }
-    requires times { caps_times caps.divisor caps.divided ≡ caps.whole }
+    requires divided { IsDividedCaps caps.whole caps }
     requires routed { ∥ AreRoutedStates (case_of instance.now) caps.divided (length instance.now.states.now.listed + 1) routings ∥₁ }
     ensures { IfOk result (λ quality. ∥ IsQualityAt (case_of instance.now) caps.whole share.now quality ∥₁) }
 {
@@ -135,8 +134,7 @@ pub fn quality_at(
     routings: List<Routing>,
     wide: Option<Evidence>,
 ) -> Result<Quality, NoMemory>
-    requires positive { 0 < caps.divisor }
-    requires times { caps_times caps.divisor caps.divided ≡ caps.whole }
+    requires divided { IsDividedCaps caps.whole caps }
     requires routed { wide ≡ None → ∥ AreRoutedStates (case_of instance.now) caps.divided (length instance.now.states.now.listed + 1) routings ∥₁ }
     requires wide { ∥ IfSome wide (IsEvidenceOfState (case_of instance.now) caps.divided) ∥₁ }
     ensures { IfOk result (λ quality. ∥ IsQualityAt (case_of instance.now) caps.whole share.now quality ∥₁) }

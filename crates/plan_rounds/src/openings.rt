@@ -3,7 +3,7 @@ ghost use Rattle.plan_terms.specs.Terms.{CutLine, graph_in, case_of};
 ghost use Rattle.metric_cut.specs.Cuts.{IsCutOf};
 ghost use Rattle.plan_law.{specs.inner.Openings.IsOpenedTo, specs.WorkedLists.IsBeginning};
 ghost use Rattle.net_core.specs.Limits.{most_cuts};
-ghost use Rattle.plan_rounds.{specs.WorkedRounds.IsPoolOf, specs.inner.Alone.PoolsOpening, specs.inner.Listing.{AreListed, GoesOn, TakesCuts}};
+ghost use Rattle.plan_rounds.{specs.WorkedRounds.IsPoolOf, specs.inner.Alone.PoolsOpening, specs.inner.Listing.{AreListed, GoesOn, IsPlanning, TakesCuts}};
 
 use crate::candidates::{Candidates, pool_spots, take_cut};
 use metric_cut::{Cut, opening};
@@ -18,10 +18,8 @@ fn take_cuts<S: Separate>(
     separator: &mut S,
     candidates: &mut Candidates,
 ) -> Result<(), NoMemory>
-    requires network { instance.now.net.now ≡ (S.frame separator.old).network }
-    requires states { instance.now.states.now ≡ (S.frame separator.old).states }
     requires cuts { All (λ c. IsCutOf (graph_in (case_of instance.now) c.state.0) c) cuts }
-    requires listed { ∥ AreListed (case_of instance.now) (S.seen_of separator.old).history candidates.old ∥₁ }
+    requires planning { IsPlanning instance.now (S.frame separator.old) (S.seen_of separator.old) candidates.old }
     ensures on { GoesOn (S.frame separator.old) (S.frame separator.new) (S.seen_of separator.old) (S.seen_of separator.new) }
     ensures listed { OnOk result ∥ AreListed (case_of instance.now) (S.seen_of separator.new).history candidates.new ∥₁ }
     ensures taken { OnOk result (TakesCuts instance.now.demands.now cuts candidates.old.lines candidates.new.lines) }
@@ -43,10 +41,8 @@ fn open_state<S: Separate>(
     separator: &mut S,
     candidates: &mut Candidates,
 ) -> Result<(), NoMemory>
-    requires network { instance.now.net.now ≡ (S.frame separator.old).network }
-    requires states { instance.now.states.now ≡ (S.frame separator.old).states }
     requires state { state.0 < length instance.now.states.now.listed + 1 }
-    requires listed { ∥ AreListed (case_of instance.now) (S.seen_of separator.old).history candidates.old ∥₁ }
+    requires planning { IsPlanning instance.now (S.frame separator.old) (S.seen_of separator.old) candidates.old }
     ensures on { GoesOn (S.frame separator.old) (S.frame separator.new) (S.seen_of separator.old) (S.seen_of separator.new) }
     ensures listed { OnOk result ∥ AreListed (case_of instance.now) (S.seen_of separator.new).history candidates.new ∥₁ }
     ensures opened { OnOk result ((pool : Seq CutLine) → IsOpenedTo (case_of instance.now) pool state.0 [] candidates.old.lines

@@ -1,5 +1,5 @@
 -- a history that a separator writes alone
-use Rattle.std.specs.Prelude.{◌≡◌, ℕ, ◌+◌, ◌≤◌, ◌⊎◌, Bool, true, false, List, [], All, Contains, length, map}
+use Rattle.std.specs.Prelude.{◌≡◌, ℕ, ◌≤◌, ◌⊎◌, Bool, true, false, List, [], All, Contains, length, map}
 use Rattle.plan_terms.specs.Terms.{Entry, CutLine, Case}
 use Rattle.module_prices.specs.declared.cheapest.UnitPair.{UnitPair}
 use Rattle.cut_pool.specs.Terms.{cut_of_line, cuts_of}
@@ -43,8 +43,8 @@ IsPoolAfterTurn p pairs h lines (Last best quality) = ∥ IsWorkedPool p h ∥�
 
 -- what a turn leaves in the pool, where the separator is alone and the pool was that of the list
 abbrev pub PoolsTurn : Case → List UnitPair → ℕ → (old new : Seen Entry) → (lines lines_now : List CutLine) → Turn → Type 0
-PoolsTurn p pairs room old new lines lines_now turn =
-    IsAlone new → length lines + room ≡ 4096 → ∥ IsPoolOfList p pairs (cuts_of old.history) lines ∥₁ → IsPoolAfterTurn p pairs new.history lines_now turn
+PoolsTurn p pairs most old new lines lines_now turn =
+    IsAlone new → most ≡ 4096 → ∥ IsPoolOfList p pairs (cuts_of old.history) lines ∥₁ → IsPoolAfterTurn p pairs new.history lines_now turn
 
 -- the pool is that of the list, or at least a worked one
 abbrev pub IsPoolAsFar : Case → List UnitPair → List Entry → List CutLine → Bool → Type 0

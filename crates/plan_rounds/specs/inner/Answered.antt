@@ -1,7 +1,8 @@
 -- what is found of the answers of all states
-use Rattle.std.specs.Prelude.{◌≡◌, ◌≢◌, ℕ, ◌<◌, ◌≤◌, ◌⊎◌, ◌++◌, List, [], ◌∷◌, None, Some, All, AllPairs, IfSome, length, slice_get}
+use Rattle.std.specs.Prelude.{◌≡◌, ◌≢◌, ℕ, ◌<◌, ◌≤◌, ◌⊎◌, ◌++◌, List, [], ◌∷◌, None, Some, All, AllPairs, Contains, IfSome, length, slice_get}
 use Rattle.plan_terms.specs.Terms.{Evidence, Entry, Caps, Routing, Case, graph_in, HasShortLengths}
-use Rattle.separator.{specs.Terms.{IsEvidenceHere, IsRouted, IsSeparatingCut}, specs.declared.answers.Separated.Separated, specs.declared.answers.Separated.TheVariants.{Routed, Violated, Wide}}
+use Rattle.turn_lock.specs.Passes.{Seen}
+use Rattle.separator.{specs.Separators.{AreRoundAnswers, SeparatesAt, cuts_answered, cuts_since}, specs.Terms.{IsEvidenceHere, IsRouted, IsSeparatingCut}, specs.declared.answers.Separated.Separated, specs.declared.answers.Separated.TheVariants.{Routed, Violated, Wide}, specs.declared.answers.StateAnswer.StateAnswer}
 use Rattle.plan_rounds.{specs.WorkedRounds.StandAtSpots, specs.declared.sorted_answers.Answered.Answered}
 
 -- the answer of one state is added to those before it
@@ -44,3 +45,11 @@ module _ (p : Case) (caps : Caps) (history : List Entry) where
     pub wide : IfSome a.wide (IsEvidenceOfState p caps)
     pub cutless : length a.found.lines ≡ 0 → (s : ℕ) → s < n → IsRoutedOrWide p caps s
     pub routed : length a.found.lines ≡ 0 → a.wide ≡ None → AreRoutedStates p caps n a.routings
+
+-- the answers of a round; what the separator has pooled since are cuts of different states that the capacities violate, and all of them are
+-- answered
+pub record AreAnswers (p : Case) (caps : Caps) (old new : Seen Entry) (answers : List StateAnswer) : Type 0 where
+  pub round : ∥ AreRoundAnswers p caps new.history answers ∥₁
+  pub separating : ∥ All (SeparatesAt p caps) (cuts_since old new) ∥₁
+  pub different : AllPairs (λ x y. x.0 ≢ y.0) (cuts_since old new)
+  pub among : All (Contains (cuts_answered answers)) (cuts_since old new)

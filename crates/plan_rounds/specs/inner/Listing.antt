@@ -1,6 +1,7 @@
 -- the cuts of a planning, as they are added to its list
 use Rattle.std.specs.Prelude.{◌≡◌, ℕ, ◌^◌, ◌<◌, ◌⊎◌, ◌++◌, List, [], ◌∷◌, All, Some, length, slice_get}
-use Rattle.plan_terms.specs.Terms.{Demand, Entry, CutLine, Case, IsCut}
+use Rattle.net_core.specs.declared.instance.Instance.{Instance}
+use Rattle.plan_terms.specs.Terms.{Demand, Entry, CutLine, Case, case_of, IsCut}
 use Rattle.plan_types.{specs.declared.certificate.Spot.Spot, specs.declared.certificate.Spot.TheVariants.Pool}
 use Rattle.metric_cut.{specs.Cuts.IsLineAt, specs.declared.cut.Cut.Cut}
 use Rattle.plan_law.specs.WorkedLists.{AreDifferentCuts, HasCut, Lacks}
@@ -19,6 +20,12 @@ pub record AreListed (p : Case) (history : List Entry) (c : Candidates) : Type 0
   pub low : All (λ l. l.right < 2 ^ 84) c.lines
   pub different : AreDifferentCuts c.lines
   pub spots : StandAtSpots history c.lines c.spots
+
+-- the separator is one of the instance's network and states, and the cuts are listed for the history that it has seen
+pub record IsPlanning {M : Type 0} (instance : Instance) (frame : Frame M) (seen : Seen Entry) (c : Candidates) : Type 0 where
+  pub network : instance.net.now ≡ frame.network
+  pub states : instance.states.now ≡ frame.states
+  pub listed : ∥ AreListed (case_of instance) seen.history c ∥₁
 
 -- the spots of the first n cuts of a pool
 pub record AreFirstSpots (n : ℕ) (spots : List Spot) : Type 0 where

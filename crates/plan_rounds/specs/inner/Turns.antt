@@ -1,5 +1,5 @@
 -- one turn of the rounds: the best certificate of the cuts, and what the states answer at its share
-use Rattle.std.specs.Prelude.{◌≡◌, ℕ, ◌+◌, ◌<◌, ◌≤◌, ◌⊎◌, ◌++◌, Bool, true, false, List, All, Option, None, Some, length, take}
+use Rattle.std.specs.Prelude.{◌≡◌, ℕ, ◌+◌, ◌-◌, ◌<◌, ◌≤◌, ◌⊎◌, ◌++◌, Bool, true, false, List, All, Option, None, Some, length, take}
 use Rattle.plan_terms.specs.Terms.{Entry, Caps, CutLine, Case, IsCut}
 use Rattle.module_prices.specs.declared.cheapest.UnitPair.{UnitPair}
 use Rattle.plan_types.{specs.declared.certificate.Spot.Spot, specs.declared.quality.Cause.TheVariants.Cuts, specs.declared.quality.Quality.Quality, specs.declared.quality.Quality.TheVariants.Loose}
@@ -55,6 +55,11 @@ pub record Extends (old new : Candidates) : Type 0 where
   pub lines : new.lines ≡ old.lines ++ more_lines
   pub spots : new.spots ≡ old.spots ++ more_spots
 
+-- so do they where the list has grown, each cut with its spot
+pub record IsPast (p : Case) (pairs : List UnitPair) (most : ℕ) (old new : Candidates) : Type 0 where
+  pub passed : ArePassed p pairs most old.lines new.lines
+  pub extends : Extends old new
+
 -- the first cuts that were found have been added to the list, or none has and the list is as it was
 abbrev pub AddsFound : ℕ → Answered → Candidates → Candidates → Bool → Type 0
 AddsFound room a old new true = AddsFirst room a.found old new × (0 < room) × (0 < length a.found.lines)
@@ -72,17 +77,19 @@ module _ (p : Case) (pairs : List UnitPair) where
   IsOpenTurn room mid new (Further best) = IsFurther p pairs room None mid new best
   IsOpenTurn room mid new (Last best quality) = (new ≡ mid) × EndsBy p pairs mid (room ≡ 0) (λ b. ⊥) best quality
 
-  -- such a turn after rounds; the rounds leave room for `rest` cuts
-  pub record IsLaterTurn (room : ℕ) (old new : List CutLine) (turn : Turn) : Type 0 where
+  -- such a turn after rounds
+  pub record IsLaterTurn (most : ℕ) (old new : List CutLine) (turn : Turn) : Type 0 where
     pub mid : List CutLine
-    pub rest : ℕ
-    pub passed : ArePassed p pairs (length old + room) old mid
-    pub fits : length mid + rest ≡ length old + room
-    pub after : IsOpenTurn rest mid new turn
+    pub passed : ArePassed p pairs most old mid
+    pub after : IsOpenTurn (most - length mid) mid new turn
 
   -- a turn at a certificate of the list, or one after rounds at least shares that are too wide
   abbrev pub IsTurnAfter : ℕ → Option Best → (old new : List CutLine) → Turn → Type 0
-  IsTurnAfter room before old new turn = IsTurnOf p pairs room before old new turn ⊎ IsLaterTurn room old new turn
+  IsTurnAfter most before old new turn = IsTurnOf p pairs (most - length old) before old new turn ⊎ IsLaterTurn most old new turn
+
+-- the list with its spots, and how the rounds have ended
+abbrev pub worked_of : Candidates → Option Best → Quality → Worked
+worked_of c best quality = record { lines = c.lines; spots = c.spots; best = best; quality = quality }
 
 -- from a beginning of any pool that leaves room for 4,096 cuts, the rounds of that pool
 abbrev pub WorksOn : Case → List Entry → ℕ → List CutLine → Worked → Type 0

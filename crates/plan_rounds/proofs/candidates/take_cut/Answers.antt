@@ -14,7 +14,7 @@ returns-clause-listed g c =
     let admitted = c.in_ok-spot.ensures in
     let old = c.args.candidates.now in
     on_ok c.put_line.result _ _
-    (λ puts. ∥∥₁_elim c.requires.listed (hlevel props) (λ are.
+    (λ puts. ∥∥₁_elim c.requires.planning.listed (hlevel props) (λ are.
     ∥∥₁_map (g.met.S.Separate.seen now) (λ seen.
     listed_take p (g.S.Separate.seen_of now).history c.args.cut c.in_ok-line.line c.in_ok-spot.spot old c.put_line.new.candidates c.requires.cut c.in_ok-line.ensures admitted.spot
     (listed_later p (g.S.Separate.frame now).network (g.S.Separate.frame now).states (g.S.Separate.seen_of before) (g.S.Separate.seen_of now) old admitted.more seen are) puts)))

@@ -14,7 +14,7 @@ undivided_all-requires-clause-den c k d lt =
 pub undivided_all-requires-clause-fits : goal.undivided_all-requires-clause-fits
 undivided_all-requires-clause-fits c k d lt j f inside =
     ∥∥₁_elim c.requires.routed (hlevel props) (λ are.
-    flows_fit (graph_in (case_of c.args.instance.now) k) c.args.instance.now.demands.now c.args.caps.divisor c.args.caps.divided c.args.caps.whole c.requires.positive c.requires.times (rw c.items.ensures at c.in_default.ensures)
+    flows_fit (graph_in (case_of c.args.instance.now) k) c.args.instance.now.demands.now c.args.caps.divisor c.args.caps.divided c.args.caps.whole c.requires.divided.positive c.requires.divided.times (rw c.items.ensures at c.in_default.ensures)
     (get_or c.args.routings k d) (are.each k (get_or c.args.routings k d) (slice_get-get_or c.args.routings k d lt)) j f inside)
 
 pub returns : goal.returns
@@ -22,5 +22,5 @@ returns c =
     ∥∥₁_map c.requires.routed (λ are. (
       c.in_ok-copy.ensures,
       states_routed (case_of c.args.instance.now) c.args.caps.divisor (length c.args.instance.now.states.now.listed + 1) c.args.caps.divided c.args.caps.whole c.args.routings c.in_ok-undivided_all.field-0
-          c.requires.positive c.requires.times (rw c.items.ensures at c.in_default.ensures) are c.in_ok-undivided_all.ensures,
+          c.requires.divided.positive c.requires.divided.times (rw c.items.ensures at c.in_default.ensures) are c.in_ok-undivided_all.ensures,
     ))

@@ -9,4 +9,4 @@ returns-in-Some c =
     let p = case_of c.args.instance.now in
     ∥∥₁_map c.requires.wide (λ wide.
     rw c.whole_evidence.ensures
-    (whole_evidence p c.args.caps.divisor c.args.caps.divided c.args.caps.whole c.in-Some.evidence c.requires.positive c.requires.times (subst (λ (o : Option Evidence). IfSome o (IsEvidenceOfState p c.args.caps.divided)) c.in-Some.is wide)))
+    (whole_evidence p c.args.caps.divisor c.args.caps.divided c.args.caps.whole c.in-Some.evidence c.requires.divided.positive c.requires.divided.times (subst (λ (o : Option Evidence). IfSome o (IsEvidenceOfState p c.args.caps.divided)) c.in-Some.is wide)))

@@ -2,14 +2,8 @@ use Rattle.std.{proofs.Common.{◌≡◌, ◌∙◌, All, List, ap, arith, rever
 use Rattle.net_core.proofs.Library.{∥∥₁_elim, ∥∥₁_map, props, All-tail}
 use Rattle.plan_terms.specs.Terms.{graph_in, case_of}
 use Rattle.metric_cut.{specs.Cuts.IsCutOf, specs.declared.cut.Cut.Cut}
-use Rattle.plan_rounds.{specs.inner.Listing.TakesCuts, proofs.Multiplying.last_first, proofs.OwnPool.{pools_both, pools_none}, proofs.Seeing.{goes_both, goes_none}}
+use Rattle.plan_rounds.{specs.inner.Listing.TakesCuts, proofs.Multiplying.last_first, proofs.OwnPool.{pools_both, pools_none}, proofs.Seeing.{goes_both, goes_none, planning_on}}
 use Rattle.plan_rounds.proofs.openings.take_cuts.Goals as goal
-
-pub take_cut-requires-clause-network : goal.take_cut-requires-clause-network
-take_cut-requires-clause-network g c = c.requires.network ∙ ap (λ f. f.network) (sym c.loop-cut.invariant.1.same)
-
-pub take_cut-requires-clause-states : goal.take_cut-requires-clause-states
-take_cut-requires-clause-states g c = c.requires.states ∙ ap (λ f. f.states) (sym c.loop-cut.invariant.1.same)
 
 pub loop-cut-init : goal.loop-cut-init
 loop-cut-init g c =
@@ -17,7 +11,7 @@ loop-cut-init g c =
     let same : reverse c.reverse.new.self.items ≡ c.args.cuts = ap reverse c.reverse.ensures.items ∙ (reverse-reverse _ ∙ c.into_vec-left.ensures) in (
       subst (All is) (sym same) c.requires.cuts,
       goes_none _ _,
-      c.requires.listed,
+      c.requires.planning,
       λ end takes. subst (λ (cs : List Cut). TakesCuts c.args.instance.now.demands.now cs c.args.candidates.now.lines end) same takes,
       ∣ pools_none (g.S.Separate.seen_of c.args.separator.now) c.args.candidates.now.lines ∣₁,
     )
@@ -41,7 +35,7 @@ loop-cut-preserved g c =
     let so_far = c.loop-cut.invariant in (
       All-tail is cut rest (subst (All is) first so_far.0),
       goes_both _ _ _ _ _ _ so_far.1 c.in_ok-take_cut.ensures.on,
-      c.in_ok-take_cut.ensures.listed,
+      planning_on _ _ _ _ _ _ _ so_far.2 c.in_ok-take_cut.ensures.on c.in_ok-take_cut.ensures.listed,
       λ end takes. so_far.3 end (subst (λ (cs : List Cut). TakesCuts c.args.instance.now.demands.now cs c.loop-cut.candidates.lines end) (sym first) (c.take_cut.new.candidates.lines, c.in_ok-take_cut.ensures.taken, takes)),
       ∥∥₁_elim (g.met.S.Separate.seen c.loop-cut.separator) (hlevel props) (λ seen. ∥∥₁_elim so_far.4 (hlevel props) (λ first. ∥∥₁_map c.in_ok-take_cut.ensures.alone (λ second.
           pools_both (g.S.Separate.seen_of c.args.separator.now) (g.S.Separate.seen_of c.loop-cut.separator) (g.S.Separate.seen_of c.take_cut.new.separator)
