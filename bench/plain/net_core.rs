@@ -1,5 +1,7 @@
 //! Stands in for `net_core` where crates are built as plain Rust: lists over Rust's own vectors, which don't run out of memory.
 
+pub mod limits;
+
 /// The allocator, of which there is one.
 #[derive(Clone, Copy)]
 pub struct Global;

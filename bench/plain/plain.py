@@ -4,7 +4,7 @@
 Usage: plain.py FOLDER CRATE ..      at the top of the repository
 
 It knows the forms that these crates use. `net_core.rs` beside it stands in for `net_core`: lists and the names of
-columns, over Rust's own vectors.
+columns, over Rust's own vectors. The limits are those of `net_core` itself.
 """
 import glob
 import os
@@ -73,6 +73,8 @@ def main():
     folder, crates = sys.argv[1], sys.argv[2:]
     os.makedirs(folder, exist_ok=True)
     shutil.copy(os.path.join(os.path.dirname(os.path.abspath(__file__)), "net_core.rs"), folder)
+    os.makedirs(f"{folder}/net_core", exist_ok=True)
+    shutil.copy("crates/net_core/src/limits.rt", f"{folder}/net_core/limits.rs")
     for crate in crates:
         os.makedirs(f"{folder}/{crate}", exist_ok=True)
         with open(f"crates/{crate}/src/lib.rt", encoding="utf-8") as root:

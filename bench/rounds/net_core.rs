@@ -1,6 +1,8 @@
 //! Stands in for `net_core` where crates are built as plain Rust: lists over Rust's own vectors, which don't run out of memory, and
 //! networks that nothing checks.
 
+pub mod limits;
+
 use std::ops::{Deref, DerefMut};
 
 /// The allocator, of which there is one.

@@ -54,7 +54,7 @@ mod separator {
     pub mod question;
     pub mod ranges;
 
-    pub use one_state::separate_state;
+    pub use one_state::{answer_of, separate_state};
 }
 
 use checked_fraction::gcd;

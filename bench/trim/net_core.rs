@@ -1,6 +1,8 @@
 //! Stands in for `net_core` where crates are built as plain Rust: lists over Rust's own vectors, which don't run out of memory, and
 //! networks that nothing checks.
 
+pub mod limits;
+
 use std::ops::{Deref, DerefMut};
 
 /// The allocator, of which there is one.
@@ -386,5 +388,9 @@ pub struct RouteTask<'a> {
 impl<'a> Instance<'a> {
     pub fn in_state(&self, state: StateId) -> Surviving<'a> {
         Surviving { net: self.net, states: self.states, state }
+    }
+
+    pub fn task(&self, state: StateId, caps: &'a Caps) -> RouteTask<'a> {
+        RouteTask { graph: self.in_state(state), demands: self.demands, caps }
     }
 }
