@@ -2,7 +2,7 @@
 use Rattle.std.proofs.Common.{◌≡◌, ℕ, List, refl, inl}
 use Rattle.plan_terms.specs.Terms.{Notes, Case}
 use Rattle.plan_report.specs.Terms.{known_to, SpellsReport, report_text}
-use Rattle.plan_reports.{specs.Terms.{IsTranscript, plan_commands, PlannedReport}, proofs.Lemmas.lone_plans_are_accepted}
+use Rattle.plan_reports.{specs.Terms.{IsTranscript, plan_commands}, specs.declared.planned_report.PlannedReport.PlannedReport, proofs.Lemmas.lone_plans_are_accepted}
 use Rattle.proof_report.specs.Terms.{whole_report}
 use Rattle.outside_io.{specs.declared.status.Status.Status, specs.declared.status.Status.TheVariants.Done}
 use Rattle.command_answers.specs.Answers.{EndsPlan, IsPlanReport, IsSummary, summary}

@@ -4,7 +4,7 @@ use Rattle.plan_terms.specs.Terms.{Notes, Three, Case}
 use Rattle.plan_report.specs.Terms.{known_to, SpellsReport, report_text, Plan, Quality, Tight, Loose, Planned, Report}
 use Rattle.report_checker.specs.Terms.{IsBelowAllAble, HasNoFinding}
 use Rattle.session_script.specs.declared.script.Command.{Command}
-use Rattle.plan_reports.{specs.Terms.{IsTranscript, PlannedReport, plan_commands}, specs.ImportedPlans.{HasImportFault, IsImportedReport}}
+use Rattle.plan_reports.{specs.Terms.{IsTranscript, plan_commands}, specs.declared.planned_report.PlannedReport.PlannedReport, specs.ImportedPlans.{HasImportFault, IsImportedReport}}
 use Rattle.sample_net.specs.Samples.{sample_demands, sample_links, sample_nodes, with_single_failures}
 use Rattle.flow_file.specs.declared.flow.FlowFile.{FlowFile}
 use Rattle.flow_import.specs.declared.fault.ImportFault.{ImportFault}

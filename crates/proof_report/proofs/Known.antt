@@ -5,7 +5,7 @@ use Rattle.plan_terms.specs.Terms.{AreKept, Case, CertificateLine, CutLine, Dema
 use Rattle.plan_types.specs.Terms.{IsCertifiedPlan, lines_of_certificate}
 use Rattle.plan_report.specs.Terms.{IsOutcomeInForm, known_to, CertLine, Planned, Report}
 use Rattle.cut_pool.specs.Terms.{IsLegalHistory, IsPoolAfter, cut_of_line, cuts_of, demands_left}
-use Rattle.plan_reports.{specs.Terms.{IsTranscript, IsSoundOutcomeOf, IsSoundPlanOf, PlannedReport, plan_commands, whole_report}, proofs.Lemmas.{history_cuts, transcript_sound, unmoved}}
+use Rattle.plan_reports.{specs.Terms.{IsTranscript, IsSoundOutcomeOf, IsSoundPlanOf, plan_commands, whole_report}, specs.declared.planned_report.PlannedReport.PlannedReport, proofs.Lemmas.{history_cuts, transcript_sound, unmoved}}
 use Rattle.report_checker.specs.Outcomes.{case_at}
 use Rattle.proof_report.specs.ProvedReports.{AreHandedIn, certificate_cuts}
 

@@ -2,7 +2,7 @@
 use Rattle.std.proofs.Common.{ℕ, List, arith, subst, sym}
 use Rattle.plan_terms.specs.Terms.{Case, CutLine, Demand, Notes}
 use Rattle.plan_report.specs.Terms.{AreRoutingsInForm, known_to, Plan}
-use Rattle.plan_reports.{specs.Terms.{IsTranscript, IsRoutedPlan, PlannedReport, IsSoundDesign, plan_commands, redesigned_plan, whole_report}, proofs.Lemmas.{lone_plans_are_accepted, cheaper_redesigns_are_plans, lone_plans_carry}}
+use Rattle.plan_reports.{specs.Terms.{IsTranscript, IsRoutedPlan, IsSoundDesign, plan_commands, redesigned_plan, whole_report}, specs.declared.planned_report.PlannedReport.PlannedReport, proofs.Lemmas.{lone_plans_are_accepted, cheaper_redesigns_are_plans, lone_plans_carry}}
 use Rattle.tree_search.{specs.Terms.Proof, specs.Proving.{IsProofOf, ShowsBound, ShowsCheapest}}
 use Rattle.proof_report.{proofs.Roots.root_alone, specs.ProvedReports.{AreHandedIn, IsLinedReport, IsTrimmedOnce, certificate_cuts}, specs.declared.ending.ProvedReport.ProvedReport}
 

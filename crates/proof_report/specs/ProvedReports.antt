@@ -3,7 +3,7 @@ use Rattle.std.specs.Prelude.{◌≡◌, ◌≢◌, ℕ, ◌≤◌, ◌++◌, Li
 use Rattle.plan_terms.specs.Terms.{Case, CutLine, Notes}
 use Rattle.plan_report.specs.Terms.{Certificate, Plan}
 use Rattle.report_comments.specs.Comments.{comment_line}
-use Rattle.plan_reports.{specs.Terms.{IsTranscript, PlannedReport, IsAcceptable, IsSeparationOf, plan_commands, whole_report, Block}, specs.TrimmedReports.IsTrimmedReport}
+use Rattle.plan_reports.{specs.Terms.{IsTranscript, IsAcceptable, IsSeparationOf, plan_commands, whole_report, Block}, specs.declared.planned_report.PlannedReport.PlannedReport, specs.TrimmedReports.IsTrimmedReport}
 use Rattle.tree_search.{specs.Terms.Proof, specs.Proving.{IsProofOf, ShowsBound, ShowsCheapest}}
 use Rattle.tree_lines.specs.TreeLines.{proof_lines}
 use Rattle.proof_report.{specs.declared.ending.ProofEnding.ProofEnding, specs.declared.ending.ProvedReport.ProvedReport}
