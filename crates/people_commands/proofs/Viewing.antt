@@ -4,7 +4,7 @@ use Rattle.plan_terms.specs.Terms.{Case, Notes}
 use Rattle.plan_report.specs.Terms.{Outcome, Planned, Unsurvivable}
 use Rattle.outside_io.{specs.declared.status.Status.Status, specs.declared.status.Status.TheVariants.{BadWords, ReadFault}}
 use Rattle.people_files.{specs.Endings.{FailsReading, Halts, HasCauseForPeople, halt_status}, specs.declared.stop.Halt.Halt}
-use Rattle.people_views.{specs.ProofLines.{FailsAtLines, FailsAtOutcomeLines}, specs.Terms.{IsFormOf, ViewForm, EndsReport, LacksState, NamesState, PicturesState}}
+use Rattle.people_views.{specs.ProofLines.{FailsAtLines, FailsAtOutcomeLines}, specs.Terms.{IsFormOf, EndsReport, LacksState, NamesState, PicturesState}, specs.declared.form.ViewForm.ViewForm}
 use Rattle.people_words.specs.PeopleCommands.{AskedForm}
 use Rattle.people_commands.specs.Endings.{AsksForm, LacksForm}
 use Rattle.people_files.specs.declared.stop.Halt.TheVariants as halt

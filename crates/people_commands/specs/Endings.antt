@@ -7,7 +7,7 @@ use Rattle.failure_texts.{specs.FailureTexts.IsFailureList, specs.Fates.with_sta
 use Rattle.input_files.specs.Inputs.{Fetched, SpellsNetwork, input_limit, report_limit}
 use Rattle.people_words.specs.PeopleCommands.{AskedForm, AskedPlan, PeopleCommand, Help, HelpOn, Version, Failures, View, Plan, IsPeopleCommand}
 use Rattle.people_files.{specs.CaseInputs.{CaseWords, EndsAfterCase}, specs.Messages.{FailsAtFetch, FailsAtFile, ShowsNetworkFault}}
-use Rattle.people_views.specs.Terms.{ViewForm, Tables, Values, EndsReport, LacksState, NamesState, PicturesState}
+use Rattle.people_views.{specs.declared.form.ViewForm.ViewForm, specs.declared.form.ViewForm.TheVariants.{Tables, Values}, specs.Terms.{EndsReport, LacksState, NamesState, PicturesState}}
 use Rattle.people_plans.specs.PlansForPeople.{EndsPlanForPeople}
 use Rattle.people_commands.specs.HelpTexts.{help_text, topic_help}
 use Rattle.outside_io.specs.declared.shelf.Fetch.TheVariants as fetch
